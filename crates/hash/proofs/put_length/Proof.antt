@@ -1,0 +1,38 @@
+-- `hash::put_length` meets its contract.
+-- Assumes nothing.
+use Rattle.hash.proofs.Laws.{stored}
+use borrow.Author.Needs.{needs}
+use Rattle.hash.proofs.put_length.Statement.{statement}
+use Rattle.hash.proofs.put_length.Tie as tie
+
+returns : tie.Need-returns
+returns c = stored (c .args .t) (c .args .e) (c .args .bits)
+
+pub put-length-spec : {M : Type 1} → statement M
+put-length-spec =
+    tie.close
+    (tie.spec
+    (λ c. search needs)
+    (λ c. search needs)
+    (λ c. search needs)
+    (λ c. search needs)
+    (λ c. search needs)
+    (λ c. search needs)
+    (λ c. search needs)
+    (λ c. search needs)
+    (λ c. search needs)
+    (λ c. search needs)
+    (λ c. search needs)
+    (λ c. search needs)
+    (λ c. search needs)
+    (λ c. search needs)
+    (λ c. search needs)
+    (λ c. search needs)
+    (λ c. search needs)
+    (λ c. search needs)
+    (λ c. search needs)
+    (λ c. search needs)
+    (λ c. search needs)
+    (λ c. search needs)
+    (λ c. search needs)
+    returns)
