@@ -1,4 +1,4 @@
-// SHA-256 (FIPS 180-4).
+// SHA-256 (FIPS 180-4) of a slice of bytes. The names are the standard's, and `specs/Sha256.antt` has its definitions.
 ghost use mathlib.Core.Path.{_≡_};
 ghost use Prim.Native.Nat.{ℕ, _+_, _-_, _*_, _/_, _<_, _≤_};
 ghost use mathlib.Core.List.{List, _∷_, _++_};
@@ -8,6 +8,7 @@ ghost use Rattle.hash.specs.Sha256 as S;
 ghost use Rattle.hash.specs.Done.{Done};
 ghost use Rattle.hash.specs.Words.{words};
 
+// The constants of the rounds (4.2.2).
 const K: [u32; 64] = [
     0x428a_2f98,
     0x7137_4491,
@@ -75,7 +76,7 @@ const K: [u32; 64] = [
     0xc671_78f2,
 ];
 
-// The working variables, and a hash value.
+// A hash value H0 to H7, or the working variables a to h.
 pub struct State {
     pub a: u32,
     pub b: u32,
@@ -87,7 +88,7 @@ pub struct State {
     pub h: u32,
 }
 
-// The initial hash value.
+// The initial hash value (5.3.3).
 pub fn initial() -> State
     ensures { λ r. ⌜ words r ≡ S.H0 ⌝ }
 {
@@ -103,6 +104,7 @@ pub fn initial() -> State
     }
 }
 
+// The word x rotated to the right by n bits.
 fn rotr(x: u32, n: u32) -> u32
     requires { ⌜ (0 < n) × (n < 32) ⌝ }
     ensures { λ r. ⌜ r ≡ S.ROTR n x ⌝ }
@@ -110,48 +112,56 @@ fn rotr(x: u32, n: u32) -> u32
     (x >> n) | (x << (32 - n))
 }
 
+// Ch, in three operations where the standard writes four.
 fn ch(x: u32, y: u32, z: u32) -> u32
     ensures { λ r. ⌜ r ≡ S.Ch x y z ⌝ }
 {
     z ^ (x & (y ^ z))
 }
 
+// Maj, as the standard writes it.
 fn maj(x: u32, y: u32, z: u32) -> u32
     ensures { λ r. ⌜ r ≡ S.Maj x y z ⌝ }
 {
     (x & y) ^ (x & z) ^ (y & z)
 }
 
+// Σ0, by rotations of rotations: 2, 2 + 11 and 2 + 11 + 9 are the standard's 2, 13 and 22.
 fn big_sigma0(x: u32) -> u32
     ensures { λ r. ⌜ r ≡ S.Σ0 x ⌝ }
 {
     rotr(x ^ rotr(x ^ rotr(x, 9), 11), 2)
 }
 
+// Σ1, as the standard writes it.
 fn big_sigma1(x: u32) -> u32
     ensures { λ r. ⌜ r ≡ S.Σ1 x ⌝ }
 {
     rotr(x, 6) ^ rotr(x, 11) ^ rotr(x, 25)
 }
 
+// σ0, as the standard writes it.
 fn small_sigma0(x: u32) -> u32
     ensures { λ r. ⌜ r ≡ S.σ0 x ⌝ }
 {
     rotr(x, 7) ^ rotr(x, 18) ^ (x >> 3)
 }
 
+// σ1, as the standard writes it.
 fn small_sigma1(x: u32) -> u32
     ensures { λ r. ⌜ r ≡ S.σ1 x ⌝ }
 {
     rotr(x, 17) ^ rotr(x, 19) ^ (x >> 10)
 }
 
+// The sum modulo 2^32, which wraps on purpose.
 fn add(x: u32, y: u32) -> u32
     ensures { λ r. ⌜ r ≡ S.add32 x y ⌝ }
 {
     std::num::wrapping_add_u32(x, y)
 }
 
+// A byte as a word.
 fn wide(x: u8) -> u32
     ensures { λ r. ⌜ (r ≡ x) × (r < 256) ⌝ }
 {
@@ -159,15 +169,18 @@ fn wide(x: u8) -> u32
 }
 
 // Word t of a block.
-fn load(b: &[u8], t: usize) -> u32
-    requires { ⌜ (t < 16) × (length (now b) ≡ 64) ⌝ }
-    ensures { λ r. ⌜ r ≡ S.M (now (b .entry)) t ⌝ }
+fn load(block: &[u8], t: usize) -> u32
+    requires { ⌜ (t < 16) × (length (now block) ≡ 64) ⌝ }
+    ensures { λ r. ⌜ r ≡ S.M (now (block .entry)) t ⌝ }
 {
     let i = 4 * t;
-    wide(b[i]) * 16777216 + wide(b[i + 1]) * 65536 + wide(b[i + 2]) * 256 + wide(b[i + 3])
+    wide(block[i]) * 16777216
+        + wide(block[i + 1]) * 65536
+        + wide(block[i + 2]) * 256
+        + wide(block[i + 3])
 }
 
-// Word t of the schedule, of the words before it.
+// Word t of the schedule, made of the words before it.
 fn next_word(w: &[u32; 64], t: usize) -> u32
     requires { ⌜ (16 ≤ t) × (t < 64) ⌝ }
     ensures { λ r. ⌜ r ≡ S.next (now (w .entry)) t ⌝ }
@@ -181,18 +194,21 @@ fn next_word(w: &[u32; 64], t: usize) -> u32
     )
 }
 
+// T1 of a round.
 fn temp1(e: u32, f: u32, g: u32, h: u32, k: u32, w: u32) -> u32
     ensures { λ r. ⌜ r ≡ S.T1 e f g h k w ⌝ }
 {
     add(add(add(add(h, big_sigma1(e)), ch(e, f, g)), k), w)
 }
 
+// T2 of a round.
 fn temp2(a: u32, b: u32, c: u32) -> u32
     ensures { λ r. ⌜ r ≡ S.T2 a b c ⌝ }
 {
     add(big_sigma0(a), maj(a, b, c))
 }
 
+// One round on the working variables, at the constant k and the word w.
 fn round(s: State, k: u32, w: u32) -> State
     ensures { λ r. ⌜ words r ≡ S.round k w (words s) ⌝ }
 {
@@ -210,160 +226,172 @@ fn round(s: State, k: u32, w: u32) -> State
     }
 }
 
-// Round t and word t of the schedule, the word that of the block.
-fn first(s: State, w: &mut [u32; 64], k: &[u32; 64], b: &[u8], t: usize) -> State
-    requires { ⌜ (t < 16) × (length (now b) ≡ 64) × (now k ≡ S.K) ⌝ }
-    ensures { λ r. ⌜ ((h : List ℕ) → Done (now (b .entry)) h t (now (w .entry)) (words s) → Done (now (b .entry)) h (t + 1) (now (w .exit)) (words r)) ⌝ }
+// Round t for t below 16: stores word t of the block in the schedule and uses it.
+fn first_step(s: State, w: &mut [u32; 64], k: &[u32; 64], block: &[u8], t: usize) -> State
+    requires { ⌜ (t < 16) × (length (now block) ≡ 64) × (now k ≡ S.K) ⌝ }
+    ensures { λ r. ⌜ ((h : List ℕ) → Done (now (block .entry)) h t (now (w .entry)) (words s) → Done (now (block .entry)) h (t + 1) (now (w .exit)) (words r)) ⌝ }
 {
-    let x = load(b, t);
+    let x = load(block, t);
     w[t] = x;
     round(s, k[t], x)
 }
 
-// Round t and word t of the schedule, the word made of those before it.
-fn step(s: State, w: &mut [u32; 64], k: &[u32; 64], t: usize) -> State
+// Round t for t from 16 on: stores the word made of those before it in the schedule and uses it.
+fn later_step(s: State, w: &mut [u32; 64], k: &[u32; 64], t: usize) -> State
     requires { ⌜ (16 ≤ t) × (t < 64) × (now k ≡ S.K) ⌝ }
-    ensures { λ r. ⌜ ((b h : List ℕ) → Done b h t (now (w .entry)) (words s) → Done b h (t + 1) (now (w .exit)) (words r)) ⌝ }
+    ensures { λ r. ⌜ ((block h : List ℕ) → Done block h t (now (w .entry)) (words s) → Done block h (t + 1) (now (w .exit)) (words r)) ⌝ }
 {
     let x = next_word(w, t);
     w[t] = x;
     round(s, k[t], x)
 }
 
-// The first 16 rounds, eight in a turn.
-fn begin(h: State, w: &mut [u32; 64], k: &[u32; 64], b: &[u8]) -> State
-    requires { ⌜ (length (now w) ≡ 64) × (length (now b) ≡ 64) × (now k ≡ S.K) ⌝ }
-    ensures { λ r. ⌜ Done (now (b .entry)) (words h) 16 (now (w .exit)) (words r) ⌝ }
+// The rounds 0 to 15 over a block, eight in a turn, from the hash value before it.
+fn first_rounds(hash: State, w: &mut [u32; 64], k: &[u32; 64], block: &[u8]) -> State
+    requires { ⌜ (length (now w) ≡ 64) × (length (now block) ≡ 64) × (now k ≡ S.K) ⌝ }
+    ensures { λ r. ⌜ Done (now (block .entry)) (words hash) 16 (now (w .exit)) (words r) ⌝ }
 {
-    let mut s = h;
+    let mut s = hash;
     let mut t = 0;
     while t < 16 {
-        s = first(s, w, k, b, t);
+        s = first_step(s, w, k, block, t);
         t += 1;
-        s = first(s, w, k, b, t);
+        s = first_step(s, w, k, block, t);
         t += 1;
-        s = first(s, w, k, b, t);
+        s = first_step(s, w, k, block, t);
         t += 1;
-        s = first(s, w, k, b, t);
+        s = first_step(s, w, k, block, t);
         t += 1;
-        s = first(s, w, k, b, t);
+        s = first_step(s, w, k, block, t);
         t += 1;
-        s = first(s, w, k, b, t);
+        s = first_step(s, w, k, block, t);
         t += 1;
-        s = first(s, w, k, b, t);
+        s = first_step(s, w, k, block, t);
         t += 1;
-        s = first(s, w, k, b, t);
+        s = first_step(s, w, k, block, t);
         t += 1;
     }
     s
 }
 
-// The other rounds.
-fn rest(h: State, w: &mut [u32; 64], k: &[u32; 64]) -> State
+// The rounds 16 to 63, eight in a turn, from the working variables after round 15.
+fn later_rounds(begun: State, w: &mut [u32; 64], k: &[u32; 64]) -> State
     requires { ⌜ now k ≡ S.K ⌝ }
-    ensures { λ r. ⌜ ((b i : List ℕ) → Done b i 16 (now (w .entry)) (words h) → Done b i 64 (now (w .exit)) (words r)) ⌝ }
+    ensures { λ r. ⌜ ((block h : List ℕ) → Done block h 16 (now (w .entry)) (words begun) → Done block h 64 (now (w .exit)) (words r)) ⌝ }
 {
-    let mut s = h;
+    let mut s = begun;
     let mut t = 16;
     while t < 64 {
-        s = step(s, w, k, t);
+        s = later_step(s, w, k, t);
         t += 1;
-        s = step(s, w, k, t);
+        s = later_step(s, w, k, t);
         t += 1;
-        s = step(s, w, k, t);
+        s = later_step(s, w, k, t);
         t += 1;
-        s = step(s, w, k, t);
+        s = later_step(s, w, k, t);
         t += 1;
-        s = step(s, w, k, t);
+        s = later_step(s, w, k, t);
         t += 1;
-        s = step(s, w, k, t);
+        s = later_step(s, w, k, t);
         t += 1;
-        s = step(s, w, k, t);
+        s = later_step(s, w, k, t);
         t += 1;
-        s = step(s, w, k, t);
+        s = later_step(s, w, k, t);
         t += 1;
     }
     s
 }
 
-fn sum8(h: State, s: State) -> State
-    ensures { λ r. ⌜ words r ≡ S.sum8 (words h) (words s) ⌝ }
+// The sums of the words of two states.
+fn sum8(hash: State, s: State) -> State
+    ensures { λ r. ⌜ words r ≡ S.sum8 (words hash) (words s) ⌝ }
 {
     State {
-        a: add(h.a, s.a),
-        b: add(h.b, s.b),
-        c: add(h.c, s.c),
-        d: add(h.d, s.d),
-        e: add(h.e, s.e),
-        f: add(h.f, s.f),
-        g: add(h.g, s.g),
-        h: add(h.h, s.h),
+        a: add(hash.a, s.a),
+        b: add(hash.b, s.b),
+        c: add(hash.c, s.c),
+        d: add(hash.d, s.d),
+        e: add(hash.e, s.e),
+        f: add(hash.f, s.f),
+        g: add(hash.g, s.g),
+        h: add(hash.h, s.h),
     }
 }
 
-pub fn compress(h: State, b: &[u8]) -> State
-    requires { ⌜ length (now b) ≡ 64 ⌝ }
-    ensures { λ r. ⌜ words r ≡ S.compress (words h) (now (b .entry)) ⌝ }
+// The hash value after one block of 64 bytes (6.2.2).
+pub fn compress(hash: State, block: &[u8]) -> State
+    requires { ⌜ length (now block) ≡ 64 ⌝ }
+    ensures { λ r. ⌜ words r ≡ S.compress (words hash) (now (block .entry)) ⌝ }
 {
     let k = &K;
     let mut w = [0u32; 64];
-    let s = rest(begin(h, &mut w, k, b), &mut w, k);
-    sum8(h, s)
+    let s = later_rounds(first_rounds(hash, &mut w, k, block), &mut w, k);
+    sum8(hash, s)
 }
 
-// The hash value h after the whole blocks of m.
-pub fn blocks(h: State, m: &[u8]) -> State
-    ensures { λ r. ⌜ words r ≡ S.blocks (words h) (now (m .entry)) (length (now (m .entry)) / 64) ⌝ }
+// The hash value after the whole blocks of some bytes. The bytes after the last whole block are not read.
+pub fn blocks(hash: State, bytes: &[u8]) -> State
+    ensures { λ r. ⌜ words r ≡ S.blocks (words hash) (now (bytes .entry)) (length (now (bytes .entry)) / 64) ⌝ }
 {
-    let n = m.len() / 64;
-    let mut s = h;
+    let n = bytes.len() / 64;
+    let mut s = hash;
     let mut i = 0;
     while i < n {
-        let a = 64 * i;
-        let e = a + 64;
-        s = compress(s, &m[a..e]);
+        let start = 64 * i;
+        let end = start + 64;
+        s = compress(s, &bytes[start..end]);
         i += 1;
     }
     s
 }
 
-// The last bytes of a message and the byte 0x80, with zeros after them.
-pub fn tail(part: &[u8]) -> [u8; 128]
-    requires { ⌜ length (now part) < 64 ⌝ }
-    ensures { λ r. ⌜ r ≡ now (part .entry) ++ (0x80 ∷ replicate (127 - length (now (part .entry))) 0) ⌝ }
+// The bytes of a message after its last whole block, then the byte 0x80, then zeros.
+pub fn tail(rest: &[u8]) -> [u8; 128]
+    requires { ⌜ length (now rest) < 64 ⌝ }
+    ensures { λ r. ⌜ r ≡ now (rest .entry) ++ (0x80 ∷ replicate (127 - length (now (rest .entry))) 0) ⌝ }
 {
-    let mut b = [0u8; 128];
-    let n = part.len();
+    let mut last = [0u8; 128];
+    let n = rest.len();
     let mut i = 0;
     while i < n {
-        b[i] = part[i];
+        last[i] = rest[i];
         i += 1;
     }
-    b[n] = 0x80;
+    last[n] = 0x80;
+    last
+}
+
+// The bytes `last` with the eight bytes of `bits` at `at`, the most significant first.
+pub fn put_length(last: [u8; 128], at: usize, bits: u64) -> [u8; 128]
+    requires { ⌜ at ≤ 120 ⌝ }
+    ensures { λ r. ⌜ r ≡ sets last at (S.bytes64 bits) ⌝ }
+{
+    let mut b = last;
+    b[at] = (bits / 72057594037927936 % 256) as u8;
+    b[at + 1] = (bits / 281474976710656 % 256) as u8;
+    b[at + 2] = (bits / 1099511627776 % 256) as u8;
+    b[at + 3] = (bits / 4294967296 % 256) as u8;
+    b[at + 4] = (bits / 16777216 % 256) as u8;
+    b[at + 5] = (bits / 65536 % 256) as u8;
+    b[at + 6] = (bits / 256 % 256) as u8;
+    b[at + 7] = (bits % 256) as u8;
     b
 }
 
-// The eight bytes of `bits` at `e`.
-pub fn put_length(t: [u8; 128], e: usize, bits: u64) -> [u8; 128]
-    requires { ⌜ e ≤ 120 ⌝ }
-    ensures { λ r. ⌜ r ≡ sets t e (S.bytes64 bits) ⌝ }
+// The bytes of a hash value, the most significant of each word first.
+pub fn digest(hash: State) -> [u8; 32]
+    ensures { λ r. ⌜ r ≡ S.digest (words hash) 8 ⌝ }
 {
-    let mut b = t;
-    b[e] = (bits / 72057594037927936 % 256) as u8;
-    b[e + 1] = (bits / 281474976710656 % 256) as u8;
-    b[e + 2] = (bits / 1099511627776 % 256) as u8;
-    b[e + 3] = (bits / 4294967296 % 256) as u8;
-    b[e + 4] = (bits / 16777216 % 256) as u8;
-    b[e + 5] = (bits / 65536 % 256) as u8;
-    b[e + 6] = (bits / 256 % 256) as u8;
-    b[e + 7] = (bits % 256) as u8;
-    b
-}
-
-pub fn digest(s: State) -> [u8; 32]
-    ensures { λ r. ⌜ r ≡ S.digest (words s) 8 ⌝ }
-{
-    let h = [s.a, s.b, s.c, s.d, s.e, s.f, s.g, s.h];
+    let h = [
+        hash.a,
+        hash.b,
+        hash.c,
+        hash.d,
+        hash.e,
+        hash.f,
+        hash.g,
+        hash.h,
+    ];
     let mut d = [0u8; 32];
     let mut i = 0;
     while i < 8 {
@@ -378,16 +406,16 @@ pub fn digest(s: State) -> [u8; 32]
     d
 }
 
-// The digest of the message m.
-pub fn sha256(m: &[u8]) -> [u8; 32]
-    ensures { λ r. ⌜ r ≡ S.sha256 (now (m .entry)) ⌝ }
+// The digest of a message of any length. Its bit length is taken modulo 2^64.
+pub fn sha256(message: &[u8]) -> [u8; 32]
+    ensures { λ r. ⌜ r ≡ S.sha256 (now (message .entry)) ⌝ }
 {
-    let n = m.len();
+    let n = message.len();
     let bits = (n as u64 % 2305843009213693952) * 8;
-    let r = n % 64;
-    let at = n - r;
-    let end = (r + 72) / 64 * 64;
-    let h = blocks(initial(), m);
-    let t = put_length(tail(&m[at..]), end - 8, bits);
-    digest(blocks(h, &t[..end]))
+    let over = n % 64;
+    let whole = n - over;
+    let end = (over + 72) / 64 * 64;
+    let hash = blocks(initial(), message);
+    let last = put_length(tail(&message[whole..]), end - 8, bits);
+    digest(blocks(hash, &last[..end]))
 }

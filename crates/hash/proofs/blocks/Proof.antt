@@ -16,10 +16,10 @@ width : (i : ℕ) → 64 * i + 64 - 64 * i ≡ 64
 width i = omega arith
 
 abbrev Inv-loop : tie.InvT-loop
-Inv-loop m n s₀ i₀ s i = (i ≤ n) × (words s ≡ blocks (words s₀) m i)
+Inv-loop bytes n s₀ i₀ s i = (i ≤ n) × (words s ≡ blocks (words s₀) bytes i)
 
 abbrev μ-loop : tie.MeasureT-loop
-μ-loop m n s₀ i₀ s i = n - i
+μ-loop bytes n s₀ i₀ s i = n - i
 
 loop-holds : tie.Need-loop-holds Inv-loop μ-loop
 unfolding blocks
@@ -32,7 +32,7 @@ loop-again : tie.Need-loop-again Inv-loop μ-loop
 unfolding blocks
 loop-again c = (omega arith, rw add-one (c .compress .ensures ∙ rw (c .before .before .before .loop .inv .1, width)))
 
-all : (c : tie.After-loop Inv-loop μ-loop) → c .before .loop .i ≡ length (now (c .before .before .before .args .m)) / 64
+all : (c : tie.After-loop Inv-loop μ-loop) → c .before .loop .i ≡ length (now (c .before .before .before .args .bytes)) / 64
 all c = omega arith
 
 returns : tie.Need-returns Inv-loop μ-loop

@@ -13,7 +13,7 @@ returns : tie.Need-returns
 unfolding compress
 returns c =
     c .sum8 .ensures
-    ∙ ap (λ (l : List ℕ). sum8 (words (c .before .before .before .before .before .before .before .args .h)) l) (c .before .rest .ensures _ _ (c .before .before .before .begin .ensures) .state)
+    ∙ ap (λ (l : List ℕ). sum8 (words (c .before .before .before .before .before .before .before .args .hash)) l) (c .before .later-rounds .ensures _ _ (c .before .before .before .first-rounds .ensures) .state)
 
 pub compress-spec : {M : Type 1} → statement M
 unfolding K

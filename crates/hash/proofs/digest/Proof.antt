@@ -25,11 +25,11 @@ loop-again : tie.Need-loop-again Inv-loop μ-loop
 loop-again c = (
   omega arith,
   simp length-set (c .before .loop .inv .1),
-  digested (words (c .before .before .args .s)) (c .before .loop .d) (c .before .loop .i) (omega arith) (c .before .loop .inv .1) (c .before .loop .inv .2),
+  digested (words (c .before .before .args .hash)) (c .before .loop .d) (c .before .loop .i) (omega arith) (c .before .loop .inv .1) (c .before .loop .inv .2),
 )
 
 returns : tie.Need-returns Inv-loop μ-loop
-returns c = filled (digest (words (c .before .before .args .s))) _ (4 * c .before .loop .i) (c .before .loop .i) 8 (omega arith) (omega arith) (c .before .loop .inv .2)
+returns c = filled (digest (words (c .before .before .args .hash))) _ (4 * c .before .loop .i) (c .before .loop .i) 8 (omega arith) (omega arith) (c .before .loop .inv .2)
 
 pub digest-spec : {M : Type 1} → statement M
 digest-spec =

@@ -6,7 +6,7 @@ use Rattle.hash.proofs.put_length.Statement.{statement}
 use Rattle.hash.proofs.put_length.Tie as tie
 
 returns : tie.Need-returns
-returns c = stored (c .args .t) (c .args .e) (c .args .bits)
+returns c = stored (c .args .last) (c .args .at) (c .args .bits)
 
 pub put-length-spec : {M : Type 1} → statement M
 put-length-spec =

@@ -20,7 +20,7 @@ slice-aggregate-blocks c = simp length-take (omega arith)
 returns : tie.Need-returns
 unfolding sha256 H0
 returns c =
-    let m : List ℕ = now (c .before .before .before .before .before .before .before .before .before .args .m) in
+    let m : List ℕ = now (c .before .before .before .before .before .before .before .before .before .args .message) in
     let at : ℕ = length m - length m % 64 in
     let end : ℕ = (length m % 64 + 72) / 64 * 64 in
     let bits : ℕ = length m % 2 ^ 61 * 8 in

@@ -12,19 +12,19 @@ use Rattle.hash.proofs.tail.Statement.{statement}
 use Rattle.hash.proofs.tail.Tie as tie
 
 abbrev Inv-loop : tie.InvT-loop
-Inv-loop part b₀ n i₀ b i = (i ≤ n) × (b ≡ take i part ++ replicate (128 - i) 0)
+Inv-loop rest last₀ n i₀ last i = (i ≤ n) × (last ≡ take i rest ++ replicate (128 - i) 0)
 
 abbrev μ-loop : tie.MeasureT-loop
-μ-loop part b₀ n i₀ b i = n - i
+μ-loop rest last₀ n i₀ last i = n - i
 
 loop-holds : tie.Need-loop-holds Inv-loop μ-loop
 loop-holds c = (omega arith, refl)
 
 loop-again : tie.Need-loop-again Inv-loop μ-loop
-loop-again c = (omega arith, rw (c .before .before .loop .inv .1) (copied (now (c .before .before .before .args .part)) (c .before .before .loop .i) (omega arith) (omega arith)))
+loop-again c = (omega arith, rw (c .before .before .loop .inv .1) (copied (now (c .before .before .before .args .rest)) (c .before .before .loop .i) (omega arith) (omega arith)))
 
 returns : tie.Need-returns Inv-loop μ-loop
-returns c = ended (now (c .before .before .args .part)) _ (c .before .loop .i) (omega arith) (omega arith) (c .before .loop .inv .1)
+returns c = ended (now (c .before .before .args .rest)) _ (c .before .loop .i) (omega arith) (omega arith) (c .before .loop .inv .1)
 
 pub tail-spec : {M : Type 1} → statement M
 tail-spec =

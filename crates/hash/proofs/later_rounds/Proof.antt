@@ -1,4 +1,4 @@
--- `hash::rest` meets its contract. The loop's invariant: t rounds are done.
+-- `hash::later_rounds` meets its contract. The loop's invariant: t rounds are done.
 -- Assumes nothing.
 use mathlib.Core.Path.{_≡_, subst}
 use mathlib.Core.List.{List}
@@ -8,8 +8,8 @@ use denote.Ref.{now}
 use Rattle.hash.specs.Done.{Done}
 use Rattle.hash.specs.Sha256.{K}
 use Rattle.hash.specs.Words.{words}
-use Rattle.hash.proofs.rest.Statement.{statement}
-use Rattle.hash.proofs.rest.Tie as tie
+use Rattle.hash.proofs.later_rounds.Statement.{statement}
+use Rattle.hash.proofs.later_rounds.Tie as tie
 
 abbrev Inv-loop : tie.InvT-loop
 Inv-loop w₀ k s₀ t₀ w s t = (16 ≤ t) × (t ≤ 64) × (t % 8 ≡ 0) × ((b h : List ℕ) → Done b h 16 w₀ (words s₀) → Done b h t w (words s))
@@ -30,14 +30,14 @@ loop-again c = (
   omega (arith, turn (c .before .before .before .before .before .before .before .before .before .before .before .before .before .before .before .before) .1),
   omega (arith, c .before .before .before .before .before .before .before .before .before .before .before .before .before .before .before .before .before .loop .inv .2),
   λ b h d.
-      (c .step8 .ensures b h
-      (c .before .before .step7 .ensures b h
-      (c .before .before .before .before .step6 .ensures b h
-      (c .before .before .before .before .before .before .step5 .ensures b h
-      (c .before .before .before .before .before .before .before .before .step4 .ensures b h
-      (c .before .before .before .before .before .before .before .before .before .before .step3 .ensures b h
-      (c .before .before .before .before .before .before .before .before .before .before .before .before .step2 .ensures b h
-      (c .before .before .before .before .before .before .before .before .before .before .before .before .before .before .step .ensures b h
+      (c .later-step8 .ensures b h
+      (c .before .before .later-step7 .ensures b h
+      (c .before .before .before .before .later-step6 .ensures b h
+      (c .before .before .before .before .before .before .later-step5 .ensures b h
+      (c .before .before .before .before .before .before .before .before .later-step4 .ensures b h
+      (c .before .before .before .before .before .before .before .before .before .before .later-step3 .ensures b h
+      (c .before .before .before .before .before .before .before .before .before .before .before .before .later-step2 .ensures b h
+      (c .before .before .before .before .before .before .before .before .before .before .before .before .before .before .later-step .ensures b h
       (c .before .before .before .before .before .before .before .before .before .before .before .before .before .before .before .before .before .loop .inv .3 b h d))))))))),
 )
 
@@ -47,8 +47,8 @@ all c = omega arith
 returns : tie.Need-returns Inv-loop μ-loop
 returns c b h d = subst (λ (t : ℕ). Done b h t (c .before .loop .w) (words (c .before .loop .s))) (all c) (c .before .loop .inv .3 b h d)
 
-pub rest-spec : {M : Type 1} → statement M
-rest-spec =
+pub later-rounds-spec : {M : Type 1} → statement M
+later-rounds-spec =
     tie.close
     (tie.spec
     Inv-loop
