@@ -1,0 +1,86 @@
+//! The proved SHA-256 against the standard's examples and against RustCrypto's `sha2`.
+use common::Random;
+use hash::{hex, other, proved};
+
+/// The standard's messages, with the digests as NIST prints them.
+#[test]
+fn standard_vectors() {
+    let million = vec![b'a'; 1_000_000];
+    let vectors: [(&[u8], &str); 5] = [
+        (b"", "e3b0c44298fc1c149afbf4c8996fb92427ae41e4649b934ca495991b7852b855"),
+        (b"abc", "ba7816bf8f01cfea414140de5dae2223b00361a396177a9cb410ff61f20015ad"),
+        (
+            b"abcdbcdecdefdefgefghfghighijhijkijkljklmklmnlmnomnopnopq",
+            "248d6a61d20638b8e5c026930c3e6039a33ce45964ff2167f6ecedd419db06c1",
+        ),
+        (
+            b"abcdefghbcdefghicdefghijdefghijkefghijklfghijklmghijklmnhijklmnoijklmnopjklmnopqklmnopqrlmnopqrsmnopqrstnopqrstu",
+            "cf5b16a778af8380036ce59e7b0492370b249b11e8f07a51afac45037afee9d1",
+        ),
+        (&million, "cdc76e5c9914fb9281a1c7e284d73e67f1809a48a497200e046d39ccc7112cd0"),
+    ];
+    for (message, digest) in vectors {
+        assert_eq!(hex(proved(message)), digest, "a message of {} bytes", message.len());
+    }
+    println!("{} messages of the standard have its digests", vectors.len());
+}
+
+/// Every length from 0 to 1,100: each count of whole blocks up to 17 with each rest.
+#[test]
+fn every_length() {
+    let seed = 2;
+    let bytes = Random(seed).bytes(1100);
+    for length in 0..=1100 {
+        assert_eq!(proved(&bytes[..length]), other(&bytes[..length]), "seed {seed}, length {length}");
+    }
+    println!("1,101 messages of 0 to 1,100 bytes agree with RustCrypto's (seed {seed})");
+}
+
+/// The seven block sizes of the cache: one byte repeated, for each byte, and random bytes.
+#[test]
+fn block_sizes() {
+    let seed = 3;
+    let mut random = Random(seed);
+    let sizes = [64, 128, 256, 512, 1024, 2048, 4096];
+    for size in sizes {
+        for byte in 0..=255 {
+            let block = vec![byte; size];
+            assert_eq!(proved(&block), other(&block), "size {size}, byte {byte}");
+        }
+        for turn in 0..100 {
+            let block = random.bytes(size);
+            assert_eq!(proved(&block), other(&block), "seed {seed}, size {size}, turn {turn}");
+        }
+    }
+    println!("{} blocks of 64 to 4,096 bytes agree with RustCrypto's (seed {seed})", sizes.len() * 356);
+}
+
+/// Random messages, which begin at any place of a buffer so that no alignment is special.
+#[test]
+fn random_messages() {
+    let seed = 4;
+    let mut random = Random(seed);
+    let count = 5000;
+    for turn in 0..count {
+        let length = random.below(10_000);
+        let buffer = random.bytes(length + 16);
+        let start = random.below(16);
+        let message = &buffer[start..start + length];
+        assert_eq!(proved(message), other(message), "seed {seed}, turn {turn}, length {length}, start {start}");
+    }
+    println!("{count} random messages below 10,000 bytes agree with RustCrypto's (seed {seed})");
+}
+
+/// A message that differs in one bit has another digest: the comparison tells digests apart.
+#[test]
+fn one_bit() {
+    let seed = 5;
+    let bytes = Random(seed).bytes(200);
+    for bit in 0..1600 {
+        let mut changed = bytes.clone();
+        changed[bit / 8] ^= 1 << (bit % 8);
+        assert_ne!(proved(&changed), other(&bytes), "seed {seed}, bit {bit}");
+        assert_eq!(proved(&changed), other(&changed), "seed {seed}, bit {bit}");
+    }
+    println!("1,600 messages with one bit changed have another digest (seed {seed})");
+}
