@@ -1,4 +1,4 @@
-/* SHA-256 (FIPS 180-4) as one would write it in C, for bench/run to compare with. NAME is set by the compiler's -D. */
+/* SHA-256 (FIPS 180-4) in C, in two shapes, for bench/run to compare with. The compiler's -D sets NAME and, for the second shape, FUSED. */
 #include <stddef.h>
 #include <stdint.h>
 #include <string.h>
@@ -16,16 +16,55 @@ static const uint32_t K[64] = {
 
 static inline uint32_t rotr(uint32_t x, int n) { return x >> n | x << (32 - n); }
 
+static inline uint32_t load(const uint8_t *block, int t)
+{
+    return (uint32_t)block[4 * t] << 24 | (uint32_t)block[4 * t + 1] << 16 | (uint32_t)block[4 * t + 2] << 8 | block[4 * t + 3];
+}
+
+static inline uint32_t next(const uint32_t w[64], int t)
+{
+    uint32_t s0 = rotr(w[t - 15], 7) ^ rotr(w[t - 15], 18) ^ w[t - 15] >> 3;
+    uint32_t s1 = rotr(w[t - 2], 17) ^ rotr(w[t - 2], 19) ^ w[t - 2] >> 10;
+    return s1 + w[t - 7] + s0 + w[t - 16];
+}
+
+#ifdef FUSED
+/* The shape of crates/hash: each word of the schedule is made just before its round, eight rounds in a turn, Ch and Σ0 in their short forms. */
+struct state { uint32_t a, b, c, d, e, f, g, h; };
+
+static inline struct state step(struct state s, uint32_t w[64], int t, uint32_t x)
+{
+    w[t] = x;
+    uint32_t t1 = s.h + (rotr(s.e, 6) ^ rotr(s.e, 11) ^ rotr(s.e, 25)) + (s.g ^ (s.e & (s.f ^ s.g))) + K[t] + x;
+    uint32_t t2 = rotr(s.a ^ rotr(s.a ^ rotr(s.a, 9), 11), 2) + ((s.a & s.b) ^ (s.a & s.c) ^ (s.b & s.c));
+    return (struct state){t1 + t2, s.a, s.b, s.c, s.d + t1, s.e, s.f, s.g};
+}
+
+#define EIGHT(word) \
+    s = step(s, w, t, word(t)), s = step(s, w, t + 1, word(t + 1)), s = step(s, w, t + 2, word(t + 2)), s = step(s, w, t + 3, word(t + 3)), \
+    s = step(s, w, t + 4, word(t + 4)), s = step(s, w, t + 5, word(t + 5)), s = step(s, w, t + 6, word(t + 6)), s = step(s, w, t + 7, word(t + 7))
+#define FIRST(t) load(block, t)
+#define LATER(t) next(w, t)
+
+static void compress(uint32_t hash[8], const uint8_t *block)
+{
+    uint32_t w[64];
+    struct state s = {hash[0], hash[1], hash[2], hash[3], hash[4], hash[5], hash[6], hash[7]};
+    for (int t = 0; t < 16; t += 8)
+        EIGHT(FIRST);
+    for (int t = 16; t < 64; t += 8)
+        EIGHT(LATER);
+    hash[0] += s.a, hash[1] += s.b, hash[2] += s.c, hash[3] += s.d, hash[4] += s.e, hash[5] += s.f, hash[6] += s.g, hash[7] += s.h;
+}
+#else
+/* As the standard is written: the whole schedule, then the rounds. */
 static void compress(uint32_t hash[8], const uint8_t *block)
 {
     uint32_t w[64];
     for (int t = 0; t < 16; t++)
-        w[t] = (uint32_t)block[4 * t] << 24 | (uint32_t)block[4 * t + 1] << 16 | (uint32_t)block[4 * t + 2] << 8 | block[4 * t + 3];
-    for (int t = 16; t < 64; t++) {
-        uint32_t s0 = rotr(w[t - 15], 7) ^ rotr(w[t - 15], 18) ^ w[t - 15] >> 3;
-        uint32_t s1 = rotr(w[t - 2], 17) ^ rotr(w[t - 2], 19) ^ w[t - 2] >> 10;
-        w[t] = s1 + w[t - 7] + s0 + w[t - 16];
-    }
+        w[t] = load(block, t);
+    for (int t = 16; t < 64; t++)
+        w[t] = next(w, t);
     uint32_t a = hash[0], b = hash[1], c = hash[2], d = hash[3], e = hash[4], f = hash[5], g = hash[6], h = hash[7];
     for (int t = 0; t < 64; t++) {
         uint32_t t1 = h + (rotr(e, 6) ^ rotr(e, 11) ^ rotr(e, 25)) + ((e & f) ^ (~e & g)) + K[t] + w[t];
@@ -34,6 +73,7 @@ static void compress(uint32_t hash[8], const uint8_t *block)
     }
     hash[0] += a, hash[1] += b, hash[2] += c, hash[3] += d, hash[4] += e, hash[5] += f, hash[6] += g, hash[7] += h;
 }
+#endif
 
 void NAME(const uint8_t *message, size_t length, uint8_t digest[32])
 {

@@ -7,45 +7,33 @@ extern "C" {
     fn hash_probe_sha256(message: *const u8, length: usize, digest: *mut u8);
     fn sha256_clang(message: *const u8, length: usize, digest: *mut u8);
     fn sha256_gcc(message: *const u8, length: usize, digest: *mut u8);
+    fn sha256_fused_clang(message: *const u8, length: usize, digest: *mut u8);
+    fn sha256_fused_gcc(message: *const u8, length: usize, digest: *mut u8);
     fn SHA256(message: *const u8, length: usize, digest: *mut u8) -> *mut u8;
 }
 
 type Hash = fn(&[u8]) -> [u8; 32];
 
-fn proved(message: &[u8]) -> [u8; 32] {
-    let mut digest = [0; 32];
-    unsafe { hash_probe_sha256(message.as_ptr(), message.len(), digest.as_mut_ptr()) };
-    digest
+/// A digest by one of the functions above, all of which read `message` and write 32 bytes.
+macro_rules! foreign {
+    ($function:ident) => {
+        |message| {
+            let mut digest = [0; 32];
+            unsafe { $function(message.as_ptr(), message.len(), digest.as_mut_ptr()) };
+            digest
+        }
+    };
 }
 
-fn rust_crypto(message: &[u8]) -> [u8; 32] {
-    Sha256::digest(message).into()
-}
-
-fn clang(message: &[u8]) -> [u8; 32] {
-    let mut digest = [0; 32];
-    unsafe { sha256_clang(message.as_ptr(), message.len(), digest.as_mut_ptr()) };
-    digest
-}
-
-fn gcc(message: &[u8]) -> [u8; 32] {
-    let mut digest = [0; 32];
-    unsafe { sha256_gcc(message.as_ptr(), message.len(), digest.as_mut_ptr()) };
-    digest
-}
-
-fn openssl(message: &[u8]) -> [u8; 32] {
-    let mut digest = [0; 32];
-    unsafe { SHA256(message.as_ptr(), message.len(), digest.as_mut_ptr()) };
-    digest
-}
-
-const PEERS: [(&str, Hash); 5] = [
-    ("proved", proved),
-    ("RustCrypto soft", rust_crypto),
-    ("C clang -O3", clang),
-    ("C gcc -O3", gcc),
-    ("OpenSSL", openssl),
+/// The proved code comes first: the others are compared with it.
+const CODES: [(&str, Hash); 7] = [
+    ("proved", foreign!(hash_probe_sha256)),
+    ("RustCrypto soft", |message| Sha256::digest(message).into()),
+    ("C clang", foreign!(sha256_clang)),
+    ("C gcc", foreign!(sha256_gcc)),
+    ("fused C clang", foreign!(sha256_fused_clang)),
+    ("fused C gcc", foreign!(sha256_fused_gcc)),
+    ("OpenSSL", foreign!(SHA256)),
 ];
 
 const SIZES: [usize; 3] = [64, 512, 4096];
@@ -62,46 +50,35 @@ fn time(hash: Hash, message: &[u8]) -> f64 {
     start.elapsed().as_nanos() as f64 / turns as f64
 }
 
+/// A line of the table: the size, then a column for each code.
+fn line(first: &str, columns: impl Iterator<Item = String>) {
+    println!("{first:>6}{}", columns.map(|column| format!("{column:>17}")).collect::<String>());
+}
+
 fn main() {
     let message: Vec<u8> = (0..4096u32).map(|i| (i * 167 + 13) as u8).collect();
     for size in SIZES {
-        for (name, hash) in PEERS {
-            assert_eq!(hash(&message[..size]), proved(&message[..size]), "{name} at {size} bytes");
+        for (name, hash) in CODES {
+            assert_eq!(hash(&message[..size]), CODES[0].1(&message[..size]), "{name} at {size} bytes");
         }
     }
-    let mut best = [[f64::INFINITY; PEERS.len()]; SIZES.len()];
+    let mut best = [[f64::INFINITY; CODES.len()]; SIZES.len()];
     for _ in 0..RUNS {
         for (row, size) in best.iter_mut().zip(SIZES) {
-            for (cell, (_, hash)) in row.iter_mut().zip(PEERS) {
+            for (cell, (_, hash)) in row.iter_mut().zip(CODES) {
                 *cell = cell.min(time(hash, &message[..size]));
             }
         }
     }
-    println!("Best of {RUNS} interleaved runs; each run hashes {BYTES_A_RUN} bytes of each size with each code.");
-    println!("\nNanoseconds of one digest (and megabytes a second):");
-    print!("{:>6}", "bytes");
-    for (name, _) in PEERS {
-        print!("{name:>20}");
-    }
-    println!();
+    println!("Best of {RUNS} interleaved runs; in each run each code hashes {BYTES_A_RUN} bytes in messages of each size.");
+    println!("\nNanoseconds of one digest (megabytes a second):");
+    line("bytes", CODES.iter().map(|(name, _)| name.to_string()));
     for (row, size) in best.iter().zip(SIZES) {
-        print!("{size:>6}");
-        for ns in row {
-            print!("{:>20}", format!("{ns:.0} ({:.0})", size as f64 * 1000.0 / ns));
-        }
-        println!();
+        line(&size.to_string(), row.iter().map(|ns| format!("{ns:.0} ({:.0})", size as f64 * 1000.0 / ns)));
     }
     println!("\nSpeed of the proved code over that of the other (above 1: the proved code is faster):");
-    print!("{:>6}", "bytes");
-    for (name, _) in &PEERS[1..] {
-        print!("{name:>20}");
-    }
-    println!();
+    line("bytes", CODES[1..].iter().map(|(name, _)| name.to_string()));
     for (row, size) in best.iter().zip(SIZES) {
-        print!("{size:>6}");
-        for ns in &row[1..] {
-            print!("{:>20.2}", ns / row[0]);
-        }
-        println!();
+        line(&size.to_string(), row[1..].iter().map(|ns| format!("{:.2}", ns / row[0])));
     }
 }
