@@ -1,11 +1,11 @@
 -- Laws on bits: `Ch` in three operations, and `Σ0` as one rotation in another.
 -- Assumes nothing.
 use mathlib.Core.Path.{_≡_, refl, sym, ap, _∙_, subst}
-use native.Mathlib.Nat.{pow-suc, add-comm, add-assoc, add-mul, mul-comm, mul-assoc, mul-add-mod-self-right, add-mul-div-right, div-div-eq-div-mul}
+use native.Mathlib.Nat.{pow-suc, add-comm, add-assoc, add-mul, mul-comm, mul-assoc, mul-add-mod-self-right, add-mul-div-right, div-div-eq-div-mul, mod-lt, add-zero, mul-mod-left, mul-div-cancel, div-lt-iff-lt-mul}
 use lib.Pow.{pow-add, pow-pos}
 use Prim.Native.Nat.{ℕ, zero, suc, _+_, _-_, _*_, _/_, _%_, _^_, _<_}
 use native.Mathlib.Omega.{arith}
-use lib.Arith.{bin-ind, mod-mul}
+use lib.Arith.{bin-ind, mod-mul, digits-lt}
 use lib.Bits.{bitAnd, bitOr, bitXor, and-shr, and-mod, xor-shr, xor-mod, xor-block, xor-lt, or-shifted-r}
 use Rattle.hash.specs.Sha256.{ROTR, Σ0}
 
@@ -69,10 +69,6 @@ xor-assoc =
 unfoldable R : ℕ → ℕ → ℕ → ℕ
 R n k x = x % 2 ^ n * 2 ^ k + x / 2 ^ n
 
-R-is : (n k x : ℕ) → x * 2 ^ k % 2 ^ 32 ≡ x % 2 ^ n * 2 ^ k → x / 2 ^ n < 2 ^ k → bitOr (x / 2 ^ n) (x * 2 ^ k % 2 ^ 32) ≡ R n k x
-unfolding R
-R-is n k x e l = rw e (or-shifted-r (x % 2 ^ n) k (x / 2 ^ n) l)
-
 R-xor : (n k x y : ℕ) → x / 2 ^ n < 2 ^ k → y / 2 ^ n < 2 ^ k → R n k (bitXor x y) ≡ bitXor (R n k x) (R n k y)
 unfolding R
 R-xor n k x y p q = rw (xor-mod x y n, xor-shr x y n) (sym (xor-block k (x % 2 ^ n) (y % 2 ^ n) (x / 2 ^ n) (y / 2 ^ n) p q))
@@ -97,52 +93,44 @@ R-R : (a b c x : ℕ) → R a (b + c) (R b (a + c) x) ≡ R (a + b) c x
 unfolding R
 R-R a b c x = rw (pow-add 2 b c, pow-add 2 a c, pow-add 2 a b) (twice (2 ^ a) (2 ^ b) (2 ^ c) x (pow-pos a) (pow-pos b))
 
-r2 : (x : ℕ) → x < 2 ^ 32 → ROTR 2 x ≡ R 2 30 x
-r2 x h = R-is 2 30 x (omega arith) (omega arith)
+-- the standard's rotation of a 32-bit word is R, and stays a word
+below : (n k x : ℕ) → n + k ≡ 32 → x < 2 ^ 32 → x / 2 ^ n < 2 ^ k
+below n k x e h =
+    div-lt-iff-lt-mul (pow-pos n) .1 (subst (λ (m : ℕ). x < m) (ap (λ (m : ℕ). 2 ^ m) (sym e) ∙ pow-add 2 n k ∙ mul-comm (2 ^ n) (2 ^ k)) h)
 
-r9 : (x : ℕ) → x < 2 ^ 32 → ROTR 9 x ≡ R 9 23 x
-r9 x h = R-is 9 23 x (omega arith) (omega arith)
+shifted : (a b x : ℕ) → 0 < a → 0 < b → x * b % (a * b) ≡ x % a * b
+shifted a b x p q = rw (mod-mul (x * b) p q, mul-div-cancel x q, mul-mod-left x b) (add-zero (x % a * b))
 
-r11 : (x : ℕ) → x < 2 ^ 32 → ROTR 11 x ≡ R 11 21 x
-r11 x h = R-is 11 21 x (omega arith) (omega arith)
-
-r13 : (x : ℕ) → x < 2 ^ 32 → ROTR 13 x ≡ R 13 19 x
-r13 x h = R-is 13 19 x (omega arith) (omega arith)
-
-r22 : (x : ℕ) → x < 2 ^ 32 → ROTR 22 x ≡ R 22 10 x
-r22 x h = R-is 22 10 x (omega arith) (omega arith)
-
-r9-lt : (x : ℕ) → x < 2 ^ 32 → R 9 23 x < 2 ^ 32
+ROTR-is : (n k x : ℕ) → n + k ≡ 32 → x < 2 ^ 32 → bitOr (x / 2 ^ n) (x * 2 ^ k % 2 ^ 32) ≡ R n k x
 unfolding R
-r9-lt x h = omega arith
+ROTR-is n k x e h =
+    let m : x * 2 ^ k % 2 ^ 32 ≡ x % 2 ^ n * 2 ^ k =
+    ap (λ (m : ℕ). x * 2 ^ k % m) (ap (λ (m : ℕ). 2 ^ m) (sym e) ∙ pow-add 2 n k) ∙ shifted (2 ^ n) (2 ^ k) x (pow-pos n) (pow-pos k) in
+    rw m (or-shifted-r (x % 2 ^ n) k (x / 2 ^ n) (below n k x e h))
 
-r11-lt : (x : ℕ) → x < 2 ^ 32 → R 11 21 x < 2 ^ 32
+R-lt : (n k x : ℕ) → n + k ≡ 32 → x < 2 ^ 32 → R n k x < 2 ^ 32
 unfolding R
-r11-lt x h = omega arith
-
-r20-lt : (x : ℕ) → x < 2 ^ 32 → R 20 12 x < 2 ^ 32
-unfolding R
-r20-lt x h = omega arith
+R-lt n k x e h = subst (λ (m : ℕ). R n k x < m) (sym (pow-add 2 n k) ∙ ap (λ (m : ℕ). 2 ^ m) e) (digits-lt (mod-lt x (pow-pos n)) (below n k x e h))
 
 pub sigma0-short : (x : ℕ) → x < 2 ^ 32 → ROTR 2 (bitXor x (ROTR 11 (bitXor x (ROTR 9 x)))) ≡ Σ0 x
 unfolding Σ0
 sigma0-short x h =
     let y : ℕ = R 9 23 x in
-    let hy : y < 2 ^ 32 = r9-lt x h in
+    let hy : y < 2 ^ 32 = R-lt 9 23 x refl h in
     let u : ℕ = R 11 21 x in
-    let hu : u < 2 ^ 32 = r11-lt x h in
+    let hu : u < 2 ^ 32 = R-lt 11 21 x refl h in
     let v : ℕ = R 20 12 x in
-    let hv : v < 2 ^ 32 = r20-lt x h in
+    let hv : v < 2 ^ 32 = R-lt 20 12 x refl h in
     let inner : ROTR 11 (bitXor x (ROTR 9 x)) ≡ bitXor u v =
-    rw (r9 x h, r11 (bitXor x y) (xor-lt 32 x y h hy), R-xor 11 21 x y (omega arith) (omega arith), R-R 11 9 12 x) in
+    rw (ROTR-is 9 23 x refl h, ROTR-is 11 21 (bitXor x y) refl (xor-lt 32 x y h hy), R-xor 11 21 x y (omega arith) (omega arith), R-R 11 9 12 x) in
     rw (
       inner,
-      r2 (bitXor x (bitXor u v)) (xor-lt 32 x (bitXor u v) h (xor-lt 32 u v hu hv)),
+      ROTR-is 2 30 (bitXor x (bitXor u v)) refl (xor-lt 32 x (bitXor u v) h (xor-lt 32 u v hu hv)),
       R-xor 2 30 x (bitXor u v) (omega arith) (omega (arith, xor-lt 32 u v hu hv)),
       R-xor 2 30 u v (omega arith) (omega arith),
       R-R 2 11 19 x,
       R-R 2 20 10 x,
-      r2 x h,
-      r13 x h,
-      r22 x h,
+      ROTR-is 2 30 x refl h,
+      ROTR-is 13 19 x refl h,
+      ROTR-is 22 10 x refl h,
     ) (sym (xor-assoc (R 2 30 x) (R 13 19 x) (R 22 10 x)))

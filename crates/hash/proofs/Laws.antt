@@ -171,10 +171,6 @@ tail-padded s end bits h k =
       append-assoc,
     )
 
-pub length-padded : (s : List ℕ) (z bits : ℕ) → length (padded s z bits) ≡ length s + z + 9
-unfolding padded
-length-padded s z bits = simp (length-append, length-replicate, length-bytes64) (omega arith)
-
 -- the blocks of a padded message are those of the message and then those of its padded last bytes
 pub message : (h m t : List ℕ) (at end bits : ℕ) → at ≡ length m - length m % 64 → end ≡ (length m % 64 + 72) / 64 * 64 → bits ≡ length m % 2 ^ 61 * 8
     → t ≡ padded (drop at m) (end - 9 - length (drop at m)) bits

@@ -1,12 +1,11 @@
 -- `hash::tail` meets its contract. The loop's invariant: i bytes are copied, and the rest is zero.
 -- Assumes nothing.
-use mathlib.Core.Path.{_≡_, refl, _∙_}
+use mathlib.Core.Path.{_≡_, refl}
 use mathlib.Core.List.{_++_}
 use Prim.Native.Nat.{_≤_, _-_}
 use native.Mathlib.Omega.{arith}
-use borrow.Author.Needs.{needs}
 use denote.Ref.{now}
-use lib.ListN.{length, take, replicate}
+use lib.ListN.{take, replicate}
 use Rattle.hash.proofs.Laws.{copied, ended}
 use Rattle.hash.proofs.tail.Statement.{statement}
 use Rattle.hash.proofs.tail.Tie as tie
