@@ -1,6 +1,5 @@
 //! Times the proved SHA-256 beside four others in one run, interleaved, and prints the best of each as ratios.
 use sha2::{Digest, Sha256};
-use std::hint::black_box;
 use std::time::Instant;
 
 extern "C" {
@@ -40,12 +39,18 @@ const SIZES: [usize; 3] = [64, 512, 4096];
 const RUNS: usize = 201;
 const BYTES_A_RUN: usize = 1 << 20;
 
+/// The value, through memory that the compiler may not look through, so that each digest is made anew.
+fn hidden<T: Copy>(value: T) -> T {
+    // SAFETY: the reference is to a live value that can be copied.
+    unsafe { std::ptr::read_volatile(&value) }
+}
+
 /// Nanoseconds of one digest, over BYTES_A_RUN bytes of messages.
 fn time(hash: Hash, message: &[u8]) -> f64 {
     let turns = BYTES_A_RUN / message.len();
     let start = Instant::now();
     for _ in 0..turns {
-        black_box(hash(black_box(message)));
+        hidden(hidden(hash)(hidden(message)));
     }
     start.elapsed().as_nanos() as f64 / turns as f64
 }
