@@ -1,0 +1,228 @@
+//! Times the proved tables beside straightforward C by two compilers in one run, interleaved: the best of each as ratios, how the time grows
+//! when the tables double, and the stack that the checks need.
+use std::ffi::c_void;
+use std::time::Instant;
+
+type P = *const u8;
+type M = *mut u8;
+
+/// Declares a function of the proved library and its two C peers.
+macro_rules! peers {
+    ($(($proved:ident, $clang:ident, $gcc:ident) $arguments:tt $(-> $result:ty)?;)*) => {
+        extern "C" { $(
+            fn $proved $arguments $(-> $result)?;
+            fn $clang $arguments $(-> $result)?;
+            fn $gcc $arguments $(-> $result)?;
+        )* }
+    };
+}
+
+peers! {
+    (tables_probe_addresses_unsound, c_six_clang, c_six_gcc)(t: P, length: usize, m: usize, n: usize, p: usize) -> bool;
+    (tables_probe_blocks_unsound, c_seven_clang, c_seven_gcc)(t: P, length: usize, d: usize) -> bool;
+    (tables_probe_refused, c_refused_clang, c_refused_gcc)(a: P, alength: usize, m: usize, n: usize, p: usize, b: P, blength: usize, d: usize) -> u32;
+    (tables_probe_some_uncached, c_some_uncached_clang, c_some_uncached_gcc)(a: P, alength: usize, m: usize, n: usize, p: usize, b: P, blength: usize, d: usize) -> usize;
+    (tables_probe_oldest_unknown, c_oldest_unknown_clang, c_oldest_unknown_gcc)(a: P, alength: usize, m: usize, n: usize, p: usize, b: P, blength: usize, d: usize) -> usize;
+    (tables_probe_find_address, c_find_address_clang, c_find_address_gcc)(t: P, length: usize, n: usize, a: u32) -> usize;
+    (tables_probe_find_fingerprint, c_find_fingerprint_clang, c_find_fingerprint_gcc)(t: P, length: usize, n: usize, g: P, glength: usize) -> usize;
+    (tables_probe_find_cached, c_find_cached_clang, c_find_cached_gcc)(t: P, length: usize, d: usize, g: P, glength: usize) -> usize;
+    (tables_probe_next_dirty, c_next_dirty_clang, c_next_dirty_gcc)(t: P, length: usize, n: usize, from: usize) -> usize;
+    (tables_probe_next_dirty_of, c_next_dirty_of_clang, c_next_dirty_of_gcc)(t: P, length: usize, n: usize, from: usize, g: P, glength: usize) -> usize;
+    (tables_probe_remove_row, c_remove_row_clang, c_remove_row_gcc)(t: M, length: usize, n: usize, i: usize);
+    (tables_probe_push_address, c_push_address_clang, c_push_address_gcc)(t: M, length: usize, n: usize, a: u32, g: P, glength: usize, dirty: u8);
+    (tables_probe_set_clean, c_set_clean_clang, c_set_clean_gcc)(t: M, length: usize, n: usize, i: usize);
+    (tables_probe_to_newest, c_to_newest_clang, c_to_newest_gcc)(t: M, length: usize, d: usize, i: usize);
+    (tables_probe_to_front, c_to_front_clang, c_to_front_gcc)(t: M, length: usize, d: usize, i: usize);
+    (tables_probe_put_block, c_put_block_clang, c_put_block_gcc)(t: M, length: usize, d: usize, i: usize, g: P, glength: usize);
+}
+
+extern "C" {
+    fn stack_touched(call: extern "C" fn(*mut c_void) -> *mut c_void, argument: *mut c_void) -> usize;
+}
+
+/// Two tables, and a fingerprint that no row has.
+#[derive(Clone, PartialEq)]
+struct State {
+    m: usize,
+    d: usize,
+    a: Vec<u8>,
+    b: Vec<u8>,
+    g: [u8; 32],
+}
+
+/// Full tables: m rows held, each with the fingerprint of a block row, and d rows used. One in eight is dirty, the last among them. With
+/// `one_bucket` all fingerprints share their first two bytes.
+fn tables(m: usize, d: usize, one_bucket: bool) -> State {
+    let mut seed = 7u64;
+    let mut byte = || {
+        seed = seed.wrapping_mul(6364136223846793005).wrapping_add(1442695040888963407);
+        (seed >> 33) as u8
+    };
+    let mut print = || -> [u8; 32] {
+        let mut g: [u8; 32] = std::array::from_fn(|_| byte());
+        if one_bucket {
+            g[0] = 1;
+            g[1] = 2;
+        }
+        g
+    };
+    let prints: Vec<[u8; 32]> = (0..d).map(|_| print()).collect();
+    let g = print();
+    let mut a = Vec::new();
+    for i in 0..m {
+        a.extend_from_slice(&((i * 37 % 65_536) as u32).to_le_bytes());
+        a.extend_from_slice(&prints[i * 5 % d]);
+        a.extend_from_slice(&[(i % 8 == 7) as u8, 0, 0, 0]);
+    }
+    let mut b = Vec::new();
+    for (i, print) in prints.iter().enumerate() {
+        b.extend_from_slice(print);
+        b.extend_from_slice(&((i * 7 % d) as u32).to_le_bytes());
+        b.extend_from_slice(&[1, 0, 0, 0]);
+    }
+    State { m, d, a, b, g }
+}
+
+type Operation = fn(&mut State) -> u64;
+
+/// An operation by the proved code and by both C codes.
+macro_rules! operation {
+    ($name:expr, [$($code:ident),*], |$s:ident, $f:ident| $body:expr) => {
+        ($name, [$({
+            fn run($s: &mut State) -> u64 {
+                let $f = $code;
+                unsafe { $body as u64 }
+            }
+            run as Operation
+        }),*])
+    };
+}
+
+/// The body of an operation that has no result.
+macro_rules! no_result {
+    ($call:expr) => {{
+        $call;
+        0
+    }};
+}
+
+const PEERS: usize = 3;
+
+const OPERATIONS: [(&str, [Operation; PEERS]); 16] = [
+    operation!("check for 6", [tables_probe_addresses_unsound, c_six_clang, c_six_gcc], |s, f| f(s.a.as_ptr(), s.a.len(), s.m, s.m, 65_536)),
+    operation!("check for 7", [tables_probe_blocks_unsound, c_seven_clang, c_seven_gcc], |s, f| f(s.b.as_ptr(), s.b.len(), s.d)),
+    operation!("checks for 6, 7 and 8", [tables_probe_refused, c_refused_clang, c_refused_gcc], |s, f| f(s.a.as_ptr(), s.a.len(), s.m, s.m, 65_536, s.b.as_ptr(), s.b.len(), s.d)),
+    operation!("the checks, then: a row without its block", [tables_probe_some_uncached, c_some_uncached_clang, c_some_uncached_gcc], |s, f| f(s.a.as_ptr(), s.a.len(), s.m, s.m, 65_536, s.b.as_ptr(), s.b.len(), s.d)),
+    operation!("the checks, then: a block without an address", [tables_probe_oldest_unknown, c_oldest_unknown_clang, c_oldest_unknown_gcc], |s, f| f(s.a.as_ptr(), s.a.len(), s.m, s.m, 65_536, s.b.as_ptr(), s.b.len(), s.d)),
+    operation!("find an address, the last", [tables_probe_find_address, c_find_address_clang, c_find_address_gcc], |s, f| f(s.a.as_ptr(), s.a.len(), s.m, ((s.m - 1) * 37 % 65_536) as u32)),
+    operation!("find a fingerprint, none", [tables_probe_find_fingerprint, c_find_fingerprint_clang, c_find_fingerprint_gcc], |s, f| f(s.a.as_ptr(), s.a.len(), s.m, s.g.as_ptr(), 32)),
+    operation!("find a cached fingerprint, none", [tables_probe_find_cached, c_find_cached_clang, c_find_cached_gcc], |s, f| f(s.b.as_ptr(), s.b.len(), s.d, s.g.as_ptr(), 32)),
+    operation!("next dirty row of a fingerprint, none", [tables_probe_next_dirty_of, c_next_dirty_of_clang, c_next_dirty_of_gcc], |s, f| f(s.a.as_ptr(), s.a.len(), s.m, 0, s.g.as_ptr(), 32)),
+    operation!("next dirty row, 7 rows on", [tables_probe_next_dirty, c_next_dirty_clang, c_next_dirty_gcc], |s, f| f(s.a.as_ptr(), s.a.len(), s.m, s.m - 8)),
+    operation!("take out the oldest row", [tables_probe_remove_row, c_remove_row_clang, c_remove_row_gcc], |s, f| no_result!(f(s.a.as_mut_ptr(), s.a.len(), s.m, 0))),
+    operation!("add a newest row", [tables_probe_push_address, c_push_address_clang, c_push_address_gcc], |s, f| no_result!(f(s.a.as_mut_ptr(), s.a.len(), s.m - 1, 77, s.g.as_ptr(), 32, 1))),
+    operation!("make a row clean", [tables_probe_set_clean, c_set_clean_clang, c_set_clean_gcc], |s, f| no_result!(f(s.a.as_mut_ptr(), s.a.len(), s.m, s.m / 2))),
+    operation!("oldest block row to newest", [tables_probe_to_newest, c_to_newest_clang, c_to_newest_gcc], |s, f| no_result!(f(s.b.as_mut_ptr(), s.b.len(), s.d, 0))),
+    operation!("newest block row freed, to the front", [tables_probe_to_front, c_to_front_clang, c_to_front_gcc], |s, f| no_result!(f(s.b.as_mut_ptr(), s.b.len(), s.d, s.d - 1))),
+    operation!("oldest block row filled as newest", [tables_probe_put_block, c_put_block_clang, c_put_block_gcc], |s, f| no_result!(f(s.b.as_mut_ptr(), s.b.len(), s.d, 0, s.g.as_ptr(), 32))),
+];
+
+const SIZES: [(usize, usize); 2] = [(1_024, 256), (512, 128)];
+const RUNS: usize = 101;
+const MOST_GROWTH: f64 = 2.4;
+
+/// The value, through memory that the compiler may not look through.
+fn hidden<T: Copy>(value: T) -> T {
+    // SAFETY: the reference is to a live value that can be copied.
+    unsafe { std::ptr::read_volatile(&value) }
+}
+
+/// Nanoseconds of one call, over `turns` calls.
+fn time(operation: Operation, state: &mut State, turns: usize) -> f64 {
+    let start = Instant::now();
+    for _ in 0..turns {
+        hidden(hidden(operation)(state));
+    }
+    start.elapsed().as_nanos() as f64 / turns as f64
+}
+
+/// The best time of each code at an operation on tables of its own, the codes taking turns.
+fn best(codes: &[Operation; PEERS], tables: &State) -> [f64; PEERS] {
+    let mut states = codes.map(|_| tables.clone());
+    let mut turns = [1; PEERS];
+    for code in 0..PEERS {
+        let once = time(codes[code], &mut states[code], 3);
+        turns[code] = (50_000.0 / once).max(1.0) as usize;
+    }
+    let mut best = [f64::INFINITY; PEERS];
+    for _ in 0..RUNS {
+        for code in 0..PEERS {
+            best[code] = best[code].min(time(codes[code], &mut states[code], turns[code]));
+        }
+    }
+    best
+}
+
+/// All codes answer the same and leave the same bytes.
+fn agree(tables: &State) {
+    for (name, codes) in OPERATIONS {
+        let mut first = tables.clone();
+        let answer = codes[0](&mut first);
+        for code in &codes[1..] {
+            let mut state = tables.clone();
+            assert_eq!(code(&mut state), answer, "{name}");
+            assert!(state == first, "{name}: other bytes");
+        }
+    }
+}
+
+extern "C" fn nothing(_: *mut c_void) -> *mut c_void {
+    std::ptr::null_mut()
+}
+
+/// The deepest calls of the crate: the three checks, and after them the block rows that no held row has.
+extern "C" fn deepest(state: *mut c_void) -> *mut c_void {
+    // SAFETY: `stack` gives a State that lives until the thread has ended.
+    let state = unsafe { &mut *(state as *mut State) };
+    OPERATIONS[2].1[0](state);
+    OPERATIONS[4].1[0](state);
+    std::ptr::null_mut()
+}
+
+fn stack() {
+    let mut state = tables(1_024, 256, false);
+    // SAFETY: both functions take any pointer, and the state outlives the thread.
+    let (empty, full) = unsafe { (stack_touched(nothing, std::ptr::null_mut()), stack_touched(deepest, &mut state as *mut State as *mut c_void)) };
+    assert!(0 < empty && empty < full, "no thread could be painted: {empty}, {full}");
+    println!("\nStack of the deepest call (the checks, then the oldest block without an address, with the probe's own array of 2,048 bytes): {} bytes.", full - empty);
+}
+
+fn main() {
+    let sizes = SIZES.map(|(m, d)| tables(m, d, false));
+    let one_bucket = SIZES.map(|(m, d)| tables(m, d, true));
+    sizes.iter().chain(&one_bucket).for_each(agree);
+    println!("Best of {RUNS} interleaved runs. Tables full: m = 1,024 and d = 256, and half of each.\n");
+    println!("{:46}{:>18}{:>18}{:>18}", "", "proved, ns", "C clang / proved", "C gcc / proved");
+    println!("{:46}{:>9}{:>9}{:>9}{:>9}{:>9}{:>9}{:>9}", "", "full", "half", "full", "half", "full", "half", "growth");
+    let mut largest: f64 = 0.0;
+    let lines = OPERATIONS.iter().map(|(name, codes)| (name.to_string(), codes, &sizes)).chain([("checks for 6, 7 and 8, all in one bucket".to_string(), &OPERATIONS[2].1, &one_bucket)]);
+    for (name, codes, tables) in lines {
+        let ordinary = std::ptr::eq(tables, &sizes);
+        let [full, half] = [best(codes, &tables[0]), best(codes, &tables[1])];
+        let growth = full[0] / half[0];
+        if ordinary {
+            largest = largest.max(growth);
+        }
+        println!(
+            "{name:46}{:>9.0}{:>9.0}{:>9.2}{:>9.2}{:>9.2}{:>9.2}{:>9.2}",
+            full[0], half[0], full[1] / full[0], half[1] / half[0], full[2] / full[0], half[2] / half[0], growth
+        );
+    }
+    println!("\nGrowth is the proved code's time at full size over that at half; the largest but for one bucket is {largest:.2}, and {MOST_GROWTH} is the most allowed.");
+    println!("Above 1 in the middle columns: the proved code is faster. The probe's own tests of its arguments are in its time.");
+    stack();
+    if largest > MOST_GROWTH {
+        println!("The growth is above {MOST_GROWTH}.");
+        std::process::exit(1);
+    }
+}

@@ -1,0 +1,59 @@
+use borrow.Author.Needs.{needs}
+use mathlib.Core.Path.{_≡_, _∙_, ap}
+use native.Mathlib.Omega.{arith}
+use Rattle.block.specs.Laws.{part-is}
+use Rattle.block.proofs.copy_block.Statement.{statement}
+use Rattle.block.proofs.copy_block.Tie as tie
+use Rattle.block.proofs.copy_block.Reads as reads
+use Rattle.block.proofs.copy_block.Lts as lts
+use Rattle.block.proofs.put.Reads as put-reads
+
+-- src/lib.rt:55:13
+mul-a : tie.Need-mul-a
+mul-a c = search needs
+
+-- src/lib.rt:56:13
+add-e : tie.Need-add-e
+add-e c = search needs
+
+-- src/lib.rt:57:9
+sub-put : tie.Need-sub-put
+sub-put c = search needs
+
+-- src/lib.rt:57:9
+part-put-start : tie.Need-part-put-start
+part-put-start c = search needs
+
+-- src/lib.rt:57:9
+part-put-end : tie.Need-part-put-end
+part-put-end c = search needs
+
+-- src/lib.rt:57:26
+mul-put : tie.Need-mul-put
+mul-put c = search needs
+
+-- src/lib.rt:57:5
+put-requires : tie.Need-put-requires
+put-requires c κs = search needs
+
+-- src/lib.rt:51:1
+same-length : tie.Need-same-length
+same-length c = search needs
+
+-- src/lib.rt:51:1
+returns : tie.Need-returns
+returns c = c .before .before .put .ensures ∙ rw part-is
+
+pub copy-block-spec : {M : Type 1} → statement M
+copy-block-spec =
+    tie.close
+    (tie.spec
+    mul-a
+    add-e
+    sub-put
+    part-put-start
+    part-put-end
+    mul-put
+    put-requires
+    same-length
+    returns)

@@ -1,0 +1,103 @@
+-- Demand 3 as one type: a claim about every list of calls from a fresh box, in bytes and in refusals computed from the bytes.
+-- Assumes nothing.
+use mathlib.Core.Path.{_≡_}
+use mathlib.Core.Bool.{not, cond}
+use mathlib.Core.List.{List, [], _∷_, _++_}
+use mathlib.Core.Logic.{_⊎_}
+use mathlib.Core.Option.{Option, none, some}
+use Prim.Native.Nat.{ℕ}
+use lib.Dec.{eqb}
+use lib.ListN.{getD}
+use Rattle.paper.specs.KeyedLaws.{All}
+use Rattle.paper.specs.Cache.{Word}
+use Rattle.paper.specs.Engine.{Fixed, engine}
+use Rattle.paper.specs.Lent.{Numbers, Lent, Ask, Answer, refused, answered, calling, refusal, call, callOf, boxIn, join, split}
+use Rattle.paper.specs.Machines.{plainNext, writtenBy, Read, Compared, seenIn, printedTrace, contentOf, OrphanLaw, TrueFingerprints, NoTwoShare}
+
+-- "Box record, disk, flash, both tables and counters pass from call to call."
+abbrev pub next : (N : Numbers) → Lent → Ask → Lent
+next N t q = (call N t q) .lent
+
+-- "Plain disk: P blocks, first those of the disk. It is fed the calls and their arguments in turn and, of the answers, only which are refusals."
+-- "A flush does nothing, nor does a refused call in either machine."
+abbrev pub plainStep : (N : Numbers) → Lent → List (Fixed (N .B)) → Ask → List (Fixed (N .B))
+plainStep N t plain q = cond (eqb (refusal N t (calling q)) 0) (plainNext plain (callOf (N .B) q)) plain
+
+-- a claim "in every state reached, the fresh one included"
+unfoldable pub Throughout : (N : Numbers) (Q : Lent → List (Fixed (N .B)) → Type 0) → Lent → List (Fixed (N .B)) → List Ask → Type 0
+Throughout N Q t plain [] = Q t plain
+Throughout N Q t plain (q ∷ qs) = Q t plain × Throughout N Q (next N t q) (plainStep N t plain q) qs
+
+-- a claim "Of calls that aren't refused"
+unfoldable pub EachServed : (N : Numbers) (Q : Lent → List (Fixed (N .B)) → Ask → Type 0) → Lent → List (Fixed (N .B)) → List Ask → Type 0
+EachServed N Q t plain [] = Unit {0}
+EachServed N Q t plain (q ∷ qs) = (refusal N t (calling q) ≡ 0 → Q t plain q) × EachServed N Q (next N t q) (plainStep N t plain q) qs
+
+-- "In such a list no call gets 6, 7 or 8." (Nor 1: the numbers are those of the opening.)
+abbrev pub ServedOr239 : ℕ → Type 0
+ServedOr239 k = (k ≡ 0) ⊎ ((k ≡ 2) ⊎ ((k ≡ 3) ⊎ (k ≡ 9)))
+
+unfoldable pub refusals : Numbers → Lent → List Ask → List ℕ
+refusals N t [] = []
+refusals N t (q ∷ qs) = refusal N t (calling q) ∷ refusals N (next N t q) qs
+
+-- "Of calls that aren't refused: the blocks written are those lent to writes"
+unfoldable pub written : (N : Numbers) → Lent → List Ask → List (Fixed (N .B))
+written N t [] = []
+written N t (q ∷ qs) = cond (eqb (refusal N t (calling q)) 0) (writtenBy (callOf (N .B) q)) [] ++ written N (next N t q) qs
+
+-- "a block returned is the lent block after a read, or a look's part"; it is the plain disk's
+unfoldable pub ShowsPlain : (N : Numbers) → Lent → List (Fixed (N .B)) → Ask → Type 0
+ShowsPlain N t plain (Ask.read a l) = (call N t (Ask.read a l)) .block ≡ some ((getD plain a (engine (N .B) .blank)) .0)
+ShowsPlain N t plain (Ask.look a) = (call N t (Ask.look a)) .part ≡ (getD plain a (engine (N .B) .blank)) .0
+ShowsPlain N t plain (Ask.through a l) = Unit {0}
+ShowsPlain N t plain (Ask.back a l) = Unit {0}
+ShowsPlain N t plain (Ask.invalidate a l) = Unit {0}
+ShowsPlain N t plain Ask.flush = Unit {0}
+
+-- after a flush the disk is the plain disk
+abbrev pub FlushesWhole : (N : Numbers) → Lent → List (Fixed (N .B)) → Ask → Type 0
+FlushesWhole N t plain q = q ≡ Ask.flush → (next N t q) .disk ≡ join plain
+
+-- "Printed D-LRU: it is fed the reads' addresses, which reads are refused, and the disk as it was at first"; "Compared after each read: held
+-- addresses in order, cached fingerprints in order and, unless it was refused, its hit or miss."
+abbrev pub ifRead : {A : Type 0} → Ask → (ℕ → A) → List A → List A
+ifRead (Ask.read a l) f xs = f a ∷ xs
+ifRead (Ask.through a l) f xs = xs
+ifRead (Ask.back a l) f xs = xs
+ifRead (Ask.invalidate a l) f xs = xs
+ifRead (Ask.look a) f xs = xs
+ifRead Ask.flush f xs = xs
+
+unfoldable pub readsOf : Numbers → Lent → List Ask → List Read
+readsOf N t [] = []
+readsOf N t (q ∷ qs) = ifRead q (λ a. record { address = a; refused = not (eqb (refusal N t (calling q)) 0) }) (readsOf N (next N t q) qs)
+
+abbrev pub wordOf : Answer → Option Word
+wordOf (refused k) = none
+wordOf (answered w f p) = some w
+
+unfoldable pub seenAfter : Numbers → Lent → List Ask → List (Compared (Fixed 32))
+seenAfter N t [] = []
+seenAfter N t (q ∷ qs) = ifRead q (λ a. seenIn (boxIn N (next N t q)) (wordOf ((call N t q) .answer))) (seenAfter N (next N t q) qs)
+
+-- a list with no write in it: of reads alone, or with looks and flushes among them
+abbrev pub NoWrite : Ask → Type 0
+NoWrite (Ask.read a l) = Unit {0}
+NoWrite (Ask.look a) = Unit {0}
+NoWrite Ask.flush = Unit {0}
+NoWrite (Ask.through a l) = ⊥
+NoWrite (Ask.back a l) = ⊥
+NoWrite (Ask.invalidate a l) = ⊥
+
+-- "Demand 3 is one claim about the whole list of calls, not one for each call. A list begins with a fresh box over any disk and flash bytes."
+-- t is the fresh box, and the plain disk begins as the blocks of t's disk. `fingerprints`, `blocks` and `flushes` are under the premise.
+pub record Demand3 (N : Numbers) (t : Lent) (qs : List Ask) : Type 0 where
+  pub numbers : All ServedOr239 (refusals N t qs)
+  pub orphans : Throughout N (λ x plain. OrphanLaw (engine (N .B)) (boxIn N x)) t (split (N .B) (N .P) (t .disk)) qs
+  pub fingerprints : NoTwoShare (engine (N .B)) (split (N .B) (N .P) (t .disk) ++ written N t qs)
+      → Throughout N (λ x plain. TrueFingerprints (engine (N .B)) (boxIn N x) plain) t (split (N .B) (N .P) (t .disk)) qs
+  pub blocks : NoTwoShare (engine (N .B)) (split (N .B) (N .P) (t .disk) ++ written N t qs) → EachServed N (ShowsPlain N) t (split (N .B) (N .P) (t .disk)) qs
+  pub flushes : NoTwoShare (engine (N .B)) (split (N .B) (N .P) (t .disk) ++ written N t qs) → EachServed N (FlushesWhole N) t (split (N .B) (N .P) (t .disk)) qs
+  pub printed : All NoWrite qs
+      → seenAfter N t qs ≡ printedTrace (engine (N .B) .same) (N .m) (N .d) (contentOf (engine (N .B)) (split (N .B) (N .P) (t .disk))) (record { addresses = []; fingerprints = [] }) (readsOf N t qs)

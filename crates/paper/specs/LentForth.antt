@@ -1,0 +1,115 @@
+-- Lent memory that passes 6 and 7 is what its box writes.
+use mathlib.Core.Path.{_≡_, refl, sym, ap, ap₂, _∙_}
+use mathlib.Core.Bool.{true, false, _&&_, cond}
+use mathlib.Core.List.{List, [], _∷_, map}
+use Prim.Native.Nat.{ℕ, _≤_}
+use native.Mathlib.Omega.{arith}
+use lib.Dec.{eqb, leb, ltb}
+use lib.ListN.{length, take, getD, length-map}
+use lib.Seq.{length-take-le}
+use borrow.Author.Tests.{eqb-true, eqb-false, leb-true}
+use Rattle.tables.specs.Rows.{rows, zeros, le4}
+use Rattle.tables.specs.Records as Table
+use Rattle.tables.specs.Records.{readAddress, readBlock, addressTable, heldRows, blockTable, blockRows, freeRow}
+use Rattle.tables.specs.Find.{all, every, isUsed}
+use Rattle.tables.specs.Unsound.{addressesUnsound, blocksUnsound}
+use Rattle.tables.specs.Sound.{isZero, tailOk, addressOk}
+use Rattle.tables.specs.Index.{rowOk}
+use Rattle.tables.specs.RowLaws.{rows-length}
+use Rattle.tables.specs.RecordLaws.{zeros-all}
+use Rattle.tables.specs.OperationLaws.{Wide, wide-rows}
+use Rattle.tables.specs.Promises.{addresses-back, blocks-back}
+use Rattle.paper.specs.KeyedLaws.{by-test, and-left, and-right}
+use Rattle.paper.specs.Engine.{fit}
+use Rattle.paper.specs.Lent.{Numbers, Lent, bit, heldRow, usedRow, asHeld, freeSlots, usedRows, boxIn, lentOf}
+use Rattle.paper.specs.Parts.{join-split}
+use Rattle.paper.specs.RowBytes.{Bytes, bytes-at}
+use Rattle.paper.specs.SoundTests.{addresses-good, blocks-good, print-is, held-print-is}
+use Rattle.paper.specs.LentLaws.{Lengths, tableRows}
+
+-- the byte in front of a row's last three is 0 or 1
+byte-low : (r : List ℕ) → tailOk r ≡ true → getD r 36 0 ≤ 1
+byte-low r h = leb-true (getD r 36 0) 1 (and-left (leb (getD r 36 0) 1) (eqb (getD r 37 0) 0 && (eqb (getD r 38 0) 0 && eqb (getD r 39 0) 0)) h)
+
+-- the rows of an address table that passes 6
+bit-forth : (y : ℕ) → y ≤ 1 → bit (eqb y 1) ≡ y
+bit-forth y l = by-test (eqb y 1) (λ e. rw e (sym (eqb-true y 1 e))) (λ e. rw e (let n = eqb-false y 1 e in omega arith))
+
+held-forth : (P : ℕ) (rs : List (List ℕ)) → Wide rs → all (addressOk P) rs ≡ true → map heldRow (map asHeld (map readAddress rs)) ≡ map readAddress rs
+unfolding all
+held-forth P [] w h = refl
+held-forth P (r ∷ rs) w h =
+    let ok = and-right (ltb (le4 r 0) P) (tailOk r) (and-left (addressOk P r) (all (addressOk P) rs) h) in
+    let f = held-print-is r (w .0) in
+    let y = bit-forth (getD r 36 0) (byte-low r ok) in
+    let more = held-forth P rs (w .1) (and-right (addressOk P r) (all (addressOk P) rs) h) in
+    λ i. Table.addressRow (le4 r 0) (f i) (y i) ∷ more i
+
+-- the rows of a block table that passes 7
+used-forth : (r : List ℕ) → length r ≡ 40 → isUsed r ≡ true → usedRow (record { fingerprint = fit 32 (take 32 r); slot = le4 r 32 }) ≡ readBlock r
+used-forth r l u =
+    let f = print-is r l in
+    let y = sym (eqb-true (getD r 36 0) 1 u) in
+    λ i. Table.blockRow (f i) (le4 r 32) (y i)
+
+free-forth : (r : List ℕ) → length r ≡ 40 → isUsed r ≡ false → tailOk r ≡ true → all isZero (take 32 r) ≡ true → freeRow (le4 r 32) ≡ readBlock r
+free-forth r l u ok z =
+    let low = byte-low r ok in
+    let n = eqb-false (getD r 36 0) 1 u in
+    let y : 0 ≡ getD r 36 0 = omega arith in
+    let f = sym (zeros-all (take 32 r) z ∙ ap zeros (length-take-le 32 r (omega arith))) in
+    λ i. Table.blockRow (f i) (le4 r 32) (y i)
+
+all-used : (rs : List (List ℕ)) → Wide rs → all isUsed rs ≡ true → (freeSlots (map readBlock rs) ≡ []) × (map usedRow (usedRows (map readBlock rs)) ≡ map readBlock rs)
+unfolding all freeSlots usedRows
+all-used [] w h = (refl, refl)
+all-used (r ∷ rs) w h =
+    let u = and-left (isUsed r) (all isUsed rs) h in
+    let more = all-used rs (w .1) (and-right (isUsed r) (all isUsed rs) h) in
+    (rw u (more .0), rw u (ap₂ {C = List Table.BlockRow} (λ x l. x ∷ l) (used-forth r (w .0) u) (more .1)))
+
+rows-forth : (d : ℕ) (rs : List (List ℕ)) → Wide rs → every (rowOk d) rs ≡ true → tableRows (freeSlots (map readBlock rs)) (usedRows (map readBlock rs)) ≡ map readBlock rs
+unfolding every freeSlots usedRows
+rows-forth d [] w h = refl
+rows-forth d (r ∷ rs) w h =
+    let rest = cond (isUsed r) (all isUsed rs) (all isZero (take 32 r)) in
+    let p = and-right (ltb (le4 r 32) d) (tailOk r && rest) (and-left (rowOk d r rs) (every (rowOk d) rs) h) in
+    let ok = and-left (tailOk r) rest p in
+    let more = and-right (rowOk d r rs) (every (rowOk d) rs) h in
+    by-test (isUsed r)
+    (λ u.
+    let a = all-used rs (w .1) (rw u at (and-right (tailOk r) rest p)) in
+    rw (u, a .0) (ap₂ {C = List Table.BlockRow} (λ x l. x ∷ l) (used-forth r (w .0) u) (a .1)))
+    (λ u. rw u (ap₂ {C = List Table.BlockRow} (λ x l. x ∷ l) (free-forth r (w .0) u ok (rw u at (and-right (tailOk r) rest p))) (rows-forth d rs (w .1) more)))
+
+module _ (N : Numbers) (t : Lent) (lengths : Lengths N t) (bytesA : Bytes (t .addresses)) (bytesB : Bytes (t .blocks))
+    (six : addressesUnsound (N .P) (N .m) (t .n) (t .addresses) ≡ false) (seven : blocksUnsound (N .d) (t .blocks) ≡ false) where
+  address-table : addressTable (N .m) (map heldRow (map asHeld (heldRows (t .n) (t .addresses)))) ≡ t .addresses
+  unfolding heldRows
+  address-table =
+      let a = t .addresses in
+      let l = lengths .addresses in
+      let g = addresses-good (N .P) (N .m) (t .n) a six in
+      let few = g .few in
+      ap (addressTable (N .m)) (held-forth (N .P) (rows (t .n) a) (wide-rows (t .n) a (omega arith)) (g .each))
+      ∙ addresses-back (N .P) (N .m) (t .n) a six l (bytes-at a bytesA)
+
+  block-table : let rs = blockRows (N .d) (t .blocks) in blockTable (tableRows (freeSlots rs) (usedRows rs)) ≡ t .blocks
+  unfolding blockRows
+  block-table =
+      let b = t .blocks in
+      let l = lengths .blocks in
+      ap blockTable (rows-forth (N .d) (rows (N .d) b) (wide-rows (N .d) b (omega arith)) (blocks-good (N .d) b seven .each))
+      ∙ blocks-back (N .d) b seven l (bytes-at b bytesB)
+
+  held-length : length (heldRows (t .n) (t .addresses)) ≡ t .n
+  unfolding heldRows
+  held-length = length-map (rows (t .n) (t .addresses)) readAddress ∙ rows-length (t .n) (t .addresses)
+
+  pub lent-forth : lentOf N (boxIn N t) (t .counters) ≡ t
+  unfolding lentOf boxIn
+  lent-forth =
+      let n = length-map (heldRows (t .n) (t .addresses)) asHeld ∙ held-length in
+      let di = join-split (N .B) (N .P) (t .disk) (lengths .disk) in
+      let fl = join-split (N .B) (N .d) (t .flash) (lengths .flash) in
+      λ i. record { n = n i; disk = di i; flash = fl i; addresses = address-table i; blocks = block-table i; counters = t .counters }

@@ -1,0 +1,37 @@
+-- What a reader must believe, in this order: rows found by a key, the cache and its calls, worked states, blocks and fingerprints in bytes,
+-- lent memory and refusals, worked refusals, the machines compared with, demand 3. (`All` is in KeyedLaws.)
+pub mod Keyed
+pub mod Cache
+pub mod Worked
+pub mod Engine
+pub mod Lent
+pub mod Refused
+pub mod Machines
+pub mod Demand3
+-- the theorem: demand 3 of every list; what refused and served calls leave; that the premise can be met
+pub mod Demand3Laws
+pub mod RefusalLaws
+pub mod CallLaws
+pub mod Premise
+-- lemmas
+pub mod KeyedLaws
+pub mod Events
+pub mod Cases
+pub mod Orphans
+pub mod Sound
+pub mod Faithful
+pub mod PlainDisk
+pub mod OrphanList
+pub mod Order
+pub mod Printed
+pub mod Quiet
+pub mod EventList
+pub mod Parts
+pub mod RowBytes
+pub mod TestLaws
+pub mod SoundTests
+pub mod LentLaws
+pub mod LentForth
+pub mod FewWrites
+pub mod Index
+pub mod Layout

@@ -1,0 +1,107 @@
+-- The orphan law of every list of calls.
+use mathlib.Core.Path.{_≡_, refl, sym, ap, _∙_}
+use mathlib.Core.Bool.{Bool, true, false, not, _&&_, cond, false≢true}
+use mathlib.Core.List.{List, [], _∷_}
+use mathlib.Core.Logic.{_⊎_, inl, inr}
+use mathlib.Core.Option.{Option, none, some, Option·map, Option·none-ne-some, Option·some-injective}
+use Prim.Native.Nat.{ℕ, _≤_}
+use lib.Dec.{eqb}
+use lib.ListN.{length, getD}
+use Rattle.paper.specs.Cache.{Hashing, AddressRow, BlockRow, Box, BlockRows, rowOf, withoutAddress, known, cached, blockOf, cleaned, someUncached, Call, read, through, back, invalidate, look, flush, onDisk, rowWithBlock, answer, readAs, writeThrough, writeBack, dropped, writeInvalidate, lookAs, flushed, serve, fresh, freed}
+use Rattle.paper.specs.KeyedLaws.{by-test, either, clash, or-left, or-right, or-both, eqb→≡, eqb-self, All, Distinct, has-without-other, has-without, has-without-self, lost-with}
+use Rattle.paper.specs.Machines.{someUnknown, OrphanLaw, plainNext}
+use Rattle.paper.specs.Events.{Event, Throughout}
+use Rattle.paper.specs.Orphans.{NoWaste, noWaste-step, known-cleaned, apart}
+use Rattle.paper.specs.Sound.{Sound, sound-serve, sound-fresh}
+use Rattle.paper.specs.PlainDisk.{ServedWithin}
+
+module _ {F X : Type 0} (H : Hashing F X) where
+  noWaste-readAs : (m : ℕ) (s : Box F X) (a : ℕ) (o : Option (AddressRow F)) → Distinct eqb (λ r. r .address) (s .rows) → NoWaste H (s .rows) (s .used)
+      → NoWaste H ((readAs H m s a o) .box .rows) ((readAs H m s a o) .box .used)
+  unfolding readAs answer
+  noWaste-readAs m s a (some r) d l = noWaste-step H m s (record { address = a; fingerprint = r .fingerprint; block = blockOf H (r .fingerprint) (s .used) (s .flash); dirty = r .dirty }) d l
+  noWaste-readAs m s a none d l = noWaste-step H m s (record { address = a; fingerprint = H .hash (getD (s .disk) a (H .blank)); block = getD (s .disk) a (H .blank); dirty = false }) d l
+
+  noWaste-lookAs : (s : Box F X) (a : ℕ) (o : Option (AddressRow F)) → NoWaste H (s .rows) (s .used) → NoWaste H ((lookAs H s a o) .box .rows) ((lookAs H s a o) .box .used)
+  unfolding lookAs
+  noWaste-lookAs s a (some r) l = l
+  noWaste-lookAs s a none l = l
+
+  -- the row of a is taken out, and its block is freed if no row has it now
+  noWaste-dropped : (rows rows′ : List (AddressRow F)) (b : BlockRows F) (o : Option (AddressRow F)) → NoWaste H rows (b .used)
+      → ((f : F) → known H f rows′ ≡ true → known H f rows ≡ true) → ((f : F) → known H f rows ≡ true → (known H f rows′ ≡ true) ⊎ (Option·map (λ r. r .fingerprint) o ≡ some f))
+      → NoWaste H rows′ ((dropped H rows′ b o) .used)
+  unfolding dropped freed
+  noWaste-dropped rows rows′ b none (inl l) sub lost = inl (λ f h. l f (sub f h))
+  noWaste-dropped rows rows′ b none (inr l) sub lost = inr (λ f h. either (lost f (l f h)) (λ t. t) (λ t. absurd (Option·none-ne-some f t)))
+  noWaste-dropped rows rows′ b (some r) law sub lost =
+      let q = r .fingerprint in
+      by-test (known H q rows′)
+      (λ k. rw k (either law
+      (λ l. inl (λ f h. l f (sub f h)))
+      (λ l. inr (λ f h. either (lost f (l f h)) (λ t. t) (λ t. rw (Option·some-injective q f t) at k)))))
+      (λ k. rw k (by-test (cached H q (b .used))
+      (λ c. rw c (either law
+      (λ l. inl (λ f h. has-without (H .same) (λ u. u .fingerprint) (H .same→≡) (H .same-refl) f q (b .used) (apart H q f rows′ h k) ∙ l f (sub f h)))
+      (λ l. inr (λ f h. either (lost f (l f (has-without-other (H .same) (λ u. u .fingerprint) (H .same) (λ u. u .fingerprint) f q (b .used) h))) (λ t. t)
+      (λ t. clash (rw (← Option·some-injective q f t) at h) (has-without-self (H .same) (λ u. u .fingerprint) q (b .used)))))))
+      (λ c. rw c (either law
+      (λ l. inl (λ f h. l f (sub f h)))
+      (λ l. inr (λ f h. either (lost f (l f h)) (λ t. t) (λ t. clash h (rw (Option·some-injective q f t) at c))))))))
+
+  noWaste-invalidate : (s : Box F X) (a : ℕ) (b : X) → Distinct eqb (λ r. r .address) (s .rows) → NoWaste H (s .rows) (s .used)
+      → NoWaste H ((writeInvalidate H s a b) .box .rows) ((writeInvalidate H s a b) .box .used)
+  unfolding writeInvalidate
+  noWaste-invalidate s a b d l =
+      noWaste-dropped (s .rows) (withoutAddress a (s .rows)) (record { free = s .free; used = s .used }) (rowOf a (s .rows)) l
+      (λ f h. has-without-other eqb (λ r. r .address) (H .same) (λ r. r .fingerprint) f a (s .rows) h)
+      (λ f h. lost-with eqb (λ r. r .address) eqb→≡ eqb-self (H .same) (λ r. r .fingerprint) (H .same→≡) f a (s .rows) d h)
+
+  noWaste-flushed : (c : F → Bool) (rows : List (AddressRow F)) (used : List (BlockRow F)) → NoWaste H rows used → NoWaste H (cleaned H c rows) used
+  noWaste-flushed c rows used (inl l) = inl (λ f h. l f (sym (known-cleaned H c f rows) ∙ h))
+  noWaste-flushed c rows used (inr l) = inr (λ f h. known-cleaned H c f rows ∙ l f h)
+
+  pub noWaste-serve : (m : ℕ) (s : Box F X) (c : Call X) → Distinct eqb (λ r. r .address) (s .rows) → NoWaste H (s .rows) (s .used) → NoWaste H ((serve H m s c) .box .rows) ((serve H m s c) .box .used)
+  unfolding serve writeThrough writeBack answer flushed
+  noWaste-serve m s (read a) d l = noWaste-readAs m s a (rowWithBlock H s a) d l
+  noWaste-serve m s (look a) d l = noWaste-lookAs s a (rowWithBlock H s a) l
+  noWaste-serve m s (through a b) d l = noWaste-step H m (onDisk H s a b) (record { address = a; fingerprint = H .hash b; block = b; dirty = false }) d l
+  noWaste-serve m s (back a b) d l = noWaste-step H m s (record { address = a; fingerprint = H .hash b; block = b; dirty = true }) d l
+  noWaste-serve m s (invalidate a b) d l = noWaste-invalidate s a b d l
+  noWaste-serve m s flush d l = noWaste-flushed (λ f. true) (s .rows) (s .used) l
+
+  -- the law as the document states it: never both
+  pub uncached-not : (rows : List (AddressRow F)) (used : List (BlockRow F)) → ((r : AddressRow F) → known H (r .fingerprint) rows ≡ true → cached H (r .fingerprint) used ≡ true) → someUncached H rows used ≡ false
+  uncached-not [] used l = refl
+  uncached-not (r ∷ rs) used l =
+      or-both (not (cached H (r .fingerprint) used)) (someUncached H rs used)
+      (ap not (l r (or-left (H .same (r .fingerprint) (r .fingerprint)) (known H (r .fingerprint) rs) (H .same-refl (r .fingerprint)))))
+      (uncached-not rs used (λ x h. l x (or-right (H .same (x .fingerprint) (r .fingerprint)) (known H (x .fingerprint) rs) h)))
+
+  pub unknown-not : (rows : List (AddressRow F)) (used : List (BlockRow F)) → ((u : BlockRow F) → cached H (u .fingerprint) used ≡ true → known H (u .fingerprint) rows ≡ true) → someUnknown H rows used ≡ false
+  unknown-not rows [] l = refl
+  unknown-not rows (u ∷ us) l =
+      or-both (not (known H (u .fingerprint) rows)) (someUnknown H rows us)
+      (ap not (l u (or-left (H .same (u .fingerprint) (u .fingerprint)) (cached H (u .fingerprint) us) (H .same-refl (u .fingerprint)))))
+      (unknown-not rows us (λ x h. l x (or-right (H .same (x .fingerprint) (u .fingerprint)) (cached H (x .fingerprint) us) h)))
+
+  pub never-both : (rows : List (AddressRow F)) (used : List (BlockRow F)) → NoWaste H rows used → (someUncached H rows used && someUnknown H rows used) ≡ false
+  never-both rows used (inl l) = rw (uncached-not rows used (λ r h. l (r .fingerprint) h)) refl
+  never-both rows used (inr l) = by-test (someUncached H rows used) (λ e. rw e (unknown-not rows used (λ u h. l (u .fingerprint) h))) (λ e. rw e refl)
+
+module _ {F X : Type 0} (H : Hashing F X) (m d P : ℕ) (m1 : 1 ≤ m) (d1 : 1 ≤ d) where
+  pub orphan-law : (s : Box F X) (plain : List X) (es : List (Event X)) → Sound H m d P s → NoWaste H (s .rows) (s .used) → All (ServedWithin P) es
+      → Throughout H m (λ s plain. Sound H m d P s × OrphanLaw H s) s plain es
+  unfolding Throughout
+  orphan-law s plain [] h l w = (h, never-both H (s .rows) (s .used) l)
+  orphan-law s plain (e ∷ es) h l w =
+      let s′ = cond (e .refused) s ((serve H m s (e .call)) .box) in
+      let plain′ = cond (e .refused) plain (plainNext plain (e .call)) in
+      let h′ : Sound H m d P s′ = by-test (e .refused) (λ r. rw r h) (λ r. rw r (sound-serve H m d P s (e .call) h m1 d1 (w .0 r))) in
+      let l′ : NoWaste H (s′ .rows) (s′ .used) = by-test (e .refused) (λ r. rw r l) (λ r. rw r (noWaste-serve H m s (e .call) (h .addresses) l)) in
+      ((h, never-both H (s .rows) (s .used) l), orphan-law s′ plain′ es h′ l′ (w .1))
+
+  pub orphan-law-fresh : (flash disk : List X) (es : List (Event X)) → length flash ≡ d → length disk ≡ P → All (ServedWithin P) es
+      → Throughout H m (λ s plain. Sound H m d P s × OrphanLaw H s) (fresh d flash disk) disk es
+  orphan-law-fresh flash disk es fl dl w =
+      orphan-law (fresh d flash disk) disk es (rw dl at (sound-fresh H m d flash disk fl)) (inl (λ f h. absurd (false≢true h))) w

@@ -1,0 +1,244 @@
+-- A call that is not refused, from what its refusal says and what its steps leave. Assumes nothing.
+use mathlib.Core.Path.{_≡_, refl, sym, ap, ap₂, _∙_, subst}
+use mathlib.Core.Bool.{Bool, true, false, not, _&&_, _||_, cond, false≢true}
+use mathlib.Core.List.{List, [], _∷_, _++_}
+use mathlib.Core.Option.{Option, none, some}
+use Prim.Native.Nat.{ℕ, suc, zero, _≤_, _<_, _+_, _*_, _^_}
+use native.Mathlib.Omega.{arith}
+use lib.Dec.{eqb, leb, ltb}
+use lib.ListN.{length, getD}
+use borrow.Author.Tests.{ltb-false, leb-false, eqb-true, not-false}
+use Rattle.counters.specs.declared.Counters as Code
+use Rattle.counters.specs.Added.{added}
+use Rattle.paper.specs.KeyedLaws.{All, or-false-left, or-false-right, by-option}
+use Rattle.paper.specs.Cache.{AddressRow, Box, Call, Outcome, Word, hit, miss, sameBlock, newBlock, done, Counters, counted, oneIf, isRead, isHit, answer, cached, serve, readAs, rowWithBlock, writeThrough, writeBack, writeInvalidate, flushed}
+use Rattle.paper.specs.Engine.{Fixed, fit, engine}
+use Rattle.paper.specs.Lent.{Numbers, Lent, Ask, calling, refusal, callOf, boxIn, lentOf, call, served, answered, blockAfter, partAfter, otherLength, wrongBuffers, wrongBlock, lentBlock, outside, addressOf, over, join}
+use Rattle.paper.specs.RowBytes.{Bytes}
+use Rattle.paper.specs.LentLaws.{passes-sound, fit-whole}
+use Rattle.paper.specs.RefusalLaws.{exactly, served-is, refused-keeps}
+use Rattle.paper.specs.CallLaws.{Served, served-finds, outcome}
+use Rattle.paper.specs.Layout.{Addrs, Blocks, Parts, addressesOf, blocksOf, passes-addrs, passes-blocks, passes-flash, passes-disk}
+use Rattle.policy.specs.declared.BoxRecord.{BoxRecord}
+use Rattle.policy.specs.declared.Word as CodeWord
+use Rattle.policy.specs.declared.Answer.the-variants.{Refused, Answered}
+use Rattle.policy.specs.Rep.{Rep}
+use Rattle.policy.specs.Steps.{Out4, out4, Sure}
+use Rattle.policy.specs.Calls.{Leaves, leaves, isYes, returned}
+use Rattle.policy.specs.Contract.{numbersOf, countersOf, lent, wordOf, Told, told, called}
+
+-- bytes below 256, one by one
+pub all-bytes : (l : List ℕ) → ((i : ℕ) → getD l i 0 < 256) → Bytes l
+all-bytes [] h = tt
+all-bytes (x ∷ xs) h = (h 0, all-bytes xs (λ i. h (suc i)))
+
+-- a lent block of the right length is itself
+pub fit-is : (n : ℕ) (l : List ℕ) → length l ≡ n → (fit n l) .0 ≡ l
+fit-is n l e = ap (λ f. f .0) (fit-whole n (l, e))
+
+module _ (b : BoxRecord) (disk flash addrs blocks : List ℕ) (k : Counters) (q : Ask) (e : refusal (numbersOf b) (lent b disk flash addrs blocks k) (calling q) ≡ 0) where
+  finds : Served (numbersOf b) (lent b disk flash addrs blocks k) q
+  finds = served-finds (numbersOf b) (lent b disk flash addrs blocks k) q e
+
+  pub sure : Sure b (boxIn (numbersOf b) (lent b disk flash addrs blocks k))
+  sure = passes-sound (numbersOf b) (lent b disk flash addrs blocks k) (finds .passes)
+
+  pub rep : Bytes addrs → Bytes blocks → Rep b disk flash addrs blocks (boxIn (numbersOf b) (lent b disk flash addrs blocks k))
+  rep x y =
+      let N = numbersOf b in
+      let t = lent b disk flash addrs blocks k in
+      record {
+        rows-are = passes-addrs N t (finds .passes) x y (finds .fits .P-most);
+        blocks-are = passes-blocks N t (finds .passes) x y (finds .fits .d-most);
+        flash-is = passes-flash N t (finds .passes) x y;
+        disk-is = passes-disk N t (finds .passes) x y;
+      }
+
+  pub sizes : Bytes addrs → Bytes blocks → (0 < b .rows) × (0 < b .slots) × (b .held ≤ b .rows) × (length addrs ≡ b .rows * 40) × (length blocks ≡ b .slots * 40) × (b .rows ≤ 1024) × (length disk ≡ b .blocks * b .size)
+  sizes x y = (finds .fits .m-least, finds .fits .d-least, rep x y .rows-are .few, finds .passes .lengths .addresses, finds .passes .lengths .blocks, finds .fits .m-most, finds .passes .lengths .disk)
+
+  pub block-fits : (l : List ℕ) → lentBlock q ≡ some l → length l ≡ b .size
+  block-fits l p =
+      let x = exactly (numbersOf b) (lent b disk flash addrs blocks k) q .gives-0 .0 e in
+      eqb-true (length l) (b .size) (not-false (eqb (length l) (b .size)) (sym (ap (wrongBlock (b .size)) p) ∙ or-false-right (wrongBuffers (numbersOf b) (lent b disk flash addrs blocks k)) (wrongBlock (b .size) (lentBlock q)) (x .1)))
+
+  pub address-fits : (a : ℕ) → addressOf q ≡ some a → a < b .blocks
+  address-fits a p =
+      let x = exactly (numbersOf b) (lent b disk flash addrs blocks k) q .gives-0 .0 e in
+      leb-false (b .blocks) a (sym (ap (outside (b .blocks)) p) ∙ x .2)
+
+  -- the paper's call, from what the steps leave, the word and the counts
+  pub finish : (w : CodeWord.Word) (said : Bool) (held f p r h : ℕ) (c : Code.Counters) (own disk′ flash′ addrs′ blocks′ block′ : List ℕ) (one : Option (List ℕ))
+      → k ≡ countersOf c
+      → _≡_ {A = Leaves} (record { yes = said; held = held; left = (record { flashed = f; primary = p; disk = disk′; flash = flash′; addrs = addrs′; blocks = blocks′ }); block = block′ }) (leaves b own (outcome (numbersOf b) (lent b disk flash addrs blocks k) q))
+      → wordOf w ≡ (outcome (numbersOf b) (lent b disk flash addrs blocks k) q) .word
+      → r ≡ oneIf (isRead (callOf (b .size) q))
+      → h ≡ oneIf (isHit ((outcome (numbersOf b) (lent b disk flash addrs blocks k) q) .word))
+      → one ≡ blockAfter q ((outcome (numbersOf b) (lent b disk flash addrs blocks k) q) .block)
+      → partAfter q ((outcome (numbersOf b) (lent b disk flash addrs blocks k) q) .block) ≡ []
+      → told (record { answer = Answered w f p; box_record = (record { size = b .size; blocks = b .blocks; rows = b .rows; slots = b .slots; held = held }); counters = added c r h f p }) disk′ flash′ addrs′ blocks′ one
+      ≡ called b (lent b disk flash addrs blocks k) q
+  unfolding leaves out4 addressesOf blocksOf lentOf served counted
+  finish w said held f p r h c own disk′ flash′ addrs′ blocks′ block′ one ek x ew er eh eo ep =
+      let N = numbersOf b in
+      let t = lent b disk flash addrs blocks k in
+      let last = sym (served-is N t q e) in
+      _∙_ {A = Told}
+      (λ i. record {
+        numbers = N;
+        after = record {
+          answer = answered (ew i) (x i .left .flashed) (x i .left .primary);
+          lent = record {
+            n = x i .held;
+            disk = x i .left .disk;
+            flash = x i .left .flash;
+            addresses = x i .left .addrs;
+            blocks = x i .left .blocks;
+            counters = record {
+              reads = sym ek i .reads + er i;
+              hits = sym ek i .hits + eh i;
+              flashWrites = sym ek i .flashWrites + x i .left .flashed;
+              primaryWrites = sym ek i .primaryWrites + x i .left .primary;
+            };
+          };
+          block = eo i;
+          part = sym ep i;
+        };
+      })
+      (λ i. record { numbers = N; after = last i })
+
+-- a refused call
+pub keep : (b : BoxRecord) (disk flash addrs blocks : List ℕ) (c : Code.Counters) (q : Ask) (number : ℕ) → number ≡ refusal (numbersOf b) (lent b disk flash addrs blocks (countersOf c)) (calling q) → (number ≡ 0 → ⊥)
+    → told (record { answer = Refused number; box_record = b; counters = c }) disk flash addrs blocks (lentBlock q) ≡ called b (lent b disk flash addrs blocks (countersOf c)) q
+unfolding Rattle.paper.specs.Lent.kept
+keep b disk flash addrs blocks c q number e n =
+    let N = numbersOf b in
+    let t = lent b disk flash addrs blocks (countersOf c) in
+    let last = sym (refused-keeps N t q (λ z. n (e ∙ z))) in
+    _∙_ {A = Told}
+    (λ i. record { numbers = N; after = record { answer = Rattle.paper.specs.Lent.refused (e i); lent = t; block = lentBlock q; part = [] } })
+    (λ i. record { numbers = N; after = last i })
+
+-- no counter is above 2 to the power 63
+pub few-counted : (c : Code.Counters) → over (countersOf c) ≡ false → (c .reads ≤ 2 ^ 63) × (c .hits ≤ 2 ^ 63) × (c .flash ≤ 2 ^ 63) × (c .primary ≤ 2 ^ 63)
+unfolding over
+few-counted c e =
+    let a = ltb (2 ^ 63) (c .reads) in
+    let b = ltb (2 ^ 63) (c .hits) in
+    let d = ltb (2 ^ 63) (c .flash) in
+    let f = ltb (2 ^ 63) (c .primary) in
+    let e₃ = or-false-left (a || b || d) f e in
+    let e₂ = or-false-left (a || b) d e₃ in (
+      ltb-false (2 ^ 63) (c .reads) (or-false-left a b e₂),
+      ltb-false (2 ^ 63) (c .hits) (or-false-right a b e₂),
+      ltb-false (2 ^ 63) (c .flash) (or-false-right (a || b) d e₃),
+      ltb-false (2 ^ 63) (c .primary) (or-false-right (a || b || d) f e),
+    )
+
+-- a call's own counts fit
+pub fitting : (c : Code.Counters) (rows r h f p : ℕ) → over (countersOf c) ≡ false → rows ≤ 1024 → r ≤ 1 → h ≤ 1 → f ≤ 1 → p ≤ 2 + rows
+    → (c .reads + r < 2 ^ 64) × (c .hits + h < 2 ^ 64) × (c .flash + f < 2 ^ 64) × (c .primary + p < 2 ^ 64)
+fitting c rows r h f p e l lr lh lf lp =
+    let x = few-counted c e in
+    let x0 = x .0 in
+    let x1 = x .1 in
+    let x2 = x .2 in
+    let x3 = x .3 in
+    (omega arith, omega arith, omega arith, omega arith)
+
+-- ---- the words
+
+or-new : (b : Bool) → _≡_ {A = Word} (cond b sameBlock newBlock) (cond (isYes (cond b sameBlock newBlock)) sameBlock newBlock)
+or-new true = refl
+or-new false = refl
+
+module _ (B m : ℕ) (s : Box (Fixed 32) (Fixed B)) (a : ℕ) where
+  -- a read's word is hit or miss
+  pub read-says : (serve (engine B) m s (Call.read a)) .word ≡ cond (isYes ((serve (engine B) m s (Call.read a)) .word)) hit miss
+  unfolding serve readAs answer
+  read-says = go (rowWithBlock (engine B) s a)
+    where
+      go : (o : Option (AddressRow (Fixed 32))) → (readAs (engine B) m s a o) .word ≡ cond (isYes ((readAs (engine B) m s a o) .word)) hit miss
+      go (some r) = refl
+      go none = refl
+
+  -- a write's word is same or new
+  pub through-says : (x : Fixed B) → (serve (engine B) m s (Call.through a x)) .word ≡ cond (isYes ((serve (engine B) m s (Call.through a x)) .word)) sameBlock newBlock
+  unfolding serve writeThrough answer
+  through-says x = or-new (cached (engine B) (engine B .hash x) (s .used))
+
+  pub back-says : (x : Fixed B) → (serve (engine B) m s (Call.back a x)) .word ≡ cond (isYes ((serve (engine B) m s (Call.back a x)) .word)) sameBlock newBlock
+  unfolding serve writeBack answer
+  back-says x = or-new (cached (engine B) (engine B .hash x) (s .used))
+
+  pub invalidate-says : (x : Fixed B) → (serve (engine B) m s (Call.invalidate a x)) .word ≡ cond (isYes ((serve (engine B) m s (Call.invalidate a x)) .word)) sameBlock newBlock
+  unfolding serve writeInvalidate
+  invalidate-says x = or-new (cached (engine B) (engine B .hash x) (s .used))
+
+-- a word that is one of two, from what the code says of it
+pub said-is : (w u v : Word) (said : Bool) → w ≡ cond (isYes w) u v → said ≡ isYes w → cond said u v ≡ w
+said-is w u v said e f = ap (λ b. cond b u v) f ∙ sym e
+
+-- a hit is counted
+pub hit-counted : (w : Word) (said : Bool) → w ≡ cond (isYes w) hit miss → said ≡ isYes w → cond said 1 0 ≡ oneIf (isHit w)
+hit-counted w true e f = sym (ap (λ u. oneIf (isHit u)) (e ∙ ap (λ b. cond b hit miss) (sym f)))
+hit-counted w false e f = sym (ap (λ u. oneIf (isHit u)) (e ∙ ap (λ b. cond b hit miss) (sym f)))
+
+-- a write is no hit
+pub no-hit : (w : Word) → w ≡ cond (isYes w) sameBlock newBlock → 0 ≡ oneIf (isHit w)
+no-hit w e = go (isYes w) e
+  where
+    go : (b : Bool) → w ≡ cond b sameBlock newBlock → 0 ≡ oneIf (isHit w)
+    go true e = sym (ap (λ u. oneIf (isHit u)) e)
+    go false e = sym (ap (λ u. oneIf (isHit u)) e)
+
+-- the lent block after a read
+pub read-block : {B : ℕ} (a : ℕ) (l : List ℕ) (o : Option (Fixed B)) → some (returned o l) ≡ blockAfter (Ask.read a l) o
+read-block a l (some x) = refl
+read-block a l none = refl
+
+pub one-le : (said : Bool) (n : ℕ) → n ≡ cond said 1 0 → n ≤ 1
+one-le true n e = omega arith
+one-le false n e = omega arith
+
+-- the word and the block that the steps leave
+module _ (b : BoxRecord) (own : List ℕ) (o : Outcome (Fixed 32) (Fixed (b .size))) {said : Bool} {held : ℕ} {left : Out4} {block : List ℕ} (x : _≡_ {A = Leaves} (record { yes = said; held = held; left = left; block = block }) (leaves b own o)) where
+  pub yes-of : said ≡ isYes (o .word)
+  unfolding leaves
+  yes-of = ap (λ y. y .yes) x
+
+  pub block-of : block ≡ returned (o .block) own
+  unfolding leaves
+  block-of = ap (λ y. y .block) x
+
+-- ---- the writes
+
+-- the four accesses have one refusal
+module _ (N : Numbers) (t : Lent) (a : ℕ) (l : List ℕ) where
+  pub through-refused : refusal N t (calling (Ask.read a l)) ≡ refusal N t (calling (Ask.through a l))
+  unfolding refusal
+  through-refused = refl
+
+  pub back-refused : refusal N t (calling (Ask.read a l)) ≡ refusal N t (calling (Ask.back a l))
+  unfolding refusal
+  back-refused = refl
+
+  pub invalidate-refused : refusal N t (calling (Ask.read a l)) ≡ refusal N t (calling (Ask.invalidate a l))
+  unfolding refusal
+  invalidate-refused = refl
+
+-- a write, from what its steps leave
+module _ (b : BoxRecord) (disk flash addrs blocks : List ℕ) (c : Code.Counters) (q : Ask) (e : refusal (numbersOf b) (lent b disk flash addrs blocks (countersOf c)) (calling q) ≡ 0) where
+  pub written : (w : CodeWord.Word) (said : Bool) (held f p : ℕ) (own disk′ flash′ addrs′ blocks′ block′ : List ℕ) (one : Option (List ℕ))
+      → _≡_ {A = Leaves} (record { yes = said; held = held; left = (record { flashed = f; primary = p; disk = disk′; flash = flash′; addrs = addrs′; blocks = blocks′ }); block = block′ }) (leaves b own (outcome (numbersOf b) (lent b disk flash addrs blocks (countersOf c)) q))
+      → wordOf w ≡ cond said sameBlock newBlock
+      → (outcome (numbersOf b) (lent b disk flash addrs blocks (countersOf c)) q) .word ≡ cond (isYes ((outcome (numbersOf b) (lent b disk flash addrs blocks (countersOf c)) q) .word)) sameBlock newBlock
+      → isRead (callOf (b .size) q) ≡ false
+      → one ≡ blockAfter q ((outcome (numbersOf b) (lent b disk flash addrs blocks (countersOf c)) q) .block)
+      → partAfter q ((outcome (numbersOf b) (lent b disk flash addrs blocks (countersOf c)) q) .block) ≡ []
+      → told (record { answer = Answered w f p; box_record = (record { size = b .size; blocks = b .blocks; rows = b .rows; slots = b .slots; held = held }); counters = added c 0 0 f p }) disk′ flash′ addrs′ blocks′ one
+      ≡ called b (lent b disk flash addrs blocks (countersOf c)) q
+  written w said held f p own disk′ flash′ addrs′ blocks′ block′ one x ew says er eo ep =
+      let o = outcome (numbersOf b) (lent b disk flash addrs blocks (countersOf c)) q in
+      finish b disk flash addrs blocks (countersOf c) q e w said held f p 0 0 c own disk′ flash′ addrs′ blocks′ block′ one refl x
+      (ew ∙ said-is (o .word) sameBlock newBlock said says (yes-of b own o x)) (sym (ap oneIf er)) (no-hit (o .word) says) eo ep

@@ -1,0 +1,78 @@
+-- Where the refusal is 0 the lent bytes are those of a sound box, and what the copies leave is the paper's flush. Assumes nothing.
+use mathlib.Core.Path.{_≡_, refl, sym, ap, _∙_}
+use mathlib.Core.List.{[]}
+use mathlib.Core.Option.{none}
+use Prim.Native.Nat.{ℕ}
+use native.Mathlib.Omega.{arith}
+use borrow.Author.Needs.{needs}
+use Rattle.paper.specs.Cache.{serve, flushed}
+use Rattle.paper.specs.Lent.{Ask, calling, refusal, callOf, boxIn}
+use Rattle.paper.specs.CallLaws.{served-finds}
+use Rattle.policy.specs.declared.Word.the-variants.{Done}
+use Rattle.policy.specs.Contract.{numbersOf, countersOf, lent, told}
+use Rattle.policy.proofs.Calling.{all-bytes, rep, sizes, finish, keep, fitting}
+use Rattle.policy.proofs.calls.flush.Statement.{statement}
+use Rattle.policy.proofs.calls.flush.Tie as tie
+
+-- the refusal is 0
+zero : (c : tie.Else1) → (let a = c .before .before .before .before .before .before .before .before .args in refusal (numbersOf (a .b)) (lent (a .b) (a .disk .now) (a .flash .now) (a .addresses .now) (a .blocks .now) (countersOf (a .c))) (calling Ask.flush) ≡ 0)
+zero c = sym (c .before .of-flush .ensures) ∙ c .if1 .left
+
+returns : tie.Need-returns
+returns c =
+    let x = c .before .before in
+    let a = x .before .before .before .before .before .before .before .args in
+    ap (λ r. told r (a .disk .now) (a .flash .now) (a .addresses .now) (a .blocks .now) none) (c .refused .ensures)
+    ∙ keep (a .b) (a .disk .now) (a .flash .now) (a .addresses .now) (a .blocks .now) (a .c) Ask.flush (x .of-flush .result) (x .of-flush .ensures) (c .before .if1 .taken)
+
+serve-flush-requires : tie.Need-serve-flush-requires
+serve-flush-requires c κs =
+    let e = c .before .before in
+    let s = e .before .before .before .before in
+    let a = s .before .before .before .before .args in
+    let z = zero e in
+    let x = all-bytes (a .addresses .now) (λ i. omega (arith, s .before .slice-known2 .given i)) in
+    let y = all-bytes (a .blocks .now) (λ i. omega (arith, s .shared-slice-known2 .given i)) in
+    let k = countersOf (a .c) in
+    let l = sizes (a .b) (a .disk .now) (a .flash .now) (a .addresses .now) (a .blocks .now) k Ask.flush z x y in
+    ((l .1, l .2, l .3, l .4), (boxIn (numbersOf (a .b)) (lent (a .b) (a .disk .now) (a .flash .now) (a .addresses .now) (a .blocks .now) k), rep (a .b) (a .disk .now) (a .flash .now) (a .addresses .now) (a .blocks .now) k Ask.flush z x y))
+
+answered-requires : tie.Need-answered-requires
+answered-requires c κs =
+    let r = c .before .before .before .before in
+    let e = r .before .before .before in
+    let a = e .before .before .before .before .before .before .before .before .args in
+    let o = served-finds (numbersOf (a .b)) (lent (a .b) (a .disk .now) (a .flash .now) (a .addresses .now) (a .blocks .now) (countersOf (a .c))) Ask.flush (zero e) in
+    fitting (a .c) (a .b .rows) 0 0 (r .serve-flush .result .flashed) (r .serve-flush .result .primary) (o .counters) (o .fits .m-most) (omega arith) (omega arith) (r .serve-flush .ensures .0 .0) (r .serve-flush .ensures .0 .1)
+
+returns-2 : tie.Need-returns-2
+unfolding callOf serve flushed
+returns-2 c =
+    let r = c .before .before .before .before .before in
+    let e = r .before .before .before in
+    let s = e .before .before .before .before in
+    let a = s .before .before .before .before .args in
+    let z = zero e in
+    let x = all-bytes (a .addresses .now) (λ i. omega (arith, s .before .slice-known2 .given i)) in
+    let y = all-bytes (a .blocks .now) (λ i. omega (arith, s .shared-slice-known2 .given i)) in
+    let k = countersOf (a .c) in
+    let box = boxIn (numbersOf (a .b)) (lent (a .b) (a .disk .now) (a .flash .now) (a .addresses .now) (a .blocks .now) k) in
+    let left = r .serve-flush .ensures .1 box [] (rep (a .b) (a .disk .now) (a .flash .now) (a .addresses .now) (a .blocks .now) k Ask.flush z x y) in
+    let o = r .serve-flush .result in
+    rw (c .answered .ensures)
+    (finish (a .b) (a .disk .now) (a .flash .now) (a .addresses .now) (a .blocks .now) k Ask.flush z Done (o .yes) (o .held) (o .flashed) (o .primary) 0 0 (a .c) [] _ _ _ _ [] none refl left refl refl refl refl refl)
+
+pub flush-spec : {M : Type 1} → statement M
+flush-spec =
+    tie.close
+    (tie.spec
+    (λ c κs. search needs)
+    (λ c κs. search needs)
+    (λ c. search needs)
+    (λ c. search needs)
+    returns
+    serve-flush-requires
+    answered-requires
+    (λ c. search needs)
+    (λ c. search needs)
+    returns-2)

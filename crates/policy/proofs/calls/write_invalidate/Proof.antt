@@ -1,0 +1,103 @@
+-- Where the refusal is 0 the lent bytes are those of a sound box, and what the steps leave is the paper's call. Assumes nothing.
+use mathlib.Core.Path.{_≡_, refl, sym, ap, _∙_}
+use mathlib.Core.Option.{some}
+use Prim.Native.Nat.{ℕ}
+use native.Mathlib.Omega.{arith}
+use borrow.Author.Needs.{needs}
+use Rattle.paper.specs.Engine.{fit}
+use Rattle.paper.specs.Lent.{Ask, calling, refusal, callOf, boxIn}
+use Rattle.paper.specs.CallLaws.{served-finds}
+use Rattle.policy.specs.Contract.{numbersOf, countersOf, lent, told}
+use Rattle.policy.proofs.Calling.{all-bytes, fit-is, sure, rep, sizes, block-fits, address-fits, keep, fitting, invalidate-says, invalidate-refused, written}
+use Rattle.policy.proofs.calls.write_invalidate.Statement.{statement}
+use Rattle.policy.proofs.calls.write_invalidate.Tie as tie
+
+-- the refusal is 0
+zero : (c : tie.Else1) → (let a = c .before .before .before .before .before .before .before .before .before .before .args in refusal (numbersOf (a .b)) (lent (a .b) (a .disk .now) (a .flash .now) (a .addresses .now) (a .blocks .now) (countersOf (a .c))) (calling (Ask.invalidate (a .a .0) (a .block .now))) ≡ 0)
+zero c =
+    let a = c .before .before .before .before .before .before .before .before .before .before .args in
+    sym (invalidate-refused (numbersOf (a .b)) (lent (a .b) (a .disk .now) (a .flash .now) (a .addresses .now) (a .blocks .now) (countersOf (a .c))) (a .a .0) (a .block .now)) ∙ sym (c .before .of-access .ensures) ∙ c .if1 .left
+
+returns : tie.Need-returns
+returns c =
+    let x = c .before .before in
+    let a = x .before .before .before .before .before .before .before .before .before .args in
+    ap (λ r. told r (a .disk .now) (a .flash .now) (a .addresses .now) (a .blocks .now) (some (a .block .now))) (c .refused .ensures)
+    ∙ keep (a .b) (a .disk .now) (a .flash .now) (a .addresses .now) (a .blocks .now) (a .c) (Ask.invalidate (a .a .0) (a .block .now)) (x .of-access .result) (x .of-access .ensures ∙ invalidate-refused (numbersOf (a .b)) (lent (a .b) (a .disk .now) (a .flash .now) (a .addresses .now) (a .blocks .now) (countersOf (a .c))) (a .a .0) (a .block .now)) (c .before .if1 .taken)
+
+serve-invalidate-requires : tie.Need-serve-invalidate-requires
+serve-invalidate-requires c κs =
+    let e = c .before .before .before in
+    let s = e .before .before .before .before .before .before in
+    let a = s .before .before .before .before .args in
+    let z = zero e in
+    let x = all-bytes (a .addresses .now) (λ i. omega (arith, s .before .slice-known2 .given i)) in
+    let y = all-bytes (a .blocks .now) (λ i. omega (arith, s .slice-known3 .given i)) in
+    let q = Ask.invalidate (a .a .0) (a .block .now) in
+    let k = countersOf (a .c) in
+    let l = sizes (a .b) (a .disk .now) (a .flash .now) (a .addresses .now) (a .blocks .now) k q z x y in (
+      (
+        l .0,
+        l .1,
+        l .2,
+        l .3,
+        l .4,
+        block-fits (a .b) (a .disk .now) (a .flash .now) (a .addresses .now) (a .blocks .now) k q z (a .block .now) refl,
+        address-fits (a .b) (a .disk .now) (a .flash .now) (a .addresses .now) (a .blocks .now) k q z (a .a .0) refl,
+        l .5,
+        l .6,
+      ),
+      (
+        boxIn (numbersOf (a .b)) (lent (a .b) (a .disk .now) (a .flash .now) (a .addresses .now) (a .blocks .now) k),
+        a .flash .now,
+        rep (a .b) (a .disk .now) (a .flash .now) (a .addresses .now) (a .blocks .now) k q z x y,
+        sure (a .b) (a .disk .now) (a .flash .now) (a .addresses .now) (a .blocks .now) k q z,
+      ),
+    )
+
+answered-requires : tie.Need-answered-requires
+answered-requires c κs =
+    let r = c .before .before .before .before .before .before .before in
+    let e = r .before .before .before .before in
+    let a = e .before .before .before .before .before .before .before .before .before .before .args in
+    let o = served-finds (numbersOf (a .b)) (lent (a .b) (a .disk .now) (a .flash .now) (a .addresses .now) (a .blocks .now) (countersOf (a .c))) (Ask.invalidate (a .a .0) (a .block .now)) (zero e) in
+    fitting (a .c) (a .b .rows) 0 0 (r .serve-invalidate .result .flashed) (r .serve-invalidate .result .primary) (o .counters) (o .fits .m-most) (omega arith) (omega arith) (r .serve-invalidate .ensures .0 .0) (r .serve-invalidate .ensures .0 .1)
+
+returns-2 : tie.Need-returns-2
+unfolding callOf
+returns-2 c =
+    let r = c .before .before .before .before .before .before .before .before in
+    let e = r .before .before .before .before in
+    let s = e .before .before .before .before .before .before in
+    let a = s .before .before .before .before .args in
+    let z = zero e in
+    let x = all-bytes (a .addresses .now) (λ i. omega (arith, s .before .slice-known2 .given i)) in
+    let y = all-bytes (a .blocks .now) (λ i. omega (arith, s .slice-known3 .given i)) in
+    let l = a .block .now in
+    let q = Ask.invalidate (a .a .0) (a .block .now) in
+    let k = countersOf (a .c) in
+    let box = boxIn (numbersOf (a .b)) (lent (a .b) (a .disk .now) (a .flash .now) (a .addresses .now) (a .blocks .now) k) in
+    let b = fit (a .b .size) l in
+    let left = r .serve-invalidate .ensures .1 box (a .flash .now) b (rep (a .b) (a .disk .now) (a .flash .now) (a .addresses .now) (a .blocks .now) k q z x y) (sure (a .b) (a .disk .now) (a .flash .now) (a .addresses .now) (a .blocks .now) k q z) (fit-is (a .b .size) l (block-fits (a .b) (a .disk .now) (a .flash .now) (a .addresses .now) (a .blocks .now) k q z l refl)) in
+    let o = r .serve-invalidate .result in
+    rw (c .answered .ensures)
+    (written (a .b) (a .disk .now) (a .flash .now) (a .addresses .now) (a .blocks .now) (a .c) q z (c .before .write-word .result) (o .yes) (o .held) (o .flashed) (o .primary) l _ _ _ _ l (some l) left
+    (c .before .write-word .ensures) (invalidate-says (a .b .size) (a .b .rows) box (a .a .0) b) refl refl refl)
+
+pub write-invalidate-spec : {M : Type 1} → statement M
+write-invalidate-spec =
+    tie.close
+    (tie.spec
+    (λ c κs. search needs)
+    (λ c κs. search needs)
+    (λ c. search needs)
+    (λ c. search needs)
+    (λ c. search needs)
+    returns
+    serve-invalidate-requires
+    (λ c κs. search needs)
+    answered-requires
+    (λ c. search needs)
+    (λ c. search needs)
+    (λ c. search needs)
+    returns-2)

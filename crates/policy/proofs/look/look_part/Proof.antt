@@ -1,0 +1,71 @@
+-- By the place, whose bytes are there. Assumes nothing.
+use mathlib.Core.Path.{sym, ap, _∙_, subst}
+use native.Mathlib.Omega.{arith}
+use borrow.Author.Needs.{needs}
+use Rattle.paper.specs.Cache.{noCounts}
+use Rattle.paper.specs.RowBytes.{Bytes}
+use Rattle.policy.specs.Look.{partAt}
+use Rattle.policy.proofs.Calling.{all-bytes}
+use Rattle.policy.proofs.Looking.{PartIn, where-in, look-returns}
+use Rattle.policy.proofs.look.look_part.Statement.{statement}
+use Rattle.policy.proofs.look.look_part.Tie as tie
+
+abbrev start : tie.After-shared-slice-known4 → tie.Start
+start c = c .before .before .before .before
+
+bytesA : (c : tie.After-shared-slice-known4) → Bytes (start c .args .addresses .now)
+bytesA c = all-bytes (start c .args .addresses .now) (λ i. omega (arith, c .before .shared-slice-known3 .given i))
+
+bytesB : (c : tie.After-shared-slice-known4) → Bytes (start c .args .blocks .now)
+bytesB c = all-bytes (start c .args .blocks .now) (λ i. omega (arith, c .shared-slice-known4 .given i))
+
+-- the place's bytes are there
+in-place : (c : tie.After-place-of) → (let a = start (c .before) .args in PartIn (a .b) (a .flash .now) (a .disk .now) (a .a .0) (c .place-of .result))
+in-place c =
+    let a = start (c .before) .args in
+    subst (PartIn (a .b) (a .flash .now) (a .disk .now) (a .a .0)) (sym (c .place-of .ensures noCounts)) (where-in (a .b) (a .disk .now) (a .flash .now) (a .addresses .now) (a .blocks .now) noCounts (a .a .0) (bytesA (c .before)) (bytesB (c .before)))
+
+block-of-requires : tie.Need-block-of-requires
+block-of-requires c κs =
+    let s = c .before in
+    let p = s .before .before in
+    let a = start (p .before) .args in
+    subst (PartIn (a .b) (a .flash .now) (a .disk .now) (a .a .0)) (s .s .given .1) (in-place p)
+
+block-of-requires-2 : tie.Need-block-of-requires-2
+block-of-requires-2 c κs =
+    let p = c .before .before in
+    let a = start (p .before) .args in
+    subst (PartIn (a .b) (a .flash .now) (a .disk .now) (a .a .0)) (c .enum-told2 .given .1) (in-place p)
+
+returns : tie.Need-returns
+unfolding partAt
+returns c k =
+    let e = c .before in
+    let p = e .before .before in
+    let h = p .before in
+    let a = start h .args in
+    ap (partAt (a .b .size) (a .a .0) (a .flash .now) (a .disk .now)) (sym (e .enum-told .given .1) ∙ p .place-of .ensures k) ∙ look-returns (a .b) (a .disk .now) (a .flash .now) (a .addresses .now) (a .blocks .now) k (a .a .0) (bytesA h) (bytesB h)
+
+returns-2 : tie.Need-returns-2
+unfolding partAt
+returns-2 c k =
+    let s = c .before .before in
+    let p = s .before .before in
+    let h = p .before in
+    let a = start h .args in
+    c .block-of .ensures ∙ ap (partAt (a .b .size) (a .a .0) (a .flash .now) (a .disk .now)) (sym (s .s .given .1) ∙ p .place-of .ensures k) ∙ look-returns (a .b) (a .disk .now) (a .flash .now) (a .addresses .now) (a .blocks .now) k (a .a .0) (bytesA h) (bytesB h)
+
+returns-3 : tie.Need-returns-3
+unfolding partAt
+returns-3 c k =
+    let e = c .before in
+    let p = e .before .before in
+    let h = p .before in
+    let a = start h .args in
+    c .block-of2 .ensures ∙ ap (partAt (a .b .size) (a .a .0) (a .flash .now) (a .disk .now)) (sym (e .enum-told2 .given .1) ∙ p .place-of .ensures k) ∙ look-returns (a .b) (a .disk .now) (a .flash .now) (a .addresses .now) (a .blocks .now) k (a .a .0) (bytesA h) (bytesB h)
+
+pub look-part-spec : {M : Type 1} → statement M
+look-part-spec =
+    tie.close
+    (tie.spec (λ c κs. search needs) (λ c. search needs) (λ c. search needs) (λ c. search needs) (λ c. search needs) (λ c. search needs) (λ c. search needs) block-of-requires (λ c. search needs) (λ c. search needs) block-of-requires-2 returns returns-2 returns-3)

@@ -1,0 +1,52 @@
+-- Each test in turn: what the opening's check gives, then the lent block, the address, the tables and the counters. Assumes nothing.
+use mathlib.Core.Path.{sym, _∙_}
+use borrow.Author.Needs.{needs}
+use Rattle.paper.specs.Lent.{Ask}
+use Rattle.policy.specs.Contract.{numbersOf, countersOf, lent}
+use Rattle.policy.proofs.Refusing.{Opens, opens-with, refused-first, access-2, access-3, access-rest}
+use Rattle.policy.proofs.refusals.of_access.Statement.{statement}
+use Rattle.policy.proofs.refusals.of_access.Tie as tie
+
+abbrev start : tie.Else1 → tie.Start
+start c = c .before .before .before .before .before .before .before
+
+-- what the first check leaves
+opens : (c : tie.Else1) → (let a = start c .args in Opens (a .b) (a .disk .now) (a .flash .now) (a .addresses .now) (a .blocks .now) (countersOf (a .c)))
+opens c =
+    let a = start c .args in
+    opens-with (a .b) (a .disk .now) (a .flash .now) (a .addresses .now) (a .blocks .now) (countersOf (a .c)) (sym (c .before .of-opening .ensures (countersOf (a .c))) ∙ c .if1 .left)
+
+returns : tie.Need-returns
+returns c =
+    let a = c .before .before .before .before .before .before .before .args in
+    let e = c .before .of-opening .ensures (countersOf (a .c)) in
+    e ∙ refused-first (numbersOf (a .b)) (lent (a .b) (a .disk .now) (a .flash .now) (a .addresses .now) (a .blocks .now) (countersOf (a .c))) (Ask.read (a .a .0) (a .block .now)) (λ z. c .if1 .taken (e ∙ z))
+
+returns-2 : tie.Need-returns-2
+returns-2 c =
+    let e = c .before .before in
+    let a = start e .args in
+    access-2 (a .b) (a .disk .now) (a .flash .now) (a .addresses .now) (a .blocks .now) (countersOf (a .c)) (opens e) (a .a .0) (a .block .now) (c .if2 .taken)
+
+returns-3 : tie.Need-returns-3
+returns-3 c =
+    let f = c .before .before in
+    let e = f .before .before in
+    let a = start e .args in
+    access-3 (a .b) (a .disk .now) (a .flash .now) (a .addresses .now) (a .blocks .now) (countersOf (a .c)) (opens e) (a .a .0) (a .block .now) (f .if2 .left) (sym (c .before .address-outside .ensures) ∙ c .if3 .taken)
+
+of-state-requires : tie.Need-of-state-requires
+of-state-requires c κs =
+    let o = opens (c .before .before .before .before) in
+    (o .most .blocks, o .most .rows, o .most .slots, o .lengths .addresses, o .lengths .blocks)
+
+returns-4 : tie.Need-returns-4
+returns-4 c =
+    let g = c .before in
+    let f = g .before .before in
+    let e = f .before .before in
+    let a = start e .args in
+    c .of-state .ensures ∙ access-rest (a .b) (a .disk .now) (a .flash .now) (a .addresses .now) (a .blocks .now) (countersOf (a .c)) (opens e) (a .a .0) (a .block .now) (f .if2 .left) (sym (g .before .address-outside .ensures) ∙ g .if3 .left)
+
+pub of-access-spec : {M : Type 1} → statement M
+of-access-spec = tie.close (tie.spec (λ c κs. search needs) returns returns-2 (λ c κs. search needs) returns-3 of-state-requires returns-4)

@@ -1,0 +1,37 @@
+-- What the opening's check gives, then the tables and the counters; a flush has no 3. Assumes nothing.
+use mathlib.Core.Path.{sym, _∙_}
+use borrow.Author.Needs.{needs}
+use Rattle.paper.specs.Lent.{Ask}
+use Rattle.policy.specs.Contract.{numbersOf, countersOf, lent}
+use Rattle.policy.proofs.Refusing.{Opens, opens-with, refused-first, flush-rest}
+use Rattle.policy.proofs.refusals.of_flush.Statement.{statement}
+use Rattle.policy.proofs.refusals.of_flush.Tie as tie
+
+abbrev start : tie.Else1 → tie.Start
+start c = c .before .before .before .before .before .before
+
+-- what the first check leaves
+opens : (c : tie.Else1) → (let a = start c .args in Opens (a .b) (a .disk .now) (a .flash .now) (a .addresses .now) (a .blocks .now) (countersOf (a .c)))
+opens c =
+    let a = start c .args in
+    opens-with (a .b) (a .disk .now) (a .flash .now) (a .addresses .now) (a .blocks .now) (countersOf (a .c)) (sym (c .before .of-opening .ensures (countersOf (a .c))) ∙ c .if1 .left)
+
+returns : tie.Need-returns
+returns c =
+    let a = c .before .before .before .before .before .before .args in
+    let e = c .before .of-opening .ensures (countersOf (a .c)) in
+    e ∙ refused-first (numbersOf (a .b)) (lent (a .b) (a .disk .now) (a .flash .now) (a .addresses .now) (a .blocks .now) (countersOf (a .c))) Ask.flush (λ z. c .if1 .taken (e ∙ z))
+
+of-state-requires : tie.Need-of-state-requires
+of-state-requires c κs =
+    let o = opens c in
+    (o .most .blocks, o .most .rows, o .most .slots, o .lengths .addresses, o .lengths .blocks)
+
+returns-2 : tie.Need-returns-2
+returns-2 c =
+    let e = c .before in
+    let a = start e .args in
+    c .of-state .ensures ∙ flush-rest (a .b) (a .disk .now) (a .flash .now) (a .addresses .now) (a .blocks .now) (countersOf (a .c)) (opens e)
+
+pub of-flush-spec : {M : Type 1} → statement M
+of-flush-spec = tie.close (tie.spec (λ c κs. search needs) returns of-state-requires returns-2)

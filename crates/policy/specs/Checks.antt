@@ -1,0 +1,31 @@
+-- The parts of a refusal that the checks go through. Assumes nothing.
+use mathlib.Core.Bool.{Bool, not, _||_, cond}
+use mathlib.Core.List.{List, [], _∷_}
+use Prim.Native.Nat.{ℕ, _*_}
+use lib.Dec.{eqb}
+use Rattle.tables.specs.Unsound.{addressesUnsound, blocksUnsound, dirtyUncached}
+use Rattle.paper.specs.Cache.{Counters}
+use Rattle.paper.specs.Lent.{over}
+use Rattle.policy.specs.declared.BoxRecord.{BoxRecord}
+
+-- the block sizes
+abbrev pub sizes : List ℕ
+sizes = 64 ∷ 128 ∷ 256 ∷ 512 ∷ 1024 ∷ 2048 ∷ 4096 ∷ []
+
+-- a length of the four buffers is another than the box's
+unfoldable pub wrongLengths : BoxRecord → (disk flash addresses blocks : ℕ) → Bool
+wrongLengths b disk flash addresses blocks =
+    not (eqb disk (b .blocks * b .size)) || not (eqb flash (b .slots * b .size)) || not (eqb addresses (b .rows * 40)) || not (eqb blocks (b .slots * 40))
+
+-- the first of 6, 7 and 8, 0 for none
+unfoldable pub tablesRefusal : BoxRecord → (addresses blocks : List ℕ) → ℕ
+tablesRefusal b addresses blocks =
+    cond (addressesUnsound (b .blocks) (b .rows) (b .held) addresses) 6 (cond (blocksUnsound (b .slots) blocks) 7 (cond (dirtyUncached (b .held) (b .slots) addresses blocks) 8 0))
+
+-- the first of 6, 7, 8 and 9, 0 for none
+unfoldable pub stateRefusal : BoxRecord → (addresses blocks : List ℕ) → Counters → ℕ
+stateRefusal b addresses blocks k =
+    cond (addressesUnsound (b .blocks) (b .rows) (b .held) addresses) 6
+    (cond (blocksUnsound (b .slots) blocks) 7
+    (cond (dirtyUncached (b .held) (b .slots) addresses blocks) 8
+    (cond (over k) 9 0)))

@@ -1,0 +1,78 @@
+-- What the calls promise: the code's types in the paper's words.
+-- Assumes nothing.
+use mathlib.Core.List.{List, []}
+use mathlib.Core.Option.{Option}
+use Prim.Native.Nat.{ℕ}
+use Rattle.counters.specs.declared.Counters as Code
+use Rattle.policy.specs.declared.BoxRecord.{BoxRecord}
+use Rattle.policy.specs.declared.Word as CodeWord
+use Rattle.policy.specs.declared.Word.the-variants.{Hit, Miss, Same, New, Cache, Disk, Done}
+use Rattle.policy.specs.declared.Answer as CodeAnswer
+use Rattle.policy.specs.declared.Answer.the-variants.{Refused, Answered}
+use Rattle.policy.specs.declared.calls.Outcome.{Outcome}
+use Rattle.policy.specs.declared.open.Opening.{Opening}
+use Rattle.policy.specs.declared.open.Opening.the-variants.{Refused as OpeningRefused, Open}
+use Rattle.policy.specs.declared.open.Begun.{Begun}
+use Rattle.paper.specs.Cache.{Counters, Word, hit, miss, sameBlock, newBlock, fromCache, fromDisk, done}
+use Rattle.paper.specs.Lent.{Numbers, Lent, Ask, Answer, refused, answered, After, call, opening, refusal, opened}
+
+-- the four numbers of a box record
+abbrev pub numbersOf : BoxRecord → Numbers
+numbersOf b = record { B = b .size; P = b .blocks; m = b .rows; d = b .slots }
+
+abbrev pub countersOf : Code.Counters → Counters
+countersOf c = record { reads = c .reads; hits = c .hits; flashWrites = c .flash; primaryWrites = c .primary }
+
+-- what is lent: the box record's n, the buffers and the counters
+abbrev pub lent : BoxRecord → (disk flash addresses blocks : List ℕ) → Counters → Lent
+lent b disk flash addresses blocks k = record { n = b .held; disk = disk; flash = flash; addresses = addresses; blocks = blocks; counters = k }
+
+-- "Where an answer is an enum, the promises use a definition. That definition gives this paper's number and values for each of the enum's cases."
+abbrev pub wordOf : CodeWord.Word → Word
+wordOf Hit = hit
+wordOf Miss = miss
+wordOf Same = sameBlock
+wordOf New = newBlock
+wordOf Cache = fromCache
+wordOf Disk = fromDisk
+wordOf Done = done
+
+abbrev pub answerOf : CodeAnswer.Answer → Answer
+answerOf (Refused k) = refused k
+answerOf (Answered w f p) = answered (wordOf w) f p
+
+-- what a call tells and leaves: the numbers of its box record, its answer, what is lent, the one block and a look's part
+pub record Told : Type 0 where
+  pub numbers : Numbers
+  pub after : After
+
+abbrev pub told : Outcome → (disk flash addresses blocks : List ℕ) → Option (List ℕ) → Told
+told r disk flash addresses blocks block =
+    record {
+      numbers = numbersOf (r .box_record);
+      after = record { answer = answerOf (r .answer); lent = lent (r .box_record) disk flash addresses blocks (countersOf (r .counters)); block = block; part = [] };
+    }
+
+-- the paper's call on what is lent
+abbrev pub called : BoxRecord → Lent → Ask → Told
+called b t q = record { numbers = numbersOf b; after = call (numbersOf b) t q }
+
+-- ---- opening
+
+abbrev pub numberOf : Opening → ℕ
+numberOf (OpeningRefused k) = k
+numberOf Open = 0
+
+-- what an opening tells and leaves: its number, 0 where the box is open, the numbers of the box record, and what is lent
+pub record Opened : Type 0 where
+  pub number : ℕ
+  pub numbers : Numbers
+  pub lent : Lent
+
+abbrev pub begun : Begun → (disk flash addresses blocks : List ℕ) → Opened
+begun r disk flash addresses blocks = record { number = numberOf (r .answer); numbers = numbersOf (r .box_record); lent = lent (r .box_record) disk flash addresses blocks (countersOf (r .counters)) }
+
+abbrev pub opens : BoxRecord → (disk flash addresses blocks : List ℕ) → Counters → Opened
+opens b disk flash addresses blocks k =
+    let t = lent b disk flash addresses blocks k in
+    record { number = refusal (numbersOf b) t opening; numbers = numbersOf b; lent = opened (numbersOf b) t }

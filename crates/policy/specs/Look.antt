@@ -1,0 +1,33 @@
+-- Where a look finds the block of an address. Assumes nothing.
+use mathlib.Core.Bool.{cond}
+use mathlib.Core.List.{List, []}
+use mathlib.Core.Option.{Option, none, some}
+use Prim.Native.Nat.{ℕ, _*_}
+use lib.Dec.{eqb}
+use Rattle.block.specs.Blocks.{part}
+use Rattle.paper.specs.Cache.{AddressRow, BlockRow, fromCache, fromDisk, rowWithBlock, slotOf}
+use Rattle.paper.specs.Engine.{Fixed, engine}
+use Rattle.paper.specs.Lent.{Numbers, Lent, Ask, calling, refusal, boxIn, Answer, refused, answered}
+use Rattle.policy.specs.declared.look.Place.{Place}
+use Rattle.policy.specs.declared.look.Place.the-variants.{Refused, Flash, Disk}
+
+-- the place of a row's block, where there is a row with its block
+unfoldable pub placeIn : (B : ℕ) → List (BlockRow (Fixed 32)) → Option (AddressRow (Fixed 32)) → Place
+placeIn B used none = Disk
+placeIn B used (some r) = Flash (record { 0 = slotOf (engine B) (r .fingerprint) used })
+
+-- the place of the block of a, or the number of the refusal
+unfoldable pub whereIs : Numbers → Lent → ℕ → Place
+whereIs N t a =
+    cond (eqb (refusal N t (calling (Ask.look a))) 0) (placeIn (N .B) (boxIn N t .used) (rowWithBlock (engine (N .B)) (boxIn N t) a)) (Refused (refusal N t (calling (Ask.look a))))
+
+-- what a look answers and returns there
+unfoldable pub answerAt : Place → Answer
+answerAt (Refused k) = refused k
+answerAt (Flash s) = answered fromCache 0 0
+answerAt Disk = answered fromDisk 0 0
+
+unfoldable pub partAt : (B a : ℕ) → (flash disk : List ℕ) → Place → List ℕ
+partAt B a flash disk (Refused k) = []
+partAt B a flash disk (Flash s) = part (s .0 * B) B flash
+partAt B a flash disk Disk = part (a * B) B disk

@@ -1,0 +1,152 @@
+// The calls: each takes any numbers, any slices and any counters.
+use crate::Answer;
+use crate::BoxRecord;
+use crate::Word;
+use crate::refusals;
+use crate::serve;
+use crate::serve::Served;
+use counters::Counters;
+use tables::SourceAddress;
+ghost use mathlib.Core.Path.{_≡_};
+ghost use mathlib.Core.Bool.{Bool, cond};
+ghost use mathlib.Core.List.{List, []};
+ghost use mathlib.Core.Option.{Option};
+ghost use Prim.Native.Nat.{ℕ, _+_, _<_, _≤_, _^_};
+ghost use Rattle.paper.specs.Cache.{hit, miss, sameBlock, newBlock};
+ghost use Rattle.paper.specs.Lent.{Ask};
+ghost use Rattle.counters.specs.Added.{added};
+ghost use Rattle.policy.specs.Contract.{Told, told, called, lent, countersOf, wordOf};
+ghost use Rattle.policy.specs.declared.Answer.the-variants.{Refused, Answered};
+
+// What a call gives back: its answer, the box record and the counters.
+pub struct Outcome {
+    pub answer: Answer,
+    pub box_record: BoxRecord,
+    pub counters: Counters,
+}
+
+// A refusal: the number, and the rest as given.
+fn refused(number: u32, b: BoxRecord, c: Counters) -> Outcome
+    ensures { λ r. ⌜ r ≡ record { answer = Refused number; box_record = b; counters = c } ⌝ }
+{
+    Outcome {
+        answer: Answer::Refused(number),
+        box_record: b,
+        counters: c,
+    }
+}
+
+// What a served call gives back: its word, what it told, and the counters with its own counts.
+fn answered(b: BoxRecord, w: Word, s: Served, c: Counters, reads: u64, hits: u64) -> Outcome
+    requires { ⌜ (c .reads + reads < 2 ^ 64) × (c .hits + hits < 2 ^ 64) × (c .flash + s .flashed < 2 ^ 64) × (c .primary + s .primary < 2 ^ 64) ⌝ }
+    ensures { λ r. ⌜ r ≡ record { answer = Answered w (s .flashed) (s .primary); box_record = (record { size = b .size; blocks = b .blocks; rows = b .rows; slots = b .slots; held = s .held }); counters = added c reads hits (s .flashed) (s .primary) } ⌝ }
+{
+    let k = counters::counted(c, reads, hits, s.flashed as u64, s.primary as u64);
+    let next = BoxRecord {
+        size: b.size,
+        blocks: b.blocks,
+        rows: b.rows,
+        slots: b.slots,
+        held: s.held,
+    };
+    Outcome {
+        answer: Answer::Answered(w, s.flashed, s.primary),
+        box_record: next,
+        counters: k,
+    }
+}
+
+// The word of a read.
+fn read_word(yes: bool) -> Word
+    ensures { λ r. ⌜ wordOf r ≡ cond yes hit miss ⌝ }
+{
+    if yes {
+        return Word::Hit;
+    }
+    Word::Miss
+}
+
+// The word of a write.
+fn write_word(yes: bool) -> Word
+    ensures { λ r. ⌜ wordOf r ≡ cond yes sameBlock newBlock ⌝ }
+{
+    if yes {
+        return Word::Same;
+    }
+    Word::New
+}
+
+// 1 for a hit.
+fn one_if(yes: bool) -> u64
+    ensures { λ r. ⌜ r ≡ cond yes 1 0 ⌝ }
+{
+    if yes {
+        return 1;
+    }
+    0
+}
+
+// Read `a` into the lent block.
+pub fn read(b: BoxRecord, a: SourceAddress, disk: &mut [u8], flash: &mut [u8], addresses: &mut [u8], blocks: &mut [u8], c: Counters, block: &mut [u8]) -> Outcome
+    ensures { λ r. ⌜ told r (now (disk .exit)) (now (flash .exit)) (now (addresses .exit)) (now (blocks .exit)) (Option.some (now (block .exit)))
+        ≡ called b (lent b (now (disk .entry)) (now (flash .entry)) (now (addresses .entry)) (now (blocks .entry)) (countersOf c)) (Ask.read (a .0) (now (block .entry))) ⌝ }
+{
+    let number = refusals::of_access(b, a, disk, flash, addresses, blocks, c, block);
+    if number != 0 {
+        return refused(number, b, c);
+    }
+    let s = serve::serve_read(b, a, disk, flash, addresses, blocks, block);
+    answered(b, read_word(s.yes), s, c, 1, one_if(s.yes))
+}
+
+// Write through: the lent block goes to the disk and into the cache.
+pub fn write_through(b: BoxRecord, a: SourceAddress, disk: &mut [u8], flash: &mut [u8], addresses: &mut [u8], blocks: &mut [u8], c: Counters, block: &[u8]) -> Outcome
+    ensures { λ r. ⌜ told r (now (disk .exit)) (now (flash .exit)) (now (addresses .exit)) (now (blocks .exit)) (Option.some (now (block .entry)))
+        ≡ called b (lent b (now (disk .entry)) (now (flash .entry)) (now (addresses .entry)) (now (blocks .entry)) (countersOf c)) (Ask.through (a .0) (now (block .entry))) ⌝ }
+{
+    let number = refusals::of_access(b, a, disk, flash, addresses, blocks, c, block);
+    if number != 0 {
+        return refused(number, b, c);
+    }
+    let s = serve::serve_through(b, a, disk, flash, addresses, blocks, block);
+    answered(b, write_word(s.yes), s, c, 0, 0)
+}
+
+// Write back: the lent block goes into the cache, the disk later.
+pub fn write_back(b: BoxRecord, a: SourceAddress, disk: &mut [u8], flash: &mut [u8], addresses: &mut [u8], blocks: &mut [u8], c: Counters, block: &[u8]) -> Outcome
+    ensures { λ r. ⌜ told r (now (disk .exit)) (now (flash .exit)) (now (addresses .exit)) (now (blocks .exit)) (Option.some (now (block .entry)))
+        ≡ called b (lent b (now (disk .entry)) (now (flash .entry)) (now (addresses .entry)) (now (blocks .entry)) (countersOf c)) (Ask.back (a .0) (now (block .entry))) ⌝ }
+{
+    let number = refusals::of_access(b, a, disk, flash, addresses, blocks, c, block);
+    if number != 0 {
+        return refused(number, b, c);
+    }
+    let s = serve::serve_back(b, a, disk, flash, addresses, blocks, block);
+    answered(b, write_word(s.yes), s, c, 0, 0)
+}
+
+// Write invalidate: the lent block goes to the disk, and the address out of the cache.
+pub fn write_invalidate(b: BoxRecord, a: SourceAddress, disk: &mut [u8], flash: &[u8], addresses: &mut [u8], blocks: &mut [u8], c: Counters, block: &[u8]) -> Outcome
+    ensures { λ r. ⌜ told r (now (disk .exit)) (now (flash .entry)) (now (addresses .exit)) (now (blocks .exit)) (Option.some (now (block .entry)))
+        ≡ called b (lent b (now (disk .entry)) (now (flash .entry)) (now (addresses .entry)) (now (blocks .entry)) (countersOf c)) (Ask.invalidate (a .0) (now (block .entry))) ⌝ }
+{
+    let number = refusals::of_access(b, a, disk, flash, addresses, blocks, c, block);
+    if number != 0 {
+        return refused(number, b, c);
+    }
+    let s = serve::serve_invalidate(b, a, disk, addresses, blocks, block);
+    answered(b, write_word(s.yes), s, c, 0, 0)
+}
+
+// Flush: each dirty row is copied to the disk and made clean.
+pub fn flush(b: BoxRecord, disk: &mut [u8], flash: &[u8], addresses: &mut [u8], blocks: &[u8], c: Counters) -> Outcome
+    ensures { λ r. ⌜ told r (now (disk .exit)) (now (flash .entry)) (now (addresses .exit)) (now (blocks .entry)) Option.none
+        ≡ called b (lent b (now (disk .entry)) (now (flash .entry)) (now (addresses .entry)) (now (blocks .entry)) (countersOf c)) Ask.flush ⌝ }
+{
+    let number = refusals::of_flush(b, disk, flash, addresses, blocks, c);
+    if number != 0 {
+        return refused(number, b, c);
+    }
+    let s = serve::serve_flush(b, disk, flash, addresses, blocks);
+    answered(b, Word::Done, s, c, 0, 0)
+}

@@ -1,0 +1,42 @@
+-- A table's bytes as a list of rows of 40 bytes, and what the tables' functions do to that list.
+-- Assumes nothing.
+use Prim.Native.Nat.{ℕ, zero, suc, _+_, _*_}
+use mathlib.Core.List.{List, [], _∷_, _++_}
+use lib.ListN.{take, drop, getD, replicate}
+
+-- the first n rows of the bytes t
+unfoldable pub rows : ℕ → List ℕ → List (List ℕ)
+rows zero t = []
+rows (suc n) t = take 40 t ∷ rows n (drop 40 t)
+
+-- the bytes of a list of rows
+unfoldable pub flat : List (List ℕ) → List ℕ
+flat [] = []
+flat (r ∷ rs) = r ++ flat rs
+
+-- row k
+abbrev pub rowAt : List ℕ → ℕ → List ℕ
+rowAt t k = take 40 (drop (k * 40) t)
+
+unfoldable pub zeros : ℕ → List ℕ
+zeros n = replicate n 0
+
+-- the four bytes from index at on, "little-endian", as a number, and the eight bytes
+abbrev pub le4 : List ℕ → ℕ → ℕ
+le4 t at = getD t at 0 + 256 * getD t (at + 1) 0 + 65536 * getD t (at + 2) 0 + 16777216 * getD t (at + 3) 0
+
+abbrev pub le8 : List ℕ → ℕ → ℕ
+le8 t at =
+    getD t at 0 + 256 * getD t (at + 1) 0 + 65536 * getD t (at + 2) 0 + 16777216 * getD t (at + 3) 0 + 4294967296 * getD t (at + 4) 0 + 1099511627776 * getD t (at + 5) 0 + 281474976710656 * getD t (at + 6) 0 + 72057594037927936 * getD t (at + 7) 0
+
+-- "its row is taken out": the list without its element i
+abbrev pub removeAt : {A : Type 0} → List A → ℕ → List A
+removeAt rs i = take i rs ++ drop (suc i) rs
+
+-- "Free rows (used 0, zero fingerprint)"; "a row freed later keeps its slot"
+abbrev pub freed : List ℕ → List ℕ
+freed r = zeros 32 ++ (take 4 (drop 32 r) ++ zeros 4)
+
+-- a block row taken for the fingerprint g: used 1, the slot kept
+abbrev pub filled : List ℕ → List ℕ → List ℕ
+filled g r = g ++ (take 4 (drop 32 r) ++ (1 ∷ zeros 3))

@@ -1,0 +1,131 @@
+-- What the moves of `shift` leave, said of the bytes and of the rows. Assumes nothing.
+use mathlib.Core.Path.{_≡_, sym, ap, _∙_}
+use Prim.Native.Nat.{ℕ, _+_, _-_, _*_, _≤_, _<_}
+use mathlib.Core.List.{List, [], _∷_, _++_, append-assoc, append-nil}
+use native.Mathlib.Omega.{arith}
+use lib.ListN.{length, getD, set, take, drop, length-append, length-drop, length-replicate, drop-of-length-le}
+use lib.Seq.{paste, take-paste, drop-paste, drop-drop, take-all, take-append-add, drop-at, drop-cons, length-take-le, set-at}
+use Rattle.tables.specs.Rows.{rows, flat, zeros, removeAt, rowAt, freed, filled}
+use Rattle.tables.specs.RowLaws.{flat-rows, flat-append, flat-removeAt, rows-at, length-part}
+
+pub length-zeros : (n : ℕ) → length (zeros n) ≡ n
+unfolding zeros
+length-zeros n = length-replicate n 0
+
+-- a run moved down by 40 to `at`, and x in the place that it leaves at the end
+module _ (t x : List ℕ) (at last : ℕ) (h : at ≤ last) (g : last + 40 ≤ length t) where
+  pub moved-down : paste (paste t at (drop (at + 40) t) (last - at)) last x 40 ≡ (take at t ++ take (last - at) (drop (at + 40) t)) ++ (take 40 x ++ drop (last + 40) t)
+  moved-down =
+      let s : List ℕ = drop (at + 40) t in
+      let p : List ℕ = paste t at s (last - at) in
+      let e : at + (last - at) ≡ last = omega arith in
+      let hs : last - at ≤ length s = simp length-drop (omega arith) in
+      let a : take last p ≡ take at t ++ take (last - at) s = ap (λ (k : ℕ). take k p) (sym e) ∙ take-paste t at s (last - at) (omega arith) hs in
+      let b : drop last p ≡ drop last t = ap (λ (k : ℕ). drop k p) (sym e) ∙ drop-paste t at s (last - at) (omega arith) hs ∙ ap (λ (k : ℕ). drop k t) e in
+      let d : drop (last + 40) p ≡ drop (last + 40) t = sym (drop-drop 40 last p) ∙ ap (drop 40) b ∙ drop-drop 40 last t in
+      append-assoc (take last p) (take 40 x) (drop (last + 40) p) ∙ rw (a, d)
+
+-- the first `at` bytes moved up by 40, and x in front
+pub moved-up : (t x : List ℕ) (at : ℕ) → at + 40 ≤ length t → paste (paste t 40 (drop 0 t) at) 0 x 40 ≡ take 40 x ++ (take at t ++ drop (at + 40) t)
+moved-up t x at g =
+    let p : List ℕ = paste t 40 t at in
+    let e : 40 + at ≡ at + 40 = omega arith in
+    let b : drop 40 p ≡ take at t ++ drop (40 + at) t = ap (drop 40) (append-assoc (take 40 t) (take at t) (drop (40 + at) t)) ∙ drop-at (take 40 t) (take at t ++ drop (40 + at) t) 40 (length-part t 0 40 (omega arith)) in
+    ap (λ (l : List ℕ). take 40 x ++ l) (b ∙ rw e)
+
+-- remove_row
+pub removed : (t : List ℕ) (n i : ℕ) → i < n → n * 40 ≤ length t
+    → paste (paste t (i * 40) (drop (i * 40 + 40) t) (n * 40 - 40 - i * 40)) (n * 40 - 40) (zeros 40) 40 ≡ flat (removeAt (rows n t) i) ++ (zeros 40 ++ drop (n * 40) t)
+removed t n i h g =
+    let e : n * 40 - 40 + 40 ≡ n * 40 = omega arith in
+    let z : length (zeros 40) ≡ 40 = length-zeros 40 in
+    moved-down t (zeros 40) (i * 40) (n * 40 - 40) (omega arith) (omega arith)
+    ∙ rw (flat-removeAt n t i h, take-all 40 (zeros 40) (omega arith), e)
+
+-- push_row
+pub pushed : (t x : List ℕ) (n : ℕ) → length x ≡ 40 → paste t (n * 40) x (length x) ≡ flat (rows n t ++ (x ∷ [])) ++ drop (n * 40 + 40) t
+unfolding flat
+pushed t x n l = rw (flat-append (rows n t) (x ∷ []), flat-rows n t, append-nil x, l, take-all 40 x (omega arith))
+
+-- row i taken out and x added at the end
+pub replaced : (t x : List ℕ) (d i : ℕ) → i < d → length t ≡ d * 40 → length x ≡ 40
+    → paste (paste t (i * 40) (drop (i * 40 + 40) t) (d * 40 - 40 - i * 40)) (d * 40 - 40) x 40 ≡ flat (removeAt (rows d t) i ++ (x ∷ []))
+unfolding flat
+replaced t x d i h g z =
+    let e : d * 40 - 40 + 40 ≡ d * 40 = omega arith in
+    let k : length t ≤ d * 40 = omega arith in
+    let w : drop (d * 40) t ≡ [] = drop-of-length-le t k in
+    moved-down t x (i * 40) (d * 40 - 40) (omega arith) (omega arith)
+    ∙ rw (flat-append (removeAt (rows d t) i) (x ∷ []), flat-removeAt d t i h, take-all 40 x (omega arith), e, w)
+
+-- to_newest
+pub newest : (t : List ℕ) (d i : ℕ) → i < d → length t ≡ d * 40
+    → paste (paste t (i * 40) (drop (i * 40 + 40) t) (d * 40 - 40 - i * 40)) (d * 40 - 40) (rowAt t i) 40 ≡ flat (removeAt (rows d t) i ++ (getD (rows d t) i [] ∷ []))
+newest t d i h g = replaced t (rowAt t i) d i h g (length-part t (i * 40) 40 (omega arith)) ∙ rw (rows-at d t i h)
+
+-- a row with its fingerprint and its last four bytes cleared
+pub cleared : (r : List ℕ) → length r ≡ 40 → paste (paste r 0 (zeros 32) 32) 36 (zeros 4) 4 ≡ freed r
+cleared r l =
+    let a : take 32 (zeros 32) ≡ zeros 32 = take-all 32 (zeros 32) (omega (arith, length-zeros 32)) in
+    let b : take 4 (zeros 4) ≡ zeros 4 = take-all 4 (zeros 4) (omega (arith, length-zeros 4)) in
+    let q : List ℕ = zeros 32 ++ drop 32 r in
+    let p : paste r 0 (zeros 32) 32 ≡ q = ap (λ (x : List ℕ). x ++ drop 32 r) a in
+    let f : take 36 q ≡ zeros 32 ++ take 4 (drop 32 r) = ap (λ (k : ℕ). take (k + 4) q) (sym (length-zeros 32)) ∙ take-append-add (zeros 32) (drop 32 r) 4 in
+    let k : length q ≤ 40 = omega (arith, length-append (zeros 32) (drop 32 r), length-zeros 32, length-drop 32 r) in
+    let m : drop 40 q ≡ [] = drop-of-length-le q k in
+    rw (p, b, f, m, append-nil) (append-assoc (zeros 32) (take 4 (drop 32 r)) (zeros 4))
+
+pub length-freed : (r : List ℕ) → length r ≡ 40 → length (freed r) ≡ 40
+length-freed r l =
+    omega (arith, length-append (zeros 32) (take 4 (drop 32 r) ++ zeros 4), length-append (take 4 (drop 32 r)) (zeros 4), length-zeros 32, length-zeros 4, length-part r 32 4 (omega arith))
+
+-- to_front
+pub fronted : (t : List ℕ) (d i : ℕ) → i < d → length t ≡ d * 40
+    → paste (paste t 40 (drop 0 t) (i * 40)) 0 (freed (rowAt t i)) 40 ≡ flat (freed (getD (rows d t) i []) ∷ removeAt (rows d t) i)
+unfolding flat
+fronted t d i h g =
+    let r : length (rowAt t i) ≡ 40 = length-part t (i * 40) 40 (omega arith) in
+    let k : length (freed (rowAt t i)) ≤ 40 = omega (arith, length-freed (rowAt t i) r) in
+    let m : length (drop (i * 40 + 40) t) ≤ d * 40 - 40 - i * 40 = simp length-drop (omega arith) in
+    moved-up t (freed (rowAt t i)) (i * 40) (omega arith)
+    ∙ rw (flat-removeAt d t i h, rows-at d t i h, take-all 40 (freed (rowAt t i)) k, take-all (d * 40 - 40 - i * 40) (drop (i * 40 + 40) t) m)
+
+-- address_row: the address in front, then the fingerprint, then the dirty byte
+pub addr-made : (row w g : List ℕ) (x : ℕ) → length row ≡ 40 → length g ≡ 32 → take 4 row ≡ w → drop 37 row ≡ 0 ∷ 0 ∷ 0 ∷ [] → set (paste row 4 g (length g)) 36 x ≡ w ++ (g ++ (x ∷ 0 ∷ 0 ∷ 0 ∷ []))
+addr-made row w g x l lg e z =
+    let y : ℕ = getD row 36 0 in
+    let d : drop 36 row ≡ y ∷ 0 ∷ 0 ∷ 0 ∷ [] = drop-cons row 36 0 (omega arith) ∙ ap (λ (s : List ℕ). y ∷ s) z in
+    let lw : length w ≡ 4 = ap length (sym e) ∙ length-take-le 4 row (omega arith) in
+    let lp : length (w ++ g) ≡ 36 = omega (arith, length-append w g) in
+    ap (λ (n : ℕ). set (take 4 row ++ take n g ++ drop (4 + n) row) 36 x) lg
+    ∙ rw (e, take-all 32 g (omega arith), d, set-at (w ++ g) y (0 ∷ 0 ∷ 0 ∷ []) x 36 lp) (append-assoc w g (x ∷ 0 ∷ 0 ∷ 0 ∷ []))
+
+-- filled_row
+pub fill-made : (r g : List ℕ) → length r ≡ 40 → length g ≡ 32 → set (paste (paste r 0 g (length g)) 36 (zeros 4) 4) 36 1 ≡ filled g r
+unfolding zeros
+fill-made r g l lg =
+    let q : List ℕ = g ++ drop 32 r in
+    let p : paste r 0 g (length g) ≡ q = ap (λ (n : ℕ). take n g ++ drop (0 + n) r) lg ∙ rw (take-all 32 g (omega arith)) in
+    let e : length g + 4 ≡ 36 = omega arith in
+    let f : take 36 q ≡ g ++ take 4 (drop 32 r) = ap (λ (k : ℕ). take k q) (sym e) ∙ take-append-add g (drop 32 r) 4 in
+    let k : length q ≤ 40 = omega (arith, length-append g (drop 32 r), length-drop 32 r) in
+    let m : drop 40 q ≡ [] = drop-of-length-le q k in
+    let lf : length (g ++ take 4 (drop 32 r)) ≡ 36 = omega (arith, length-append g (take 4 (drop 32 r)), length-part r 32 4 (omega arith)) in
+    ap (λ (s : List ℕ). set (paste s 36 (0 ∷ 0 ∷ 0 ∷ 0 ∷ []) 4) 36 1) p
+    ∙ ap (λ (s : List ℕ). set (s ++ (0 ∷ 0 ∷ 0 ∷ 0 ∷ []) ++ drop 40 q) 36 1) f
+    ∙ ap (λ (s : List ℕ). set (g ++ take 4 (drop 32 r) ++ (0 ∷ 0 ∷ 0 ∷ 0 ∷ []) ++ s) 36 1) m
+    ∙ ap (λ (s : List ℕ). set s 36 1) (append-nil (g ++ take 4 (drop 32 r) ++ (0 ∷ 0 ∷ 0 ∷ 0 ∷ [])))
+    ∙ set-at (g ++ take 4 (drop 32 r)) 0 (0 ∷ 0 ∷ 0 ∷ []) 1 36 lf
+    ∙ append-assoc g (take 4 (drop 32 r)) (1 ∷ 0 ∷ 0 ∷ 0 ∷ [])
+
+pub length-filled : (g r : List ℕ) → length g ≡ 32 → length r ≡ 40 → length (filled g r) ≡ 40
+length-filled g r lg l =
+    omega (arith, length-append g (take 4 (drop 32 r) ++ (1 ∷ zeros 3)), length-append (take 4 (drop 32 r)) (1 ∷ zeros 3), length-zeros 3, length-part r 32 4 (omega arith))
+
+-- all of a list replaced
+pub pasted-whole : (t x : List ℕ) (n : ℕ) → length t ≡ n → length x ≡ n → paste t 0 x n ≡ x
+pasted-whole t x n e f =
+    let z : 0 + n ≡ n = omega arith in
+    let h : length t ≤ n = omega arith in
+    let d : drop n t ≡ [] = drop-of-length-le t h in
+    rw (z, d, append-nil) (take-all n x (omega arith))

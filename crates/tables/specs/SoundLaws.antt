@@ -1,0 +1,186 @@
+-- Laws for the checks of a table's soundness. Assumes nothing.
+use mathlib.Core.Path.{_≡_, refl, sym, ap, _∙_}
+use mathlib.Core.Bool.{Bool, true, false, _&&_, _||_, and-false}
+use mathlib.Core.List.{List, [], _∷_, map}
+use Prim.Native.Nat.{ℕ, zero, suc, _+_, _-_, _*_, _≤_, _<_}
+use native.Mathlib.Nat.{not-suc-le-zero, le-of-suc-le-suc}
+use native.Mathlib.Omega.{arith}
+use lib.Dec.{eqb, leb}
+use lib.ListN.{replicate, length-replicate, getD-replicate, length, getD, set, drop, length-set, length-map, List·getD-map, drop-of-length-le}
+use lib.Seq.{drop-cons, getD-set-same, getD-set-other}
+use borrow.Author.Tests.{eqb-true, eqb-false, ltb-true}
+use Rattle.tables.specs.Rows.{rows, rowAt}
+use Rattle.tables.specs.Find.{all, every, same}
+use Rattle.tables.specs.Unsound.{elem}
+use Rattle.tables.specs.Sound.{distinct, wordOf, tailOk, addressOk, mark}
+use Rattle.tables.specs.Index.{rowOk}
+use Rattle.tables.specs.RowLaws.{rows-length, rows-at, getD-rowAt}
+use Rattle.tables.specs.FindLaws.{all-hit, all-miss, all-end}
+
+-- the last four bytes of row k
+pub tail-rowAt : (t : List ℕ) (k : ℕ)
+    → tailOk (rowAt t k) ≡ leb (getD t (k * 40 + 36) 0) 1 && (eqb (getD t (k * 40 + 37) 0) 0 && (eqb (getD t (k * 40 + 38) 0) 0 && eqb (getD t (k * 40 + 39) 0) 0))
+tail-rowAt t k = rw (getD-rowAt t k 36 (omega arith), getD-rowAt t k 37 (omega arith), getD-rowAt t k 38 (omega arith), getD-rowAt t k 39 (omega arith))
+
+-- a turn on row k of a check of all rows
+module _ (p : List ℕ → Bool) (n : ℕ) (t : List ℕ) (k : ℕ) (i : all p (rows n t) ≡ all p (drop k (rows n t))) where
+  pub rows-all-more : k < n → p (rowAt t k) ≡ true → all p (rows n t) ≡ all p (drop (k + 1) (rows n t))
+  rows-all-more h e = i ∙ all-hit p (rows n t) k [] (rw rows-length h) (rw (rows-at n t k h) e)
+
+  pub rows-all-fails : k < n → p (rowAt t k) ≡ false → false ≡ all p (rows n t)
+  rows-all-fails h e = sym (i ∙ all-miss p (rows n t) k [] (rw rows-length h) (rw (rows-at n t k h) e))
+
+  pub rows-all-holds : n ≤ k → true ≡ all p (rows n t)
+  rows-all-holds h = sym (i ∙ all-end p (rows n t) k [] (rw rows-length h))
+
+pub and-left : (a b : Bool) → a && b ≡ true → a ≡ true
+and-left true b e = refl
+and-left false b e = e
+
+pub and-right : (a b : Bool) → a && b ≡ true → b ≡ true
+and-right true b e = e
+and-right false b e = let z : _≡_ {A = ℕ} 0 1 = cc in absurd (omega arith)
+
+-- what holds of all holds of each
+pub all-at : {A : Type 0} (p : A → Bool) (xs : List A) (k : ℕ) (z : A) → all p xs ≡ true → k < length xs → p (getD xs k z) ≡ true
+unfolding all
+all-at p [] k z e h = absurd (not-suc-le-zero h)
+all-at p (x ∷ xs) zero z e h = and-left (p x) (all p xs) e
+all-at p (x ∷ xs) (suc k) z e h = all-at p xs k z (and-right (p x) (all p xs) e) (le-of-suc-le-suc h)
+
+-- the numbers at place j of the rows
+pub words-at : (n : ℕ) (t : List ℕ) (j k : ℕ) → k < n → getD (map (wordOf j) (rows n t)) k 0 ≡ wordOf j (rowAt t k)
+words-at n t j k h = List·getD-map (wordOf j) (rows n t) k [] ∙ ap (wordOf j) (rows-at n t k h)
+
+pub words-length : (n : ℕ) (t : List ℕ) (j : ℕ) → length (map (wordOf j) (rows n t)) ≡ n
+words-length n t j = length-map (rows n t) (wordOf j) ∙ rows-length n t
+
+-- a byte for each number: 1 if it is in the list
+abbrev pub Marks : List ℕ → List ℕ → Type 0
+Marks seen l = (x : ℕ) → x < length seen → getD seen x 0 ≡ mark (elem x l)
+
+mark-off : (b : Bool) → mark b ≡ 0 → b ≡ false
+mark-off true e = absurd (omega arith)
+mark-off false e = refl
+
+mark-on : (b : Bool) → (mark b ≡ 0 → ⊥) → b ≡ true
+mark-on true e = refl
+mark-on false e = absurd (e refl)
+
+pub marks-none : (seen l : List ℕ) (k : ℕ) → length l ≤ k → ((x : ℕ) → x < length seen → getD seen x 0 ≡ 0) → Marks seen (drop k l)
+unfolding elem
+marks-none seen l k h e x b = rw (drop-of-length-le l h) (e x b)
+
+marks-more : (seen l : List ℕ) (x : ℕ) → x < length seen → Marks seen l → Marks (set seen x 1) (x ∷ l)
+unfolding elem
+marks-more seen l x h m y b = elim (eqb y x) as (λ q. eqb y x ≡ q → getD (set seen x 1) y 0 ≡ mark (q || elem y l)) [ true ↦ hit | false ↦ other ] refl
+  where
+    hit : eqb y x ≡ true → getD (set seen x 1) y 0 ≡ 1
+    hit e = rw (eqb-true y x e) (getD-set-same seen x 1 0 h)
+
+    other : eqb y x ≡ false → getD (set seen x 1) y 0 ≡ mark (elem y l)
+    other e = getD-set-other seen x y 1 0 (eqb-false y x e) ∙ m y (rw length-set at b)
+
+-- a list with a number twice at its end has it twice
+pub distinct-drop : (xs : List ℕ) (k : ℕ) → distinct (drop k xs) ≡ false → distinct xs ≡ false
+unfolding distinct
+distinct-drop xs zero e = e
+distinct-drop [] (suc k) e = e
+distinct-drop (x ∷ xs) (suc k) e = rw (distinct-drop xs k e, and-false)
+
+-- the number x that a turn reads: it stands in the list ws before place k, and has a byte in seen
+pub record Read (ws seen : List ℕ) (k x : ℕ) : Type 0 where
+  pub some : 0 < k
+  pub within : k ≤ length ws
+  pub is : x ≡ getD ws (k - 1) 0
+  pub has : x < length seen
+
+module _ {ws seen : List ℕ} {k x : ℕ} (r : Read ws seen k x) (m : Marks seen (drop k ws)) where
+  before : drop (k - 1) ws ≡ x ∷ drop k ws
+  before = let e : suc (k - 1) ≡ k = omega (arith, r .some) in drop-cons ws (k - 1) 0 (omega (arith, r .some, r .within)) ∙ rw (e, r .is)
+
+  pub twice : (getD seen x 0 ≡ 0 → ⊥) → false ≡ distinct ws
+  unfolding distinct
+  twice h = sym (distinct-drop ws (k - 1) (rw (before, mark-on (elem x (drop k ws)) (rw (m x (r .has)) at h))))
+
+  pub once : getD seen x 0 ≡ 0 → distinct (drop k ws) ≡ true → distinct (drop (k - 1) ws) ≡ true
+  unfolding distinct
+  once h d = rw (before, mark-off (elem x (drop k ws)) (rw (m x (r .has)) at h)) d
+
+  pub marked : Marks (set seen x 1) (drop (k - 1) ws)
+  marked = rw before (marks-more seen (drop k ws) x (r .has) m)
+
+-- an array of q zeros has a byte, 0, for each number below q
+pub fresh : (q x : ℕ) → x < length (replicate {A = ℕ} q 0) → getD {A = ℕ} (replicate q 0) x 0 ≡ 0
+fresh q x h = getD-replicate q x 0 0 (rw length-replicate at h)
+
+pub addrs-below : (q p n : ℕ) (t : List ℕ) → all (addressOk p) (rows n t) ≡ true → p ≤ q → (k : ℕ) → k < n → wordOf 0 (rowAt t k) < length (replicate {A = ℕ} q 0)
+addrs-below q p n t e h k b =
+    let o : addressOk p (rowAt t k) ≡ true = ap (addressOk p) (sym (rows-at n t k b)) ∙ all-at (addressOk p) (rows n t) k [] e (rw rows-length b) in
+    let l : wordOf 0 (rowAt t k) < p = ltb-true _ _ (and-left _ _ o) in
+    rw length-replicate (omega (arith, l, h))
+
+pub every-at : {A : Type 0} (q : A → List A → Bool) (xs : List A) (k : ℕ) (z : A) → every q xs ≡ true → k < length xs → q (getD xs k z) (drop (suc k) xs) ≡ true
+unfolding every
+every-at q [] k z e h = absurd (not-suc-le-zero h)
+every-at q (x ∷ xs) zero z e h = and-left (q x xs) (every q xs) e
+every-at q (x ∷ xs) (suc k) z e h = every-at q xs k z (and-right (q x xs) (every q xs) e) (le-of-suc-le-suc h)
+
+pub slots-below : (q d : ℕ) (t : List ℕ) → every (rowOk d) (rows d t) ≡ true → d ≤ q → (k : ℕ) → k < d → wordOf 32 (rowAt t k) < length (replicate {A = ℕ} q 0)
+slots-below q d t e h k b =
+    let o : rowOk d (rowAt t k) (drop (suc k) (rows d t)) ≡ true = ap (λ (r : List ℕ). rowOk d r (drop (suc k) (rows d t))) (sym (rows-at d t k b)) ∙ every-at (rowOk d) (rows d t) k [] e (rw rows-length b) in
+    let l : wordOf 32 (rowAt t k) < d = ltb-true _ _ (and-left _ _ o) in
+    rw length-replicate (omega (arith, l, h))
+
+-- a turn of a check of `every` that goes down, at the element before place k
+every-drop : {A : Type 0} (q : A → List A → Bool) (xs : List A) (k : ℕ) → every q (drop k xs) ≡ false → every q xs ≡ false
+unfolding every
+every-drop q xs zero e = e
+every-drop q [] (suc k) e = e
+every-drop q (x ∷ xs) (suc k) e = rw (every-drop q xs k e, and-false)
+
+module _ (q : List ℕ → List (List ℕ) → Bool) (n : ℕ) (t : List ℕ) (k : ℕ) (hk : 0 < k) (hn : k ≤ n) where
+  row-before : drop (k - 1) (rows n t) ≡ rowAt t (k - 1) ∷ drop (suc (k - 1)) (rows n t)
+  row-before =
+      let h : k - 1 < n = omega arith in
+      drop-cons (rows n t) (k - 1) [] (rw rows-length h) ∙ rw (rows-at n t (k - 1) h)
+
+  pub same-behind : drop (suc (k - 1)) (rows n t) ≡ drop k (rows n t)
+  same-behind = let e : suc (k - 1) ≡ k = omega arith in ap (λ (j : ℕ). drop j (rows n t)) e
+
+  pub back-fails : q (rowAt t (k - 1)) (drop (suc (k - 1)) (rows n t)) ≡ false → false ≡ every q (rows n t)
+  unfolding every
+  back-fails e = sym (every-drop q (rows n t) (k - 1) (ap (every q) row-before ∙ rw e))
+
+  pub back-more : q (rowAt t (k - 1)) (drop (suc (k - 1)) (rows n t)) ≡ true → every q (drop k (rows n t)) ≡ true → every q (drop (k - 1) (rows n t)) ≡ true
+  unfolding every
+  back-more e i = ap (every q) row-before ∙ rw e (ap (every q) same-behind ∙ i)
+
+  pub back-all : (p : List ℕ → Bool) → all p (drop (k - 1) (rows n t)) ≡ p (rowAt t (k - 1)) && all p (drop k (rows n t))
+  unfolding all
+  back-all p = ap (all p) row-before ∙ ap (λ (r : List (List ℕ)). p (rowAt t (k - 1)) && all p r) same-behind
+
+-- the same lists
+pub same-true : (xs ys : List ℕ) → same xs ys ≡ true → xs ≡ ys
+unfolding same
+same-true [] [] e = refl
+same-true [] (y ∷ ys) e = let z : _≡_ {A = ℕ} 0 1 = cc in absurd (omega arith)
+same-true (x ∷ xs) [] e = let z : _≡_ {A = ℕ} 0 1 = cc in absurd (omega arith)
+same-true (x ∷ xs) (y ∷ ys) e = rw (eqb-true x y (and-left (eqb x y) (same xs ys) e), same-true xs ys (and-right (eqb x y) (same xs ys) e))
+
+pub not-true-false : (b : Bool) → (b ≡ true → ⊥) → b ≡ false
+not-true-false true e = absurd (e refl)
+not-true-false false e = refl
+
+pub or-left : (a b : Bool) → a || b ≡ false → a ≡ false
+or-left true b e = e
+or-left false b e = refl
+
+pub or-right : (a b : Bool) → a || b ≡ false → b ≡ false
+or-right true b e = let z : _≡_ {A = ℕ} 0 1 = cc in absurd (omega arith)
+or-right false b e = e
+
+pub map-drop : {A B : Type 0} (f : A → B) (k : ℕ) (xs : List A) → map f (drop k xs) ≡ drop k (map f xs)
+map-drop f zero xs = refl
+map-drop f (suc k) [] = refl
+map-drop f (suc k) (x ∷ xs) = map-drop f k xs

@@ -1,0 +1,21 @@
+// Tables of 40-byte rows in lent bytes.
+pub mod find;
+pub mod fresh;
+pub mod index;
+pub mod known;
+mod moves;
+pub mod put;
+pub mod shift;
+pub mod sound;
+
+// A source address, a block number of the disk.
+pub struct SourceAddress(pub u32);
+
+// A slot, a block number of the flash.
+pub struct FlashSlot(pub u32);
+
+// A row's index, if there is such a row.
+pub enum Found {
+    At(usize),
+    Nothing,
+}

@@ -1,0 +1,2 @@
+-- What the probe's contracts cite beside the tables' own definitions
+pub mod Probe

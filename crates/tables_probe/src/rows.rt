@@ -1,0 +1,107 @@
+// Searches and readers.
+use crate::fit;
+use tables::SourceAddress;
+use tables::find;
+ghost use mathlib.Core.Path.{_≡_};
+ghost use mathlib.Core.Bool.{cond, false};
+ghost use lib.Dec.{eqb};
+ghost use lib.ListN.{drop};
+ghost use Rattle.tables.specs.Rows.{rows, rowAt};
+ghost use Rattle.tables.specs.Records.{readAddress, readBlock};
+ghost use Rattle.tables.specs.Find.{findFrom, hasAddress, hasFingerprint, isDirty, isDirtyOf, caches};
+ghost use Rattle.tables_probe.specs.Probe.{none, number, fits, fitsWith, fitsRow};
+
+// The first of `n` address rows with the address `a`.
+#[no_mangle]
+pub extern "C" fn tables_probe_find_address(t: &[u8], n: usize, a: u32) -> usize
+    ensures { λ r. ⌜ r ≡ cond (fits n (now (t .entry))) (number (findFrom (hasAddress a) 0 (rows n (now (t .entry))))) none ⌝ }
+{
+    if !fit::fits(t, n) {
+        return fit::NONE;
+    }
+    let found = find::find_address(t, n, SourceAddress(a));
+    fit::number(found)
+}
+
+// The first of `n` address rows with the fingerprint `g`.
+#[no_mangle]
+pub extern "C" fn tables_probe_find_fingerprint(t: &[u8], n: usize, g: &[u8]) -> usize
+    ensures { λ r. ⌜ r ≡ cond (fitsWith n (now (t .entry)) (now (g .entry))) (number (findFrom (hasFingerprint (now (g .entry))) 0 (rows n (now (t .entry))))) none ⌝ }
+{
+    if !fit::fits_with(t, n, g) {
+        return fit::NONE;
+    }
+    let found = find::find_fingerprint(t, n, g);
+    fit::number(found)
+}
+
+// The first of `n` block rows that is used and has the fingerprint `g`.
+#[no_mangle]
+pub extern "C" fn tables_probe_find_cached(t: &[u8], n: usize, g: &[u8]) -> usize
+    ensures { λ r. ⌜ r ≡ cond (fitsWith n (now (t .entry)) (now (g .entry))) (number (findFrom (caches (now (g .entry))) 0 (rows n (now (t .entry))))) none ⌝ }
+{
+    if !fit::fits_with(t, n, g) {
+        return fit::NONE;
+    }
+    let found = find::find_cached(t, n, g);
+    fit::number(found)
+}
+
+// The first dirty row of `n`, from row `from` on.
+#[no_mangle]
+pub extern "C" fn tables_probe_next_dirty(t: &[u8], n: usize, from: usize) -> usize
+    ensures { λ r. ⌜ r ≡ cond (fits n (now (t .entry))) (number (findFrom isDirty from (drop from (rows n (now (t .entry)))))) none ⌝ }
+{
+    if !fit::fits(t, n) {
+        return fit::NONE;
+    }
+    let found = find::next_dirty(t, n, from);
+    fit::number(found)
+}
+
+// The first dirty row of `n` with the fingerprint `g`, from row `from` on.
+#[no_mangle]
+pub extern "C" fn tables_probe_next_dirty_of(t: &[u8], n: usize, from: usize, g: &[u8]) -> usize
+    ensures { λ r. ⌜ r ≡ cond (fitsWith n (now (t .entry)) (now (g .entry))) (number (findFrom (isDirtyOf (now (g .entry))) from (drop from (rows n (now (t .entry)))))) none ⌝ }
+{
+    if !fit::fits_with(t, n, g) {
+        return fit::NONE;
+    }
+    let found = find::next_dirty_of(t, n, from, g);
+    fit::number(found)
+}
+
+// The address in row `i` of `n`.
+#[no_mangle]
+pub extern "C" fn tables_probe_address_at(t: &[u8], n: usize, i: usize) -> u32
+    ensures { λ r. ⌜ r ≡ cond (fitsRow n (now (t .entry)) i) (readAddress (rowAt (now (t .entry)) i) .address) none ⌝ }
+{
+    if !fit::fits_row(t, n, i) {
+        return 4294967295;
+    }
+    let a = find::address_at(t, i);
+    a.0
+}
+
+// The slot in row `i` of `n`.
+#[no_mangle]
+pub extern "C" fn tables_probe_slot_at(t: &[u8], n: usize, i: usize) -> u32
+    ensures { λ r. ⌜ r ≡ cond (fitsRow n (now (t .entry)) i) (readBlock (rowAt (now (t .entry)) i) .slot) none ⌝ }
+{
+    if !fit::fits_row(t, n, i) {
+        return 4294967295;
+    }
+    let s = find::slot_at(t, i);
+    s.0
+}
+
+// Whether row `i` of `n` is dirty, or used.
+#[no_mangle]
+pub extern "C" fn tables_probe_flag_at(t: &[u8], n: usize, i: usize) -> bool
+    ensures { λ r. ⌜ r ≡ cond (fitsRow n (now (t .entry)) i) (eqb (readAddress (rowAt (now (t .entry)) i) .dirty) 1) false ⌝ }
+{
+    if !fit::fits_row(t, n, i) {
+        return false;
+    }
+    find::flag_at(t, i)
+}
