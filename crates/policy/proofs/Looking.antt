@@ -26,18 +26,8 @@ use Rattle.policy.specs.Calls.{HitAt}
 use Rattle.policy.specs.Contract.{numbersOf, lent}
 use Rattle.policy.specs.Look.{placeIn, whereIs, answerAt, partAt}
 use Rattle.policy.proofs.Copying.{part-block, parts-length, block-ends, slot-some, slotOf-below}
-use Rattle.policy.proofs.Serving.{found-hit, found-miss}
+use Rattle.policy.proofs.Serving.{hit-row, found-hit, found-miss}
 use Rattle.policy.proofs.Calling.{rep, address-fits}
-
--- the row of a hit
-hit-row : (b : BoxRecord) (disk flash addrs blocks : List ℕ) (s : Box (Fixed 32) (Fixed (b .size))) → Rep b disk flash addrs blocks s → (a i j : ℕ) → HitAt b s a i j → rowWithBlock (engine (b .size)) s a ≡ some (getD (s .rows) i noRow)
-unfolding ifCached
-hit-row b disk flash addrs blocks s h a i j q =
-    let r : AddressRow (Fixed 32) = getD (s .rows) i noRow in
-    let lt : indexWhere (λ (x : AddressRow (Fixed 32)). eqb a (x .address)) (s .rows) < length (s .rows) = omega (arith, q .row, q .is-held, h .rows-are .count) in
-    let f : rowOf a (s .rows) ≡ some r = find-yes eqb (λ (x : AddressRow (Fixed 32)). x .address) a (s .rows) noRow lt ∙ ap (λ (k : ℕ). some (getD (s .rows) k noRow)) (sym (q .row)) in
-    let c : cached (engine (b .size)) (r .fingerprint) (s .used) ≡ true = has-yes (engine 0 .same) (λ (u : BlockRow (Fixed 32)). u .fingerprint) (r .fingerprint) (s .used) (omega (arith, q .place, q .is-cached, h .blocks-are .count)) in
-    rw (f, c) refl
 
 -- a look that is not refused
 module _ (b : BoxRecord) (disk flash addrs blocks : List ℕ) (k : Counters) (a : ℕ) (e : refusal (numbersOf b) (lent b disk flash addrs blocks k) (calling (Ask.look a)) ≡ 0) (ba : Bytes addrs) (bb : Bytes blocks) where

@@ -143,16 +143,3 @@ module _ (b : BoxRecord) (disk flash addresses blocks : List ℕ) (k : Counters)
   pub look-3 : (a : ℕ) → leb (b .blocks) a ≡ true → 3 ≡ refusal (numbersOf b) (lent b disk flash addresses blocks k) (calling (Ask.look a))
   unfolding refusal
   look-3 a p = rw (o .fit, o .right, p) refl
-
--- the four accesses have the same refusal
-pub through-refused : (N : Numbers) (t : Lent) (a : ℕ) (l : List ℕ) → refusal N t (calling (Ask.through a l)) ≡ refusal N t (calling (Ask.read a l))
-unfolding refusal
-through-refused N t a l = refl
-
-pub back-refused : (N : Numbers) (t : Lent) (a : ℕ) (l : List ℕ) → refusal N t (calling (Ask.back a l)) ≡ refusal N t (calling (Ask.read a l))
-unfolding refusal
-back-refused N t a l = refl
-
-pub invalidate-refused : (N : Numbers) (t : Lent) (a : ℕ) (l : List ℕ) → refusal N t (calling (Ask.invalidate a l)) ≡ refusal N t (calling (Ask.read a l))
-unfolding refusal
-invalidate-refused N t a l = refl

@@ -103,7 +103,7 @@ copied-block B d flash fl h k z b block e =
     ap₂ {C = List ℕ} (λ x y. splice x y block) o p ∙ splice-whole (getD fl k z .0) block ((getD fl k z) .1 ∙ sym e)
 
 module _ (b : BoxRecord) (disk flash addrs blocks : List ℕ) (s : Box (Fixed 32) (Fixed (b .size))) (h : Rep b disk flash addrs blocks s) (a : ℕ) where
-  hit-row : (i j : ℕ) → HitAt b s a i j → rowWithBlock (engine (b .size)) s a ≡ some (getD (s .rows) i noRow)
+  pub hit-row : (i j : ℕ) → HitAt b s a i j → rowWithBlock (engine (b .size)) s a ≡ some (getD (s .rows) i noRow)
   unfolding ifCached
   hit-row i j q =
       let lt : indexWhere (λ (x : AddressRow (Fixed 32)). eqb a (x .address)) (s .rows) < length (s .rows) = omega (arith, q .row, q .is-held, h .rows-are .count) in

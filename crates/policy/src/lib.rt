@@ -1,12 +1,12 @@
 // The cache on lent bytes.
 pub mod calls;
-pub mod copy;
+mod copy;
 pub mod look;
 pub mod open;
-pub mod refusals;
-pub mod rows;
-pub mod serve;
-pub mod steps;
+mod refusals;
+mod rows;
+mod serve;
+mod steps;
 
 // The box record: the block size B, the disk's blocks P, the most addresses held m, the cached blocks d, and the addresses held n.
 pub struct BoxRecord {

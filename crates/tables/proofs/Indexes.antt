@@ -5,7 +5,7 @@ use Prim.Native.Nat.{ℕ, suc, _+_, _-_, _*_, _≤_, _<_}
 use mathlib.Core.List.{List, [], _∷_}
 use native.Mathlib.Omega.{arith}
 use lib.Dec.{eqb}
-use lib.ListN.{length, getD, set, take, drop, replicate, length-replicate, getD-replicate}
+use lib.ListN.{length, getD, set, take, drop}
 use lib.Seq.{take-take, getD-take, getD-set-same, getD-set-other}
 use borrow.Author.Tests.{eqb-true, eqb-false}
 use Rattle.tables.specs.Rows.{rows, rowAt}
@@ -84,7 +84,3 @@ module _ (t : List ℕ) (d k : ℕ) (hk : 0 < k) (hn : k ≤ d) (heads : List �
 -- the fingerprint of row k, as a part of the bytes
 pub part-fp : (t : List ℕ) (k : ℕ) → take (k * 40 + 32 - k * 40) (drop (k * 40) t) ≡ take 32 (rowAt t k)
 part-fp t k = let e : k * 40 + 32 - k * 40 ≡ 32 = omega arith in rw (e, take-take 32 40 (drop (k * 40) t) (omega arith))
-
--- an array of q numbers v
-pub filled-with : (q v x : ℕ) → x < length (replicate {A = ℕ} q v) → getD {A = ℕ} (replicate q v) x 0 ≡ v
-filled-with q v x h = getD-replicate q x v 0 (rw length-replicate at h)

@@ -110,9 +110,12 @@ module _ {ws seen : List ℕ} {k x : ℕ} (r : Read ws seen k x) (m : Marks seen
   pub marked : Marks (set seen x 1) (drop (k - 1) ws)
   marked = rw before (marks-more seen (drop k ws) x (r .has) m)
 
--- an array of q zeros has a byte, 0, for each number below q
+-- an array of q numbers v; an array of q zeros has a byte, 0, for each number below q
+pub filled-with : (q v x : ℕ) → x < length (replicate {A = ℕ} q v) → getD {A = ℕ} (replicate q v) x 0 ≡ v
+filled-with q v x h = getD-replicate q x v 0 (rw length-replicate at h)
+
 pub fresh : (q x : ℕ) → x < length (replicate {A = ℕ} q 0) → getD {A = ℕ} (replicate q 0) x 0 ≡ 0
-fresh q x h = getD-replicate q x 0 0 (rw length-replicate at h)
+fresh q x h = filled-with q 0 x h
 
 pub addrs-below : (q p n : ℕ) (t : List ℕ) → all (addressOk p) (rows n t) ≡ true → p ≤ q → (k : ℕ) → k < n → wordOf 0 (rowAt t k) < length (replicate {A = ℕ} q 0)
 addrs-below q p n t e h k b =

@@ -4,7 +4,7 @@ use Prim.Native.Nat.{ℕ}
 use native.Mathlib.Omega.{arith}
 use lib.ListN.{length-replicate}
 use borrow.Author.Needs.{needs}
-use Rattle.tables.proofs.Indexes.{filled-with}
+use Rattle.tables.specs.SoundLaws.{filled-with}
 use Rattle.policy.proofs.rows.index_rows.Statement.{statement}
 use Rattle.policy.proofs.rows.index_rows.Tie as tie
 

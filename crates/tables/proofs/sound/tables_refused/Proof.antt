@@ -5,7 +5,7 @@ use native.Mathlib.Omega.{arith}
 use lib.ListN.{length, length-replicate}
 use borrow.Author.Needs.{needs}
 use Rattle.tables.specs.Checked.{fit-addresses, fit-blocks, dirty-checked}
-use Rattle.tables.proofs.Indexes.{filled-with}
+use Rattle.tables.specs.SoundLaws.{filled-with}
 use Rattle.tables.proofs.sound.tables_refused.Statement.{statement}
 use Rattle.tables.proofs.sound.tables_refused.Tie as tie
 
