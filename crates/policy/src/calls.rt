@@ -87,7 +87,16 @@ fn one_if(yes: bool) -> u64
 }
 
 // Read `a` into the lent block.
-pub fn read(b: BoxRecord, a: SourceAddress, disk: &mut [u8], flash: &mut [u8], addresses: &mut [u8], blocks: &mut [u8], c: Counters, block: &mut [u8]) -> Outcome
+pub fn read(
+    b: BoxRecord,
+    a: SourceAddress,
+    disk: &mut [u8],
+    flash: &mut [u8],
+    addresses: &mut [u8],
+    blocks: &mut [u8],
+    c: Counters,
+    block: &mut [u8],
+) -> Outcome
     ensures { λ r. ⌜ told r (now (disk .exit)) (now (flash .exit)) (now (addresses .exit)) (now (blocks .exit)) (Option.some (now (block .exit)))
         ≡ called b (lent b (now (disk .entry)) (now (flash .entry)) (now (addresses .entry)) (now (blocks .entry)) (countersOf c)) (Ask.read (a .0) (now (block .entry))) ⌝ }
 {
@@ -100,7 +109,16 @@ pub fn read(b: BoxRecord, a: SourceAddress, disk: &mut [u8], flash: &mut [u8], a
 }
 
 // Write through: the lent block goes to the disk and into the cache.
-pub fn write_through(b: BoxRecord, a: SourceAddress, disk: &mut [u8], flash: &mut [u8], addresses: &mut [u8], blocks: &mut [u8], c: Counters, block: &[u8]) -> Outcome
+pub fn write_through(
+    b: BoxRecord,
+    a: SourceAddress,
+    disk: &mut [u8],
+    flash: &mut [u8],
+    addresses: &mut [u8],
+    blocks: &mut [u8],
+    c: Counters,
+    block: &[u8],
+) -> Outcome
     ensures { λ r. ⌜ told r (now (disk .exit)) (now (flash .exit)) (now (addresses .exit)) (now (blocks .exit)) (Option.some (now (block .entry)))
         ≡ called b (lent b (now (disk .entry)) (now (flash .entry)) (now (addresses .entry)) (now (blocks .entry)) (countersOf c)) (Ask.through (a .0) (now (block .entry))) ⌝ }
 {
@@ -113,7 +131,16 @@ pub fn write_through(b: BoxRecord, a: SourceAddress, disk: &mut [u8], flash: &mu
 }
 
 // Write back: the lent block goes into the cache, the disk later.
-pub fn write_back(b: BoxRecord, a: SourceAddress, disk: &mut [u8], flash: &mut [u8], addresses: &mut [u8], blocks: &mut [u8], c: Counters, block: &[u8]) -> Outcome
+pub fn write_back(
+    b: BoxRecord,
+    a: SourceAddress,
+    disk: &mut [u8],
+    flash: &mut [u8],
+    addresses: &mut [u8],
+    blocks: &mut [u8],
+    c: Counters,
+    block: &[u8],
+) -> Outcome
     ensures { λ r. ⌜ told r (now (disk .exit)) (now (flash .exit)) (now (addresses .exit)) (now (blocks .exit)) (Option.some (now (block .entry)))
         ≡ called b (lent b (now (disk .entry)) (now (flash .entry)) (now (addresses .entry)) (now (blocks .entry)) (countersOf c)) (Ask.back (a .0) (now (block .entry))) ⌝ }
 {
@@ -126,7 +153,16 @@ pub fn write_back(b: BoxRecord, a: SourceAddress, disk: &mut [u8], flash: &mut [
 }
 
 // Write invalidate: the lent block goes to the disk, and the address out of the cache.
-pub fn write_invalidate(b: BoxRecord, a: SourceAddress, disk: &mut [u8], flash: &[u8], addresses: &mut [u8], blocks: &mut [u8], c: Counters, block: &[u8]) -> Outcome
+pub fn write_invalidate(
+    b: BoxRecord,
+    a: SourceAddress,
+    disk: &mut [u8],
+    flash: &[u8],
+    addresses: &mut [u8],
+    blocks: &mut [u8],
+    c: Counters,
+    block: &[u8],
+) -> Outcome
     ensures { λ r. ⌜ told r (now (disk .exit)) (now (flash .entry)) (now (addresses .exit)) (now (blocks .exit)) (Option.some (now (block .entry)))
         ≡ called b (lent b (now (disk .entry)) (now (flash .entry)) (now (addresses .entry)) (now (blocks .entry)) (countersOf c)) (Ask.invalidate (a .0) (now (block .entry))) ⌝ }
 {
@@ -139,7 +175,14 @@ pub fn write_invalidate(b: BoxRecord, a: SourceAddress, disk: &mut [u8], flash: 
 }
 
 // Flush: each dirty row is copied to the disk and made clean.
-pub fn flush(b: BoxRecord, disk: &mut [u8], flash: &[u8], addresses: &mut [u8], blocks: &[u8], c: Counters) -> Outcome
+pub fn flush(
+    b: BoxRecord,
+    disk: &mut [u8],
+    flash: &[u8],
+    addresses: &mut [u8],
+    blocks: &[u8],
+    c: Counters,
+) -> Outcome
     ensures { λ r. ⌜ told r (now (disk .exit)) (now (flash .entry)) (now (addresses .exit)) (now (blocks .entry)) Option.none
         ≡ called b (lent b (now (disk .entry)) (now (flash .entry)) (now (addresses .entry)) (now (blocks .entry)) (countersOf c)) Ask.flush ⌝ }
 {
