@@ -43,7 +43,7 @@ pub(crate) fn found(
 }
 
 // Where the block of `a` is, or the number of the refusal.
-pub(crate) fn place_of(
+pub fn place_of(
     b: BoxRecord,
     a: SourceAddress,
     disk: &[u8],

@@ -1,0 +1,243 @@
+//! The calls, over any way of finding rows.
+use crate::layout::*;
+
+const HIT: u64 = 1;
+const MISS: u64 = 2;
+const SAME: u64 = 3;
+const NEW: u64 = 4;
+const CACHE: u64 = 5;
+const DISK: u64 = 6;
+const DONE: u64 = 7;
+
+const FIRST_COUNTER: usize = 5;
+const MOST_COUNTED: u64 = 1 << 63;
+
+/// How an engine checks the tables and finds rows in them. Places are those that the rows had when the tables were checked.
+pub trait Lookups: Sized {
+    /// The refusals 6, 7 and 8.
+    fn check(sizes: &Sizes, addresses: &[u8], blocks: &[u8]) -> Result<Self, u32>;
+    fn held(&self, sizes: &Sizes, addresses: &[u8], a: u32) -> Option<usize>;
+    fn cached(&self, blocks: &[u8], g: &Fingerprint) -> Option<usize>;
+    /// The oldest used row whose fingerprint none of these address rows has. All rows are used.
+    fn oldest_unwanted(&self, rows: &[u8], blocks: &[u8]) -> Option<usize>;
+}
+
+/// The refusals that need no table: 1, 2 and 3. An address is `None` in a call without one, and so is a block.
+fn numbers(state: &[u8], lengths: [usize; 4], a: Option<u32>, block: Option<usize>) -> Result<Sizes, u32> {
+    let sizes = sizes(state)?;
+    let Sizes { b, p, m, d, .. } = sizes;
+    if lengths != [p * b, d * b, m * ROW, d * ROW] || block.is_some_and(|length| length != b) {
+        return Err(2);
+    }
+    if a.is_some_and(|a| a as usize >= p) {
+        return Err(3);
+    }
+    Ok(sizes)
+}
+
+fn counters_too_large(state: &[u8]) -> bool {
+    (FIRST_COUNTER..FIRST_COUNTER + 4).any(|k| number(state, k) > MOST_COUNTED)
+}
+
+/// Adds to the counters and fills the answer.
+fn done(state: &mut [u8], answer: &mut [u8], word: u64, flash_writes: u64, primary_writes: u64) -> u32 {
+    let is_read = word == HIT || word == MISS;
+    for (k, more) in [is_read as u64, (word == HIT) as u64, flash_writes, primary_writes].into_iter().enumerate() {
+        let counter = number(state, FIRST_COUNTER + k);
+        set_number(state, FIRST_COUNTER + k, counter + more);
+    }
+    fill(answer, word, flash_writes, primary_writes)
+}
+
+fn fill(answer: &mut [u8], word: u64, first: u64, second: u64) -> u32 {
+    set_number(answer, 0, word);
+    set_number(answer, 1, first);
+    set_number(answer, 2, second);
+    0
+}
+
+fn copy(from: &[u8], i: usize, to: &mut [u8], j: usize, b: usize) {
+    to[j * b..(j + 1) * b].copy_from_slice(&from[i * b..(i + 1) * b]);
+}
+
+/// What the step takes: the box, with its numbers and where its rows are.
+struct Taken<'a, L> {
+    sizes: Sizes,
+    lookups: L,
+    state: &'a mut [u8],
+    disk: &'a mut [u8],
+    flash: &'a mut [u8],
+    addresses: &'a mut [u8],
+    blocks: &'a mut [u8],
+}
+
+impl<L: Lookups> Taken<'_, L> {
+    /// The step of a request. Answers flash writes and primary writes.
+    fn step(&mut self, a: u32, held: Option<usize>, g: &Fingerprint, cached: Option<usize>, block: &[u8], dirty: bool) -> (u64, u64) {
+        let Sizes { b, m, mut n, .. } = self.sizes;
+        let mut primary_writes = 0;
+        let mut cached = cached;
+        let out = held.or((n == m).then_some(0));
+        let mut q = None;
+        if let Some(k) = out {
+            let old = *row(self.addresses, k);
+            let place = self.lookups.cached(self.blocks, held_fingerprint(&old));
+            if held.is_none() && is_dirty(&old) {
+                copy(self.flash, slot(row(self.blocks, place.unwrap())), self.disk, address(&old) as usize, b);
+                primary_writes += 1;
+            }
+            take_out(self.addresses, n, k);
+            n -= 1;
+            q = place.map(|place| (*held_fingerprint(&old), place));
+        }
+        let others = n;
+        add(self.addresses, n, a, g, dirty);
+        n += 1;
+        set_number(self.state, 4, n as u64);
+
+        if let Some((q, place)) = q {
+            let unwanted = (0..n).all(|k| *held_fingerprint(row(self.addresses, k)) != q);
+            if unwanted && (0..others).any(|k| self.lookups.cached(self.blocks, held_fingerprint(row(self.addresses, k))).is_none()) {
+                set_free(self.blocks, place);
+                cached = cached.map(|k| if k < place { k + 1 } else { k });
+            }
+        }
+
+        if let Some(k) = cached {
+            to_newest(self.blocks, k);
+            return (0, primary_writes);
+        }
+        let mut place = 0;
+        if is_used(row(self.blocks, 0)) {
+            place = self.lookups.oldest_unwanted(&self.addresses[..n * ROW], self.blocks).unwrap_or(0);
+            let old = *row(self.blocks, place);
+            for k in 0..n {
+                let held = *row(self.addresses, k);
+                if is_dirty(&held) && held_fingerprint(&held) == cached_fingerprint(&old) {
+                    copy(self.flash, slot(&old), self.disk, address(&held) as usize, b);
+                    self.addresses[k * ROW + 36] = 0;
+                    primary_writes += 1;
+                }
+            }
+        }
+        let taken = slot(row(self.blocks, place));
+        self.flash[taken * b..(taken + 1) * b].copy_from_slice(block);
+        self.blocks[place * ROW..place * ROW + 32].copy_from_slice(g);
+        self.blocks[place * ROW + 36] = 1;
+        to_newest(self.blocks, place);
+        (1, primary_writes)
+    }
+}
+
+pub fn open(state: &mut [u8], disk: &[u8], flash: &[u8], addresses: &mut [u8], blocks: &mut [u8]) -> u32 {
+    if state.len() != 72 {
+        return 2;
+    }
+    set_number(state, 4, 0);
+    if let Err(refused) = numbers(state, [disk.len(), flash.len(), addresses.len(), blocks.len()], None, None) {
+        return refused;
+    }
+    state[FIRST_COUNTER * 8..].fill(0);
+    addresses.fill(0);
+    blocks.fill(0);
+    for (k, row) in blocks.chunks_exact_mut(ROW).enumerate() {
+        row[32..36].copy_from_slice(&(k as u32).to_le_bytes());
+    }
+    0
+}
+
+/// The refusals of a read or a write, in their order; gives the sizes and the lookups where there is none.
+macro_rules! checked {
+    ($state:ident, $a:expr, $disk:ident, $flash:ident, $addresses:ident, $blocks:ident, $block:expr, $answer:ident, $counted:expr) => {{
+        if $state.len() != 72 || $answer.len() != 24 {
+            return 2;
+        }
+        let lengths = [$disk.len(), $flash.len(), $addresses.len(), $blocks.len()];
+        let checked = numbers($state, lengths, $a, $block).and_then(|sizes| L::check(&sizes, $addresses, $blocks).map(|lookups| (sizes, lookups)));
+        match checked {
+            Err(refused) => return refused,
+            Ok(_) if $counted && counters_too_large($state) => return 9,
+            Ok(both) => both,
+        }
+    }};
+}
+
+#[allow(clippy::too_many_arguments)]
+pub fn read<L: Lookups>(state: &mut [u8], a: u32, disk: &mut [u8], flash: &mut [u8], addresses: &mut [u8], blocks: &mut [u8], block: &mut [u8], answer: &mut [u8]) -> u32 {
+    let (sizes, lookups) = checked!(state, Some(a), disk, flash, addresses, blocks, Some(block.len()), answer, true);
+    let b = sizes.b;
+    let held = lookups.held(&sizes, addresses, a);
+    let old = held.map(|k| *row(addresses, k));
+    let hit = old.and_then(|old| lookups.cached(blocks, held_fingerprint(&old)).map(|place| (old, place)));
+    let (word, g, cached, dirty) = match hit {
+        Some((old, place)) => {
+            copy(flash, slot(row(blocks, place)), block, 0, b);
+            (HIT, *held_fingerprint(&old), Some(place), is_dirty(&old))
+        }
+        None => {
+            copy(disk, a as usize, block, 0, b);
+            let g = fingerprint(block);
+            (MISS, g, lookups.cached(blocks, &g), false)
+        }
+    };
+    let mut taken = Taken { sizes, lookups, state, disk, flash, addresses, blocks };
+    let (flash_writes, primary_writes) = taken.step(a, held, &g, cached, block, dirty);
+    done(state, answer, word, flash_writes, primary_writes)
+}
+
+#[allow(clippy::too_many_arguments)]
+pub fn write<L: Lookups>(state: &mut [u8], a: u32, disk: &mut [u8], flash: &mut [u8], addresses: &mut [u8], blocks: &mut [u8], block: &[u8], answer: &mut [u8], dirty: bool) -> u32 {
+    let (sizes, lookups) = checked!(state, Some(a), disk, flash, addresses, blocks, Some(block.len()), answer, true);
+    let held = lookups.held(&sizes, addresses, a);
+    let g = fingerprint(block);
+    let cached = lookups.cached(blocks, &g);
+    let word = if cached.is_some() { SAME } else { NEW };
+    if !dirty {
+        copy(block, 0, disk, a as usize, sizes.b);
+    }
+    let mut taken = Taken { sizes, lookups, state, disk, flash, addresses, blocks };
+    let (flash_writes, primary_writes) = taken.step(a, held, &g, cached, block, dirty);
+    done(state, answer, word, flash_writes, primary_writes + !dirty as u64)
+}
+
+#[allow(clippy::too_many_arguments)]
+pub fn write_invalidate<L: Lookups>(state: &mut [u8], a: u32, disk: &mut [u8], flash: &[u8], addresses: &mut [u8], blocks: &mut [u8], block: &[u8], answer: &mut [u8]) -> u32 {
+    let (sizes, lookups) = checked!(state, Some(a), disk, flash, addresses, blocks, Some(block.len()), answer, true);
+    let word = if lookups.cached(blocks, &fingerprint(block)).is_some() { SAME } else { NEW };
+    copy(block, 0, disk, a as usize, sizes.b);
+    if let Some(k) = lookups.held(&sizes, addresses, a) {
+        let old = *row(addresses, k);
+        take_out(addresses, sizes.n, k);
+        set_number(state, 4, sizes.n as u64 - 1);
+        if let Some(place) = lookups.cached(blocks, held_fingerprint(&old)) {
+            if (0..sizes.n - 1).all(|k| held_fingerprint(row(addresses, k)) != held_fingerprint(&old)) {
+                set_free(blocks, place);
+            }
+        }
+    }
+    done(state, answer, word, 0, 1)
+}
+
+pub fn flush<L: Lookups>(state: &mut [u8], disk: &mut [u8], flash: &[u8], addresses: &mut [u8], blocks: &[u8], answer: &mut [u8]) -> u32 {
+    let (sizes, lookups) = checked!(state, None, disk, flash, addresses, blocks, None, answer, true);
+    let mut primary_writes = 0;
+    for k in 0..sizes.n {
+        let held = *row(addresses, k);
+        if is_dirty(&held) {
+            let place = lookups.cached(blocks, held_fingerprint(&held)).unwrap();
+            copy(flash, slot(row(blocks, place)), disk, address(&held) as usize, sizes.b);
+            addresses[k * ROW + 36] = 0;
+            primary_writes += 1;
+        }
+    }
+    done(state, answer, DONE, 0, primary_writes)
+}
+
+pub fn look<L: Lookups>(state: &[u8], a: u32, disk: &[u8], flash: &[u8], addresses: &[u8], blocks: &[u8], answer: &mut [u8]) -> u32 {
+    let (sizes, lookups) = checked!(state, Some(a), disk, flash, addresses, blocks, None, answer, false);
+    let place = lookups.held(&sizes, addresses, a).and_then(|k| lookups.cached(blocks, held_fingerprint(row(addresses, k))));
+    match place {
+        Some(place) => fill(answer, CACHE, (slot(row(blocks, place)) * sizes.b) as u64, sizes.b as u64),
+        None => fill(answer, DISK, a as u64 * sizes.b as u64, sizes.b as u64),
+    }
+}

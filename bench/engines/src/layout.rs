@@ -1,0 +1,90 @@
+//! The lent bytes: the state, the rows of both tables, and the moves of rows.
+use sha2::{Digest, Sha256};
+
+pub type Fingerprint = [u8; 32];
+pub const ROW: usize = 40;
+
+pub fn fingerprint(block: &[u8]) -> Fingerprint {
+    Sha256::digest(block).into()
+}
+
+pub fn number(bytes: &[u8], k: usize) -> u64 {
+    u64::from_le_bytes(bytes[k * 8..k * 8 + 8].try_into().unwrap())
+}
+
+pub fn set_number(bytes: &mut [u8], k: usize, number: u64) {
+    bytes[k * 8..k * 8 + 8].copy_from_slice(&number.to_le_bytes());
+}
+
+#[derive(Clone, Copy)]
+pub struct Sizes {
+    pub b: usize,
+    pub p: usize,
+    pub m: usize,
+    pub d: usize,
+    pub n: usize,
+}
+
+/// The numbers of the box, where B, P, m and d are in their sets.
+pub fn sizes(state: &[u8]) -> Result<Sizes, u32> {
+    let [b, p, m, d, n] = std::array::from_fn(|k| number(state, k));
+    let good = b.is_power_of_two() && (64..=4096).contains(&b) && (1..=65_536).contains(&p) && (1..=1024).contains(&m) && (1..=256).contains(&d);
+    if !good {
+        return Err(1);
+    }
+    Ok(Sizes { b: b as usize, p: p as usize, m: m as usize, d: d as usize, n: usize::try_from(n).unwrap_or(usize::MAX) })
+}
+
+pub fn row(table: &[u8], k: usize) -> &[u8; ROW] {
+    table[k * ROW..(k + 1) * ROW].try_into().unwrap()
+}
+
+// Address rows.
+pub fn address(row: &[u8; ROW]) -> u32 {
+    u32::from_le_bytes(row[..4].try_into().unwrap())
+}
+
+pub fn held_fingerprint(row: &[u8; ROW]) -> &Fingerprint {
+    row[4..36].try_into().unwrap()
+}
+
+pub fn is_dirty(row: &[u8; ROW]) -> bool {
+    row[36] == 1
+}
+
+/// Takes a held row out; those behind it move up and a zero row comes after them.
+pub fn take_out(addresses: &mut [u8], n: usize, k: usize) {
+    addresses.copy_within((k + 1) * ROW..n * ROW, k * ROW);
+    addresses[(n - 1) * ROW..n * ROW].fill(0);
+}
+
+pub fn add(addresses: &mut [u8], n: usize, a: u32, g: &Fingerprint, dirty: bool) {
+    let row = &mut addresses[n * ROW..(n + 1) * ROW];
+    row[..4].copy_from_slice(&a.to_le_bytes());
+    row[4..36].copy_from_slice(g);
+    row[36] = dirty as u8;
+}
+
+// Block rows.
+pub fn cached_fingerprint(row: &[u8; ROW]) -> &Fingerprint {
+    row[..32].try_into().unwrap()
+}
+
+pub fn slot(row: &[u8; ROW]) -> usize {
+    u32::from_le_bytes(row[32..36].try_into().unwrap()) as usize
+}
+
+pub fn is_used(row: &[u8; ROW]) -> bool {
+    row[36] == 1
+}
+
+/// A used row becomes free and the first of all.
+pub fn set_free(blocks: &mut [u8], k: usize) {
+    blocks[..(k + 1) * ROW].rotate_right(ROW);
+    blocks[..32].fill(0);
+    blocks[36] = 0;
+}
+
+pub fn to_newest(blocks: &mut [u8], k: usize) {
+    blocks[k * ROW..].rotate_left(ROW);
+}

@@ -1,0 +1,108 @@
+//! The engines are right before they are measured: their bytes and numbers are the model's, from fresh boxes and on broken ones.
+use common::Random;
+use engines::persistent::Persistent;
+use engines::{maps, pairs};
+use model::{carry_out, Call, Lent, Numbers, CALLS, ROW};
+
+/// A call by the functions of an engine's module.
+macro_rules! by {
+    ($engine:ident, $call:expr, $a:expr, $lent:expr) => {{
+        let Lent { state, disk, flash, addresses, blocks, block, answer } = $lent;
+        match $call {
+            Call::Open => $engine::open(state, disk, flash, addresses, blocks),
+            Call::Read => $engine::read(state, $a, disk, flash, addresses, blocks, block, answer),
+            Call::Through => $engine::write_through(state, $a, disk, flash, addresses, blocks, block, answer),
+            Call::Back => $engine::write_back(state, $a, disk, flash, addresses, blocks, block, answer),
+            Call::Invalidate => $engine::write_invalidate(state, $a, disk, flash, addresses, blocks, block, answer),
+            Call::Flush => $engine::flush(state, disk, flash, addresses, blocks, answer),
+            Call::Look => $engine::look(state, $a, disk, flash, addresses, blocks, answer),
+        }
+    }};
+}
+
+fn by_persistent(engine: &mut Persistent, call: Call, a: u32, lent: &mut Lent) -> u32 {
+    let Lent { state, disk, flash, addresses, blocks, block, answer } = lent;
+    let number = match call {
+        Call::Open => panic!("made by load"),
+        Call::Read => engine.read(a, disk, flash, block, answer),
+        Call::Through => engine.write_through(a, disk, flash, block, answer),
+        Call::Back => engine.write_back(a, disk, flash, block, answer),
+        Call::Invalidate => engine.write_invalidate(a, disk, block, answer),
+        Call::Flush => engine.flush(disk, flash, answer),
+        Call::Look => engine.look(a, answer),
+    };
+    engine.store(state, addresses, blocks);
+    number
+}
+
+fn unopened(random: &mut Random, b: usize, p: usize, m: usize, d: usize, contents: usize) -> Lent {
+    Lent {
+        state: Numbers { b: b as u64, p: p as u64, m: m as u64, d: d as u64, n: random.number(), counters: [random.number(); 4] }.to_bytes(),
+        disk: (0..p).flat_map(|_| vec![random.below(contents) as u8; b]).collect(),
+        flash: random.bytes(d * b),
+        addresses: random.bytes(m * ROW),
+        blocks: random.bytes(d * ROW),
+        block: random.bytes(b),
+        answer: random.bytes(24),
+    }
+}
+
+fn is(given: u32, lent: &Lent, number: u32, expected: &Lent, context: &str) {
+    assert_eq!(given, number, "{context}");
+    assert_eq!(lent.difference(expected), None, "{context}");
+}
+
+#[test]
+fn lists_and_broken_boxes() {
+    let seed = 21;
+    let mut random = Random(seed);
+    let (mut calls, mut broken, mut numbers) = (0, 0, [0; 10]);
+    for round in 0..300 {
+        let b = [64, 128, 256][random.below(3)];
+        // A few large tables among the small ones.
+        let (most_p, most_m, most_d) = if round % 50 == 0 { (600, 400, 200) } else { (14, 8, 6) };
+        let (p, m, d) = (1 + random.below(most_p), 1 + random.below(most_m), 1 + random.below(most_d));
+        let contents = 1 + random.below(2 * d.min(100));
+        let mut expected = unopened(&mut random, b, p, m, d, contents);
+        let [mut one, mut two] = [expected.clone(), expected.clone()];
+        assert_eq!(carry_out(Call::Open, 0, &mut expected), 0);
+        is(by!(maps, Call::Open, 0, &mut one), &one, 0, &expected, "maps, opening");
+        is(by!(pairs, Call::Open, 0, &mut two), &two, 0, &expected, "pairs, opening");
+        let mut three = expected.clone();
+        let mut persistent = Persistent::load(&three.state, &three.addresses, &three.blocks);
+        for turn in 0..200 {
+            let call = CALLS[1 + random.below(6)];
+            let a = random.below(p + 1) as u32;
+            let context = format!("{call:?} {a}, turn {turn} of round {round}, seed {seed}");
+            expected.block = vec![random.below(contents) as u8; b];
+            for lent in [&mut one, &mut two, &mut three] {
+                lent.block.clone_from(&expected.block);
+            }
+            // A copy with a byte changed, or a length.
+            if random.below(2) == 0 {
+                let mut bad = expected.clone();
+                match random.below(8) {
+                    0..=2 => bad.addresses[random.below(m * ROW)] ^= 1 << random.below(8),
+                    3..=5 => bad.blocks[random.below(d * ROW)] ^= 1 << random.below(8),
+                    6 => bad.state[random.below(72)] ^= 1 << random.below(8),
+                    _ => drop([&mut bad.disk, &mut bad.flash, &mut bad.addresses, &mut bad.blocks, &mut bad.block, &mut bad.state, &mut bad.answer][random.below(7)].pop()),
+                }
+                let call = CALLS[random.below(7)];
+                let [mut first, mut second] = [bad.clone(), bad.clone()];
+                let number = carry_out(call, a, &mut bad);
+                is(by!(maps, call, a, &mut first), &first, number, &bad, &format!("maps, broken, {context}"));
+                is(by!(pairs, call, a, &mut second), &second, number, &bad, &format!("pairs, broken, {context}"));
+                numbers[number as usize] += 1;
+                broken += 1;
+            }
+            let number = carry_out(call, a, &mut expected);
+            is(by!(maps, call, a, &mut one), &one, number, &expected, &format!("maps, {context}"));
+            is(by!(pairs, call, a, &mut two), &two, number, &expected, &format!("pairs, {context}"));
+            if number == 0 {
+                is(by_persistent(&mut persistent, call, a, &mut three), &three, 0, &expected, &format!("persistent, {context}"));
+            }
+            calls += 1;
+        }
+    }
+    println!("{calls} calls by three engines and {broken} broken boxes by two agree with the model (seed {seed}); numbers {numbers:?}");
+}

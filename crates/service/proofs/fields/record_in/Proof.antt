@@ -1,0 +1,20 @@
+-- Each field is the eight bytes at its place. Assumes nothing.
+use borrow.Author.Needs.{needs}
+use Rattle.service.specs.Fields.{get8}
+use Rattle.service.proofs.fields.record_in.Statement.{statement}
+use Rattle.service.proofs.fields.record_in.Tie as tie
+
+returns : tie.Need-returns
+unfolding get8
+returns c =
+    λ i. record {
+      size = c .before .before .before .before .get8 .ensures i;
+      blocks = c .before .before .before .get82 .ensures i;
+      rows = c .before .before .get83 .ensures i;
+      slots = c .before .get84 .ensures i;
+      held = c .get85 .ensures i;
+    }
+
+pub record-in-spec : {M : Type 1} → statement M
+record-in-spec =
+    tie.close (tie.spec (λ c κs. search needs) (λ c κs. search needs) (λ c κs. search needs) (λ c κs. search needs) (λ c κs. search needs) returns)

@@ -1,0 +1,214 @@
+-- What is written into the state and the answer is what is read there, and nothing else is changed. Assumes nothing.
+use mathlib.Core.Path.{_≡_, refl, sym, ap, _∙_}
+use mathlib.Core.List.{List, _++_}
+use Prim.Native.Nat.{ℕ, _+_, _-_, _*_, _/_, _%_, _^_, _≤_, _<_}
+use native.Mathlib.Nat.{div-add-mod}
+use native.Mathlib.Omega.{arith}
+use lib.ListN.{length, take, drop, getD, List·getD-append}
+use lib.Seq.{length-take-le, getD-append-add, getD-take, getD-drop}
+use Rattle.tables.specs.Rows.{le8}
+use Rattle.block.specs.Blocks.{splice}
+use Rattle.block.specs.Laws.{length-splice}
+use Rattle.paper.specs.Cache.{Counters}
+use Rattle.policy.specs.declared.BoxRecord.{BoxRecord}
+use Rattle.policy.specs.Contract.{countersOf}
+use Rattle.service.specs.Fields.{lowBytes, get8, put8, recordIn, countersIn, putState, putAnswer}
+
+-- ---- a list written over another
+
+module _ (at : ℕ) (x d : List ℕ) (h : at + length x ≤ length d) where
+  front : length (take at d) ≡ at
+  front = length-take-le at d (omega arith)
+
+  in-splice : (j : ℕ) → j < length x → getD (splice at x d) (at + j) 0 ≡ getD x j 0
+  unfolding splice
+  in-splice j l =
+      ap (λ (k : ℕ). getD (take at d ++ (x ++ drop (at + length x) d)) (k + j) 0) (sym front)
+      ∙ getD-append-add (take at d) (x ++ drop (at + length x) d) j 0
+      ∙ List·getD-append x (drop (at + length x) d) 0 j l
+
+  before-splice : (i : ℕ) → i < at → getD (splice at x d) i 0 ≡ getD d i 0
+  unfolding splice
+  before-splice i l = List·getD-append (take at d) (x ++ drop (at + length x) d) 0 i (omega (arith, front)) ∙ getD-take at d i 0 l
+
+  after-splice : (j : ℕ) → getD (splice at x d) (at + (length x + j)) 0 ≡ getD d (at + (length x + j)) 0
+  unfolding splice
+  after-splice j =
+      ap (λ (k : ℕ). getD (take at d ++ (x ++ drop (at + length x) d)) (k + (length x + j)) 0) (sym front)
+      ∙ getD-append-add (take at d) (x ++ drop (at + length x) d) (length x + j) 0
+      ∙ getD-append-add x (drop (at + length x) d) j 0
+      ∙ getD-drop (at + length x) d j 0
+      ∙ ap (λ (k : ℕ). getD d k 0) (omega arith)
+
+-- ---- the eight bytes of a number
+
+half : (a r0 q1 r1 q2 r2 q3 r3 q4 : ℕ) → 256 * q1 + r0 ≡ a → 256 * q2 + r1 ≡ q1 → 256 * q3 + r2 ≡ q2 → 256 * q4 + r3 ≡ q3 → r0 + 256 * r1 + 65536 * r2 + 16777216 * r3 + 4294967296 * q4 ≡ a
+half a r0 q1 r1 q2 r2 q3 r3 q4 e0 e1 e2 e3 = omega arith
+
+halves : (a x q r4 r5 r6 r7 z : ℕ) → x + 4294967296 * q ≡ a → r4 + 256 * r5 + 65536 * r6 + 16777216 * r7 + 4294967296 * z ≡ q → a < 18446744073709551616
+    → x + 4294967296 * r4 + 1099511627776 * r5 + 281474976710656 * r6 + 72057594037927936 * r7 ≡ a
+halves a x q r4 r5 r6 r7 z e f h =
+    let none : z ≡ 0 = omega arith in
+    omega arith
+
+-- a number below 2 ^ 64 is read from its eight bytes
+pub low-read : (v : ℕ) → v < 2 ^ 64 → le8 (lowBytes 8 v) 0 ≡ v
+low-read v h =
+    let step : (q : ℕ) → 256 * (q / 256) + q % 256 ≡ q = λ q. div-add-mod q 256 in
+    let q = v / 256 / 256 / 256 / 256 in
+    let low = half v _ _ _ _ _ _ _ _ (step v) (step (v / 256)) (step (v / 256 / 256)) (step (v / 256 / 256 / 256)) in
+    let high = half q _ _ _ _ _ _ _ _ (step q) (step (q / 256)) (step (q / 256 / 256)) (step (q / 256 / 256 / 256)) in
+    halves v _ q _ _ _ _ _ low high h
+
+-- eight bytes make a number below 2 ^ 64
+pub get8-below : (s : List ℕ) (at : ℕ) → ((i : ℕ) → getD s i 0 < 256) → get8 s at < 2 ^ 64
+unfolding get8
+get8-below s at h = omega (arith, h at, h (at + 1), h (at + 2), h (at + 3), h (at + 4), h (at + 5), h (at + 6), h (at + 7))
+
+-- two lists with the same eight bytes
+same-read : (s t : List ℕ) (at to : ℕ) → ((j : ℕ) → j < 8 → getD s (at + j) 0 ≡ getD t (to + j) 0) → le8 s at ≡ le8 t to
+same-read s t at to f =
+    let plus : (n : ℕ) → n ≡ n + 0 = λ n. omega arith in
+    let e0 : getD s at 0 ≡ getD t to 0 = ap (λ (k : ℕ). getD s k 0) (plus at) ∙ f 0 (omega arith) ∙ ap (λ (k : ℕ). getD t k 0) (sym (plus to)) in
+    let e1 = f 1 (omega arith) in
+    let e2 = f 2 (omega arith) in
+    let e3 = f 3 (omega arith) in
+    let e4 = f 4 (omega arith) in
+    let e5 = f 5 (omega arith) in
+    let e6 = f 6 (omega arith) in
+    let e7 = f 7 (omega arith) in
+    λ i. e0 i + 256 * e1 i + 65536 * e2 i + 16777216 * e3 i + 4294967296 * e4 i + 1099511627776 * e5 i + 281474976710656 * e6 i + 72057594037927936 * e7 i
+
+zero-plus : (s : List ℕ) (j : ℕ) → getD s j 0 ≡ getD s (0 + j) 0
+zero-plus s j = ap (λ (k : ℕ). getD s k 0) (omega arith)
+
+module _ (at v : ℕ) (s : List ℕ) (h : at + 8 ≤ length s) where
+  pub length-put8 : length (put8 at v s) ≡ length s
+  unfolding put8
+  length-put8 = length-splice at (lowBytes 8 v) s h
+
+  -- what is written is read
+  pub get8-put8 : v < 2 ^ 64 → get8 (put8 at v s) at ≡ v
+  unfolding get8 put8
+  get8-put8 l = same-read (splice at (lowBytes 8 v) s) (lowBytes 8 v) at 0 (λ j k. in-splice at (lowBytes 8 v) s h j k ∙ zero-plus (lowBytes 8 v) j) ∙ low-read v l
+
+  -- the numbers before it and after it stay
+  pub get8-before : (i : ℕ) → i + 8 ≤ at → get8 (put8 at v s) i ≡ get8 s i
+  unfolding get8 put8
+  get8-before i l = same-read (splice at (lowBytes 8 v) s) s i i (λ j k. before-splice at (lowBytes 8 v) s h (i + j) (omega arith))
+
+  pub get8-after : (i : ℕ) → at + 8 ≤ i → get8 (put8 at v s) i ≡ get8 s i
+  unfolding get8 put8
+  get8-after i l =
+      same-read (splice at (lowBytes 8 v) s) s i i
+      (λ j k.
+      let e : i + j ≡ at + (8 + (i + j - at - 8)) = omega arith in
+      ap (λ (n : ℕ). getD (splice at (lowBytes 8 v) s) n 0) e ∙ after-splice at (lowBytes 8 v) s h (i + j - at - 8) ∙ ap (λ (n : ℕ). getD s n 0) (sym e))
+
+-- ---- the state
+
+module _ (n : ℕ) (k : Counters) (s : List ℕ) (h : length s ≡ 72) where
+  abbrev s₁ : List ℕ
+  s₁ = put8 32 n s
+
+  abbrev s₂ : List ℕ
+  s₂ = put8 40 (k .reads) s₁
+
+  abbrev s₃ : List ℕ
+  s₃ = put8 48 (k .hits) s₂
+
+  abbrev s₄ : List ℕ
+  s₄ = put8 56 (k .flashWrites) s₃
+
+  l₁ : length s₁ ≡ 72
+  l₁ = length-put8 32 n s (omega arith) ∙ h
+
+  l₂ : length s₂ ≡ 72
+  l₂ = length-put8 40 (k .reads) s₁ (omega (arith, l₁)) ∙ l₁
+
+  l₃ : length s₃ ≡ 72
+  l₃ = length-put8 48 (k .hits) s₂ (omega (arith, l₂)) ∙ l₂
+
+  l₄ : length s₄ ≡ 72
+  l₄ = length-put8 56 (k .flashWrites) s₃ (omega (arith, l₃)) ∙ l₃
+
+  pub length-putState : length (putState n k s) ≡ 72
+  unfolding putState
+  length-putState = length-put8 64 (k .primaryWrites) s₄ (omega (arith, l₄)) ∙ l₄
+
+  -- a number before n's place stays
+  kept : (i : ℕ) → i + 8 ≤ 32 → get8 (putState n k s) i ≡ get8 s i
+  unfolding putState
+  kept i l =
+      get8-before 64 (k .primaryWrites) s₄ (omega (arith, l₄)) i (omega arith)
+      ∙ get8-before 56 (k .flashWrites) s₃ (omega (arith, l₃)) i (omega arith)
+      ∙ get8-before 48 (k .hits) s₂ (omega (arith, l₂)) i (omega arith)
+      ∙ get8-before 40 (k .reads) s₁ (omega (arith, l₁)) i (omega arith)
+      ∙ get8-before 32 n s (omega arith) i l
+
+  held-read : n < 2 ^ 64 → get8 (putState n k s) 32 ≡ n
+  unfolding putState
+  held-read b =
+      get8-before 64 (k .primaryWrites) s₄ (omega (arith, l₄)) 32 (omega arith)
+      ∙ get8-before 56 (k .flashWrites) s₃ (omega (arith, l₃)) 32 (omega arith)
+      ∙ get8-before 48 (k .hits) s₂ (omega (arith, l₂)) 32 (omega arith)
+      ∙ get8-before 40 (k .reads) s₁ (omega (arith, l₁)) 32 (omega arith)
+      ∙ get8-put8 32 n s (omega arith) b
+
+  -- the next call reads the box record with the n that this one wrote
+  pub record-back : n < 2 ^ 64 → recordIn (putState n k s) ≡ record { size = get8 s 0; blocks = get8 s 8; rows = get8 s 16; slots = get8 s 24; held = n }
+  record-back b = λ i. record { size = kept 0 (omega arith) i; blocks = kept 8 (omega arith) i; rows = kept 16 (omega arith) i; slots = kept 24 (omega arith) i; held = held-read b i }
+
+  reads-read : k .reads < 2 ^ 64 → get8 (putState n k s) 40 ≡ k .reads
+  unfolding putState
+  reads-read b =
+      get8-before 64 (k .primaryWrites) s₄ (omega (arith, l₄)) 40 (omega arith)
+      ∙ get8-before 56 (k .flashWrites) s₃ (omega (arith, l₃)) 40 (omega arith)
+      ∙ get8-before 48 (k .hits) s₂ (omega (arith, l₂)) 40 (omega arith)
+      ∙ get8-put8 40 (k .reads) s₁ (omega (arith, l₁)) b
+
+  hits-read : k .hits < 2 ^ 64 → get8 (putState n k s) 48 ≡ k .hits
+  unfolding putState
+  hits-read b =
+      get8-before 64 (k .primaryWrites) s₄ (omega (arith, l₄)) 48 (omega arith)
+      ∙ get8-before 56 (k .flashWrites) s₃ (omega (arith, l₃)) 48 (omega arith)
+      ∙ get8-put8 48 (k .hits) s₂ (omega (arith, l₂)) b
+
+  flash-read : k .flashWrites < 2 ^ 64 → get8 (putState n k s) 56 ≡ k .flashWrites
+  unfolding putState
+  flash-read b = get8-before 64 (k .primaryWrites) s₄ (omega (arith, l₄)) 56 (omega arith) ∙ get8-put8 56 (k .flashWrites) s₃ (omega (arith, l₃)) b
+
+  primary-read : k .primaryWrites < 2 ^ 64 → get8 (putState n k s) 64 ≡ k .primaryWrites
+  unfolding putState
+  primary-read b = get8-put8 64 (k .primaryWrites) s₄ (omega (arith, l₄)) b
+
+  -- and the counters that it wrote
+  pub counters-back : k .reads < 2 ^ 64 → k .hits < 2 ^ 64 → k .flashWrites < 2 ^ 64 → k .primaryWrites < 2 ^ 64 → countersOf (countersIn (putState n k s)) ≡ k
+  counters-back br bh bf bp = λ i. record { reads = reads-read br i; hits = hits-read bh i; flashWrites = flash-read bf i; primaryWrites = primary-read bp i }
+
+-- ---- the answer
+
+module _ (word second third : ℕ) (l : List ℕ) (h : length l ≡ 24) where
+  abbrev m₁ : List ℕ
+  m₁ = put8 0 word l
+
+  abbrev m₂ : List ℕ
+  m₂ = put8 8 second m₁
+
+  k₁ : length m₁ ≡ 24
+  k₁ = length-put8 0 word l (omega arith) ∙ h
+
+  k₂ : length m₂ ≡ 24
+  k₂ = length-put8 8 second m₁ (omega (arith, k₁)) ∙ k₁
+
+  pub word-read : word < 2 ^ 64 → get8 (putAnswer word second third l) 0 ≡ word
+  unfolding putAnswer
+  word-read b = get8-before 16 third m₂ (omega (arith, k₂)) 0 (omega arith) ∙ get8-before 8 second m₁ (omega (arith, k₁)) 0 (omega arith) ∙ get8-put8 0 word l (omega arith) b
+
+  pub second-read : second < 2 ^ 64 → get8 (putAnswer word second third l) 8 ≡ second
+  unfolding putAnswer
+  second-read b = get8-before 16 third m₂ (omega (arith, k₂)) 8 (omega arith) ∙ get8-put8 8 second m₁ (omega (arith, k₁)) b
+
+  pub third-read : third < 2 ^ 64 → get8 (putAnswer word second third l) 16 ≡ third
+  unfolding putAnswer
+  third-read b = get8-put8 16 third m₂ (omega (arith, k₂)) b

@@ -1,0 +1,53 @@
+-- Numbers in bytes: the fields of the state and of an answer. Assumes nothing.
+use mathlib.Core.List.{List, [], _∷_}
+use mathlib.Core.Bool.{Bool, _&&_}
+use Prim.Native.Nat.{ℕ, zero, suc, _/_, _%_}
+use lib.Dec.{eqb}
+use lib.ListN.{length}
+use Rattle.tables.specs.Rows.{le8}
+use Rattle.block.specs.Blocks.{splice}
+use Rattle.counters.specs.declared.Counters as Code
+use Rattle.paper.specs.Cache.{Counters, Word, hit, miss, sameBlock, newBlock, fromCache, fromDisk, done}
+use Rattle.policy.specs.declared.BoxRecord.{BoxRecord}
+
+-- the n bytes of a number, lowest first
+abbrev pub lowBytes : ℕ → ℕ → List ℕ
+lowBytes zero v = []
+lowBytes (suc n) v = v % 256 ∷ lowBytes n (v / 256)
+
+-- the number in the eight bytes of s from index at on, "little-endian"
+unfoldable pub get8 : List ℕ → ℕ → ℕ
+get8 s at = le8 s at
+
+-- s with the eight bytes of v written over it from index at on
+unfoldable pub put8 : (at v : ℕ) → List ℕ → List ℕ
+put8 at v s = splice at (lowBytes 8 v) s
+
+-- the state, 72 bytes: B, P, m, d, n, then the counters: reads, hits, flash writes, primary writes
+abbrev pub recordIn : List ℕ → BoxRecord
+recordIn s = record { size = get8 s 0; blocks = get8 s 8; rows = get8 s 16; slots = get8 s 24; held = get8 s 32 }
+
+abbrev pub countersIn : List ℕ → Code.Counters
+countersIn s = record { reads = get8 s 40; hits = get8 s 48; flash = get8 s 56; primary = get8 s 64 }
+
+-- n and the counters written into the state; B, P, m and d stay
+unfoldable pub putState : ℕ → Counters → List ℕ → List ℕ
+putState n k s = put8 64 (k .primaryWrites) (put8 56 (k .flashWrites) (put8 48 (k .hits) (put8 40 (k .reads) (put8 32 n s))))
+
+-- the answer, 24 bytes: the word, then the flash writes and the primary writes; of a look, where its part starts and how long it is
+unfoldable pub putAnswer : (word second third : ℕ) → List ℕ → List ℕ
+putAnswer word second third l = put8 16 third (put8 8 second (put8 0 word l))
+
+-- the numbers of the words
+abbrev pub wordNumber : Word → ℕ
+wordNumber hit = 1
+wordNumber miss = 2
+wordNumber sameBlock = 3
+wordNumber newBlock = 4
+wordNumber fromCache = 5
+wordNumber fromDisk = 6
+wordNumber done = 7
+
+-- the state has 72 bytes, and the answer 24
+unfoldable pub fitting : (state answer : List ℕ) → Bool
+fitting s l = eqb (length s) 72 && eqb (length l) 24

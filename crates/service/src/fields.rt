@@ -1,0 +1,196 @@
+// Numbers in bytes: the fields of the state and of an answer.
+use counters::Counters;
+use policy::Answer;
+use policy::BoxRecord;
+use policy::Word;
+use policy::calls::Outcome;
+use policy::look::Place;
+use policy::open::Begun;
+use policy::open::Opening;
+ghost use mathlib.Core.Path.{_≡_};
+ghost use Prim.Native.Nat.{_+_, _*_, _≤_, _<_, _^_};
+ghost use lib.ListN.{length};
+ghost use Rattle.policy.specs.Contract.{wordOf, answerOf, countersOf, numberOf};
+ghost use Rattle.block.specs.Blocks.{splice};
+ghost use Rattle.tables.specs.Rows.{le8};
+ghost use Rattle.service.specs.Fields.{lowBytes, recordIn, countersIn, putState, putAnswer, wordNumber, fitting};
+ghost use Rattle.service.specs.Left.{noted, opening, startOf, placeIn};
+
+// A byte, widened.
+fn wide(x: u8) -> u64
+    ensures { λ r. ⌜ (r ≡ x) × (r < 256) ⌝ }
+{
+    x as u64
+}
+
+// The number in the eight bytes from index `at` on, little-endian.
+pub(crate) fn get8(s: &[u8], at: usize) -> u64
+    requires { ⌜ at + 8 ≤ length (now s) ⌝ }
+    ensures { λ r. ⌜ r ≡ le8 (now (s .entry)) at ⌝ }
+{
+    wide(s[at])
+        + 256 * wide(s[at + 1])
+        + 65536 * wide(s[at + 2])
+        + 16777216 * wide(s[at + 3])
+        + 4294967296 * wide(s[at + 4])
+        + 1099511627776 * wide(s[at + 5])
+        + 281474976710656 * wide(s[at + 6])
+        + 72057594037927936 * wide(s[at + 7])
+}
+
+// Writes the eight bytes of `v` from index `at` on, little-endian.
+pub(crate) fn put8(s: &mut [u8], at: usize, v: u64)
+    requires { ⌜ at + 8 ≤ length (now s) ⌝ }
+    ensures { λ _. ⌜ now (s .exit) ≡ splice at (lowBytes 8 v) (now (s .entry)) ⌝ }
+{
+    let w = [
+        (v % 256) as u8,
+        (v / 256 % 256) as u8,
+        (v / 256 / 256 % 256) as u8,
+        (v / 256 / 256 / 256 % 256) as u8,
+        (v / 256 / 256 / 256 / 256 % 256) as u8,
+        (v / 256 / 256 / 256 / 256 / 256 % 256) as u8,
+        (v / 256 / 256 / 256 / 256 / 256 / 256 % 256) as u8,
+        (v / 256 / 256 / 256 / 256 / 256 / 256 / 256 % 256) as u8,
+    ];
+    block::put(&w, s, at);
+}
+
+// Whether the state has 72 bytes and the answer 24.
+pub(crate) fn fit(state: &[u8], answer: &[u8]) -> bool
+    ensures { λ r. ⌜ r ≡ fitting (now (state .entry)) (now (answer .entry)) ⌝ }
+{
+    if state.len() != 72 {
+        return false;
+    }
+    answer.len() == 24
+}
+
+// The box record in the state.
+pub(crate) fn record_in(state: &[u8]) -> BoxRecord
+    requires { ⌜ length (now state) ≡ 72 ⌝ }
+    ensures { λ r. ⌜ r ≡ recordIn (now (state .entry)) ⌝ }
+{
+    BoxRecord {
+        size: get8(state, 0) as usize,
+        blocks: get8(state, 8) as usize,
+        rows: get8(state, 16) as usize,
+        slots: get8(state, 24) as usize,
+        held: get8(state, 32) as usize,
+    }
+}
+
+// The counters in the state.
+pub(crate) fn counters_in(state: &[u8]) -> Counters
+    requires { ⌜ length (now state) ≡ 72 ⌝ }
+    ensures { λ r. ⌜ r ≡ countersIn (now (state .entry)) ⌝ }
+{
+    Counters {
+        reads: get8(state, 40),
+        hits: get8(state, 48),
+        flash: get8(state, 56),
+        primary: get8(state, 64),
+    }
+}
+
+// Writes n and the counters into the state.
+pub(crate) fn put_state(state: &mut [u8], held: usize, c: Counters)
+    requires { ⌜ length (now state) ≡ 72 ⌝ }
+    ensures { λ _. ⌜ now (state .exit) ≡ putState held (countersOf c) (now (state .entry)) ⌝ }
+{
+    put8(state, 32, held as u64);
+    put8(state, 40, c.reads);
+    put8(state, 48, c.hits);
+    put8(state, 56, c.flash);
+    put8(state, 64, c.primary);
+}
+
+// Writes an answer's three numbers.
+pub(crate) fn put_answer(answer: &mut [u8], word: u64, second: usize, third: usize)
+    requires { ⌜ length (now answer) ≡ 24 ⌝ }
+    ensures { λ _. ⌜ now (answer .exit) ≡ putAnswer word second third (now (answer .entry)) ⌝ }
+{
+    put8(answer, 0, word);
+    put8(answer, 8, second as u64);
+    put8(answer, 16, third as u64);
+}
+
+// The number of a word.
+pub(crate) fn word_number(w: Word) -> u64
+    ensures { λ r. ⌜ r ≡ wordNumber (wordOf w) ⌝ }
+{
+    match w {
+        Word::Hit => 1,
+        Word::Miss => 2,
+        Word::Same => 3,
+        Word::New => 4,
+        Word::Cache => 5,
+        Word::Disk => 6,
+        Word::Done => 7,
+    }
+}
+
+// Writes what a call tells into the state and the answer. The number of the refusal, 0 where the call was served.
+pub(crate) fn write_outcome(state: &mut [u8], answer: &mut [u8], o: Outcome) -> u32
+    requires { ⌜ (length (now state) ≡ 72) × (length (now answer) ≡ 24) ⌝ }
+    ensures { λ r. ⌜ record { number = r; state = now (state .exit); answer = now (answer .exit) }
+        ≡ noted (answerOf (o .answer)) (o .box_record .held) (countersOf (o .counters)) (now (state .entry)) (now (answer .entry)) ⌝ }
+{
+    let a = o.answer;
+    let b = o.box_record;
+    let c = o.counters;
+    match a {
+        Answer::Refused(k) => k,
+        Answer::Answered(w, f, p) => {
+            put_state(state, b.held, c);
+            put_answer(answer, word_number(w), f, p);
+            0
+        }
+    }
+}
+
+// Writes what an opening tells into the state: n alone where it was refused. The number of the refusal, 0 where the box is open.
+pub(crate) fn write_opening(state: &mut [u8], o: Begun) -> u32
+    requires { ⌜ length (now state) ≡ 72 ⌝ }
+    ensures { λ r. ⌜ (r ≡ numberOf (o .answer)) × (now (state .exit) ≡ opening (numberOf (o .answer)) (o .box_record .held) (countersOf (o .counters)) (now (state .entry))) ⌝ }
+{
+    let a = o.answer;
+    let b = o.box_record;
+    let c = o.counters;
+    let number = opening_number(a);
+    if number == 0 {
+        put_state(state, b.held, c);
+        return number;
+    }
+    put8(state, 32, b.held as u64);
+    number
+}
+
+// The number of an opening's answer.
+fn opening_number(a: Opening) -> u32
+    ensures { λ r. ⌜ r ≡ numberOf a ⌝ }
+{
+    match a {
+        Opening::Refused(k) => k,
+        Opening::Open => 0,
+    }
+}
+
+// Writes the place of a look's part into the answer. The number of the refusal, 0 where the look was served.
+pub(crate) fn write_place(answer: &mut [u8], size: usize, address: u32, p: Place) -> u32
+    requires { ⌜ (length (now answer) ≡ 24) × (startOf size address p < 2 ^ 64) ⌝ }
+    ensures { λ r. ⌜ record { number = r; answer = now (answer .exit) } ≡ placeIn size address (now (answer .entry)) p ⌝ }
+{
+    match p {
+        Place::Refused(k) => k,
+        Place::Flash(s) => {
+            let k = s.0;
+            put_answer(answer, 5, k as usize * size, size);
+            0
+        }
+        Place::Disk => {
+            put_answer(answer, 6, address as usize * size, size);
+            0
+        }
+    }
+}

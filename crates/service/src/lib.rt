@@ -1,0 +1,175 @@
+// The service that C calls: numbers and byte slices. Each call reads the box record and the counters in the state's bytes,
+// does the cache's call, and writes what it tells into the state and the answer.
+mod fields;
+
+use tables::SourceAddress;
+ghost use mathlib.Core.Path.{_≡_};
+ghost use mathlib.Core.Option.{Option};
+ghost use mathlib.Core.Bool.{true};
+ghost use Rattle.paper.specs.Lent.{Ask, call};
+ghost use Rattle.policy.specs.Contract.{numbersOf};
+ghost use Rattle.service.specs.Fields.{recordIn, fitting};
+ghost use Rattle.service.specs.Left.{lentIn, leaves, leavesOpen, leavesLook, Shows};
+
+// Reads the block at `address` into `block`.
+#[no_mangle]
+pub extern "C" fn mindavehu_read(
+    state: &mut [u8],
+    address: u32,
+    disk: &mut [u8],
+    flash: &mut [u8],
+    addresses: &mut [u8],
+    blocks: &mut [u8],
+    block: &mut [u8],
+    answer: &mut [u8],
+) -> u32
+    ensures { λ r. ⌜ record { number = r; state = now (state .exit); disk = now (disk .exit); flash = now (flash .exit); addresses = now (addresses .exit); blocks = now (blocks .exit); block = Option.some (now (block .exit)); answer = now (answer .exit) }
+        ≡ leaves (Ask.read address (now (block .entry))) (now (state .entry)) (now (disk .entry)) (now (flash .entry)) (now (addresses .entry)) (now (blocks .entry)) (now (answer .entry)) ⌝ }
+{
+    if !fields::fit(state, answer) {
+        return 2;
+    }
+    let b = fields::record_in(state);
+    let c = fields::counters_in(state);
+    let o = policy::calls::read(b, SourceAddress(address), disk, flash, addresses, blocks, c, block);
+    fields::write_outcome(state, answer, o)
+}
+
+// Writes `block` to the disk and into the cache.
+#[no_mangle]
+pub extern "C" fn mindavehu_write_through(
+    state: &mut [u8],
+    address: u32,
+    disk: &mut [u8],
+    flash: &mut [u8],
+    addresses: &mut [u8],
+    blocks: &mut [u8],
+    block: &[u8],
+    answer: &mut [u8],
+) -> u32
+    ensures { λ r. ⌜ record { number = r; state = now (state .exit); disk = now (disk .exit); flash = now (flash .exit); addresses = now (addresses .exit); blocks = now (blocks .exit); block = Option.some (now (block .entry)); answer = now (answer .exit) }
+        ≡ leaves (Ask.through address (now (block .entry))) (now (state .entry)) (now (disk .entry)) (now (flash .entry)) (now (addresses .entry)) (now (blocks .entry)) (now (answer .entry)) ⌝ }
+{
+    if !fields::fit(state, answer) {
+        return 2;
+    }
+    let b = fields::record_in(state);
+    let c = fields::counters_in(state);
+    let o = policy::calls::write_through(b, SourceAddress(address), disk, flash, addresses, blocks, c, block);
+    fields::write_outcome(state, answer, o)
+}
+
+// Writes `block` into the cache; the disk gets it later.
+#[no_mangle]
+pub extern "C" fn mindavehu_write_back(
+    state: &mut [u8],
+    address: u32,
+    disk: &mut [u8],
+    flash: &mut [u8],
+    addresses: &mut [u8],
+    blocks: &mut [u8],
+    block: &[u8],
+    answer: &mut [u8],
+) -> u32
+    ensures { λ r. ⌜ record { number = r; state = now (state .exit); disk = now (disk .exit); flash = now (flash .exit); addresses = now (addresses .exit); blocks = now (blocks .exit); block = Option.some (now (block .entry)); answer = now (answer .exit) }
+        ≡ leaves (Ask.back address (now (block .entry))) (now (state .entry)) (now (disk .entry)) (now (flash .entry)) (now (addresses .entry)) (now (blocks .entry)) (now (answer .entry)) ⌝ }
+{
+    if !fields::fit(state, answer) {
+        return 2;
+    }
+    let b = fields::record_in(state);
+    let c = fields::counters_in(state);
+    let o = policy::calls::write_back(b, SourceAddress(address), disk, flash, addresses, blocks, c, block);
+    fields::write_outcome(state, answer, o)
+}
+
+// Writes `block` to the disk, and takes the address out of the cache.
+#[no_mangle]
+pub extern "C" fn mindavehu_write_invalidate(
+    state: &mut [u8],
+    address: u32,
+    disk: &mut [u8],
+    flash: &[u8],
+    addresses: &mut [u8],
+    blocks: &mut [u8],
+    block: &[u8],
+    answer: &mut [u8],
+) -> u32
+    ensures { λ r. ⌜ record { number = r; state = now (state .exit); disk = now (disk .exit); flash = now (flash .entry); addresses = now (addresses .exit); blocks = now (blocks .exit); block = Option.some (now (block .entry)); answer = now (answer .exit) }
+        ≡ leaves (Ask.invalidate address (now (block .entry))) (now (state .entry)) (now (disk .entry)) (now (flash .entry)) (now (addresses .entry)) (now (blocks .entry)) (now (answer .entry)) ⌝ }
+{
+    if !fields::fit(state, answer) {
+        return 2;
+    }
+    let b = fields::record_in(state);
+    let c = fields::counters_in(state);
+    let o = policy::calls::write_invalidate(b, SourceAddress(address), disk, flash, addresses, blocks, c, block);
+    fields::write_outcome(state, answer, o)
+}
+
+// Copies each block that is newer in the flash to the disk.
+#[no_mangle]
+pub extern "C" fn mindavehu_flush(
+    state: &mut [u8],
+    disk: &mut [u8],
+    flash: &[u8],
+    addresses: &mut [u8],
+    blocks: &[u8],
+    answer: &mut [u8],
+) -> u32
+    ensures { λ r. ⌜ record { number = r; state = now (state .exit); disk = now (disk .exit); flash = now (flash .entry); addresses = now (addresses .exit); blocks = now (blocks .entry); block = Option.none; answer = now (answer .exit) }
+        ≡ leaves Ask.flush (now (state .entry)) (now (disk .entry)) (now (flash .entry)) (now (addresses .entry)) (now (blocks .entry)) (now (answer .entry)) ⌝ }
+{
+    if !fields::fit(state, answer) {
+        return 2;
+    }
+    let b = fields::record_in(state);
+    let c = fields::counters_in(state);
+    let o = policy::calls::flush(b, disk, flash, addresses, blocks, c);
+    fields::write_outcome(state, answer, o)
+}
+
+// Tells where the block at `address` is. Nothing is moved or counted.
+#[no_mangle]
+pub extern "C" fn mindavehu_look(
+    state: &[u8],
+    address: u32,
+    disk: &[u8],
+    flash: &[u8],
+    addresses: &[u8],
+    blocks: &[u8],
+    answer: &mut [u8],
+) -> u32
+    ensures { λ r. ⌜ record { number = r; answer = now (answer .exit) }
+        ≡ leavesLook address (now (state .entry)) (now (disk .entry)) (now (flash .entry)) (now (addresses .entry)) (now (blocks .entry)) (now (answer .entry)) ⌝ }
+    ensures { λ r. ⌜ (fitting (now (state .entry)) (now (answer .entry)) ≡ true → Shows r (now (answer .exit)) (lentIn (now (state .entry)) (now (disk .entry)) (now (flash .entry)) (now (addresses .entry)) (now (blocks .entry)))
+        (call (numbersOf (recordIn (now (state .entry)))) (lentIn (now (state .entry)) (now (disk .entry)) (now (flash .entry)) (now (addresses .entry)) (now (blocks .entry))) (Ask.look address))) ⌝ }
+{
+    if !fields::fit(state, answer) {
+        return 2;
+    }
+    let b = fields::record_in(state);
+    let p = policy::look::place_of(b, SourceAddress(address), disk, flash, addresses, blocks);
+    fields::write_place(answer, b.size, address, p)
+}
+
+// Opens a box of the numbers in `state`: the tables become fresh, n and the counters 0; disk and flash keep their bytes.
+#[no_mangle]
+pub extern "C" fn mindavehu_open(
+    state: &mut [u8],
+    disk: &[u8],
+    flash: &[u8],
+    addresses: &mut [u8],
+    blocks: &mut [u8],
+) -> u32
+    ensures { λ r. ⌜ record { number = r; state = now (state .exit); addresses = now (addresses .exit); blocks = now (blocks .exit) }
+        ≡ leavesOpen (now (state .entry)) (now (disk .entry)) (now (flash .entry)) (now (addresses .entry)) (now (blocks .entry)) ⌝ }
+{
+    if state.len() != 72 {
+        return 2;
+    }
+    let b = fields::record_in(state);
+    let c = fields::counters_in(state);
+    let o = policy::open::open(b.size, b.blocks, b.rows, b.slots, disk, flash, addresses, blocks, c);
+    fields::write_opening(state, o)
+}

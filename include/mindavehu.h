@@ -1,0 +1,197 @@
+/* Mindavehu: a deduplicating flash cache with D-LRU replacement, in memory that the caller lends.
+ *
+ * Link with libservice.a (`rt staticlib service`). The library keeps nothing between calls, allocates nothing and reads no clock:
+ * whatever a call needs and leaves is in the buffers below. Each call is proved to do what docs/01-scope.md says, on any bytes.
+ *
+ * The box: B bytes a block (64, 128, 256, 512, 1024, 2048 or 4096), P disk blocks (1 to 65536), at most m addresses held (1 to 1024),
+ * d cached blocks (1 to 256). n is the number of addresses held now.
+ *
+ * The buffers. Each is given as a pointer and a length in bytes:
+ *   state      72             B, P, m, d, n, reads, hits, flash writes, primary writes: 8 bytes each, little-endian
+ *   disk       P x B          block k starts at byte k x B
+ *   flash      d x B          likewise
+ *   addresses  m x 40         the address table; the library's own layout
+ *   blocks     d x 40         the block table; the library's own layout
+ *   block      B              the one block that a read fills or a write takes
+ *   answer     24             the word, the flash writes and the primary writes: 8 bytes each, little-endian
+ *                             (a look: the word, the byte where the part starts, the part's length)
+ *
+ * The result of each function is the number of a refusal, or MINDAVEHU_SERVED. A refused call changes no buffer, but for a refused
+ * opening, which writes n = 0 into the state. A state that is not 72 bytes, or an answer that is not 24, gives
+ * MINDAVEHU_WRONG_LENGTH before anything else is looked at, and nothing at all is changed.
+ * Where several refusals apply, the first of 1, 2, 3, 6, 7, 8, 9 is told. Flush has no 3, look no 9, opening only 1 and 2.
+ *
+ * The caller's duties, which no call can check:
+ *   - each pointer is to that many bytes, readable, and writable where it is not const; none is NULL, even at length 0;
+ *   - the buffers of one call do not overlap, unless both are const;
+ *   - nobody else reads or writes them while a call runs (a look only reads all but its answer, so looks may run beside each other);
+ *   - between calls the buffers are kept as they were left. Other bytes do no harm to the program: a damaged table is refused with
+ *     6, 7 or 8, and sound tables of another history are served as what they say.
+ * Blocks are told apart by SHA-256 alone: two blocks with one fingerprint are taken for the same block.
+ *
+ * A complete program:
+ *
+ *     #include <stdio.h>
+ *     #include <string.h>
+ *     #include "mindavehu.h"
+ *
+ *     static uint8_t state[MINDAVEHU_STATE], answer[MINDAVEHU_ANSWER];
+ *     static uint8_t disk[8 * 64], flash[2 * 64], addresses[3 * MINDAVEHU_ROW], blocks[2 * MINDAVEHU_ROW], block[64];
+ *
+ *     int main(void)
+ *     {
+ *         mindavehu_put(state, MINDAVEHU_B, 64);
+ *         mindavehu_put(state, MINDAVEHU_P, 8);
+ *         mindavehu_put(state, MINDAVEHU_M, 3);
+ *         mindavehu_put(state, MINDAVEHU_D, 2);
+ *         if (mindavehu_open(state, sizeof state, disk, sizeof disk, flash, sizeof flash,
+ *                            addresses, sizeof addresses, blocks, sizeof blocks) != MINDAVEHU_SERVED)
+ *             return 1;
+ *         memset(block, 7, sizeof block);
+ *         if (mindavehu_write_back(state, sizeof state, 5, disk, sizeof disk, flash, sizeof flash, addresses, sizeof addresses,
+ *                                  blocks, sizeof blocks, block, sizeof block, answer, sizeof answer) != MINDAVEHU_SERVED)
+ *             return 1;
+ *         memset(block, 0, sizeof block);
+ *         if (mindavehu_read(state, sizeof state, 5, disk, sizeof disk, flash, sizeof flash, addresses, sizeof addresses,
+ *                            blocks, sizeof blocks, block, sizeof block, answer, sizeof answer) != MINDAVEHU_SERVED)
+ *             return 1;
+ *         printf("hit %d, byte %d\n", mindavehu_get(answer, MINDAVEHU_WORD) == MINDAVEHU_HIT, block[0]);
+ *         return mindavehu_flush(state, sizeof state, disk, sizeof disk, flash, sizeof flash, addresses, sizeof addresses,
+ *                                blocks, sizeof blocks, answer, sizeof answer) != MINDAVEHU_SERVED;
+ *     }
+ *
+ * It prints `hit 1, byte 7`.
+ */
+#ifndef MINDAVEHU_H
+#define MINDAVEHU_H
+
+#include <stddef.h>
+#include <stdint.h>
+
+#ifdef __cplusplus
+extern "C" {
+#endif
+
+/* Lengths in bytes: of the state, of an answer, and of a row of either table. */
+#define MINDAVEHU_STATE 72
+#define MINDAVEHU_ANSWER 24
+#define MINDAVEHU_ROW 40
+
+/* What a function returns. (4 and 5 are the replay program's own.) */
+#define MINDAVEHU_SERVED 0
+#define MINDAVEHU_OUTSIDE 1          /* B, P, m or d outside its set */
+#define MINDAVEHU_WRONG_LENGTH 2     /* a length is not the one above */
+#define MINDAVEHU_NO_ADDRESS 3       /* the address is P or more */
+#define MINDAVEHU_BAD_ADDRESSES 6    /* the address table is unsound */
+#define MINDAVEHU_BAD_BLOCKS 7       /* the block table is unsound */
+#define MINDAVEHU_DIRTY_UNCACHED 8   /* a dirty address without its block */
+#define MINDAVEHU_COUNTER_FULL 9     /* a counter above 2 to the power 63 */
+
+/* The words of an answer. */
+#define MINDAVEHU_HIT 1    /* a read: the block was in the cache */
+#define MINDAVEHU_MISS 2   /* a read: it came from the disk */
+#define MINDAVEHU_SAME 3   /* a write: a block with this fingerprint was cached before */
+#define MINDAVEHU_NEW 4    /* a write: none was */
+#define MINDAVEHU_CACHE 5  /* a look: the part is of the flash */
+#define MINDAVEHU_DISK 6   /* a look: the part is of the disk */
+#define MINDAVEHU_DONE 7   /* a flush */
+
+/* The fields of the state, by the byte where each starts. */
+#define MINDAVEHU_B 0
+#define MINDAVEHU_P 8
+#define MINDAVEHU_M 16
+#define MINDAVEHU_D 24
+#define MINDAVEHU_N 32
+#define MINDAVEHU_READS 40
+#define MINDAVEHU_HITS 48
+#define MINDAVEHU_FLASH_WRITES 56
+#define MINDAVEHU_PRIMARY_WRITES 64
+
+/* The fields of an answer; of a look's, START and LENGTH stand for the second and the third. */
+#define MINDAVEHU_WORD 0
+#define MINDAVEHU_ANSWER_FLASH 8
+#define MINDAVEHU_ANSWER_PRIMARY 16
+#define MINDAVEHU_START 8
+#define MINDAVEHU_LENGTH 16
+
+/* A field of the state or of an answer, read and written. */
+static inline uint64_t mindavehu_get(const uint8_t *bytes, size_t field)
+{
+    uint64_t value = 0;
+    for (size_t i = 8; i > 0; i--)
+        value = value << 8 | bytes[field + i - 1];
+    return value;
+}
+
+static inline void mindavehu_put(uint8_t *bytes, size_t field, uint64_t value)
+{
+    for (size_t i = 0; i < 8; i++, value >>= 8)
+        bytes[field + i] = (uint8_t)value;
+}
+
+/* Opens a box of the B, P, m and d in the state. Both tables become fresh, n and the counters 0; disk and flash keep their bytes.
+ * Refused with 1 or 2: n = 0 is written, and nothing else. */
+uint32_t mindavehu_open(uint8_t *state, size_t state_length,
+                        const uint8_t *disk, size_t disk_length,
+                        const uint8_t *flash, size_t flash_length,
+                        uint8_t *addresses, size_t addresses_length,
+                        uint8_t *blocks, size_t blocks_length);
+
+/* Reads the block at the address into `block`. Answers HIT or MISS. */
+uint32_t mindavehu_read(uint8_t *state, size_t state_length, uint32_t address,
+                        uint8_t *disk, size_t disk_length,
+                        uint8_t *flash, size_t flash_length,
+                        uint8_t *addresses, size_t addresses_length,
+                        uint8_t *blocks, size_t blocks_length,
+                        uint8_t *block, size_t block_length,
+                        uint8_t *answer, size_t answer_length);
+
+/* Write through: `block` goes to the disk at the address, and into the cache. Answers SAME or NEW. */
+uint32_t mindavehu_write_through(uint8_t *state, size_t state_length, uint32_t address,
+                                 uint8_t *disk, size_t disk_length,
+                                 uint8_t *flash, size_t flash_length,
+                                 uint8_t *addresses, size_t addresses_length,
+                                 uint8_t *blocks, size_t blocks_length,
+                                 const uint8_t *block, size_t block_length,
+                                 uint8_t *answer, size_t answer_length);
+
+/* Write back: `block` goes into the cache, and to the disk when it leaves the cache or at a flush. Answers SAME or NEW. */
+uint32_t mindavehu_write_back(uint8_t *state, size_t state_length, uint32_t address,
+                              uint8_t *disk, size_t disk_length,
+                              uint8_t *flash, size_t flash_length,
+                              uint8_t *addresses, size_t addresses_length,
+                              uint8_t *blocks, size_t blocks_length,
+                              const uint8_t *block, size_t block_length,
+                              uint8_t *answer, size_t answer_length);
+
+/* Write invalidate: `block` goes to the disk at the address, and the address leaves the cache. Answers SAME or NEW. */
+uint32_t mindavehu_write_invalidate(uint8_t *state, size_t state_length, uint32_t address,
+                                    uint8_t *disk, size_t disk_length,
+                                    const uint8_t *flash, size_t flash_length,
+                                    uint8_t *addresses, size_t addresses_length,
+                                    uint8_t *blocks, size_t blocks_length,
+                                    const uint8_t *block, size_t block_length,
+                                    uint8_t *answer, size_t answer_length);
+
+/* Copies each block that is newer in the flash to its disk address. Answers DONE; then the disk is what was written. */
+uint32_t mindavehu_flush(uint8_t *state, size_t state_length,
+                         uint8_t *disk, size_t disk_length,
+                         const uint8_t *flash, size_t flash_length,
+                         uint8_t *addresses, size_t addresses_length,
+                         const uint8_t *blocks, size_t blocks_length,
+                         uint8_t *answer, size_t answer_length);
+
+/* Tells where the block at the address is: CACHE or DISK, then the byte of flash or disk where it starts, then its length B.
+ * Nothing is moved or counted. */
+uint32_t mindavehu_look(const uint8_t *state, size_t state_length, uint32_t address,
+                        const uint8_t *disk, size_t disk_length,
+                        const uint8_t *flash, size_t flash_length,
+                        const uint8_t *addresses, size_t addresses_length,
+                        const uint8_t *blocks, size_t blocks_length,
+                        uint8_t *answer, size_t answer_length);
+
+#ifdef __cplusplus
+}
+#endif
+
+#endif

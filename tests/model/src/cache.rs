@@ -1,0 +1,306 @@
+//! The cache: which addresses are held is a map with a queue beside it, and so are the cached blocks.
+use crate::*;
+use std::collections::{BTreeMap, HashMap, HashSet, VecDeque};
+
+/// Numbered blocks: those that were there at first and, over them, those written since.
+#[derive(Clone)]
+pub struct Store {
+    size: usize,
+    first: Vec<u8>,
+    written: BTreeMap<usize, Vec<u8>>,
+}
+
+impl Store {
+    pub fn new(size: usize, first: Vec<u8>) -> Store {
+        Store { size, first, written: BTreeMap::new() }
+    }
+
+    pub fn block(&self, k: usize) -> &[u8] {
+        match self.written.get(&k) {
+            Some(block) => block,
+            None => &self.first[k * self.size..(k + 1) * self.size],
+        }
+    }
+
+    pub fn put(&mut self, k: usize, block: &[u8]) {
+        assert!(block.len() == self.size && (k + 1) * self.size <= self.first.len());
+        self.written.insert(k, block.to_vec());
+    }
+
+    pub fn into_bytes(self) -> Vec<u8> {
+        let mut bytes = self.first;
+        for (k, block) in self.written {
+            bytes[k * self.size..(k + 1) * self.size].copy_from_slice(&block);
+        }
+        bytes
+    }
+
+    /// Whether these are the bytes of all blocks.
+    pub fn is(&self, bytes: &[u8]) -> bool {
+        let mut from = 0;
+        bytes.len() == self.first.len()
+            && self.written.iter().all(|(k, block)| {
+                let (start, end) = (k * self.size, (k + 1) * self.size);
+                let same = bytes[from..start] == self.first[from..start] && bytes[start..end] == block[..];
+                from = end;
+                same
+            })
+            && bytes[from..] == self.first[from..]
+    }
+}
+
+#[derive(Clone, Copy, Debug, Default, PartialEq, Eq)]
+pub struct Counters {
+    pub reads: u64,
+    pub hits: u64,
+    pub flash: u64,
+    pub primary: u64,
+}
+
+/// A word and two numbers: flash writes and primary writes; for a look where its part starts, and its length.
+#[derive(Clone, Copy, Debug, PartialEq, Eq)]
+pub struct Answer {
+    pub word: u64,
+    pub first: u64,
+    pub second: u64,
+}
+
+#[derive(Clone, Copy, Debug, PartialEq, Eq)]
+pub struct Held {
+    pub fingerprint: Fingerprint,
+    pub dirty: bool,
+}
+
+#[derive(Clone, Copy, Default)]
+struct Writes {
+    flash: u64,
+    primary: u64,
+}
+
+#[derive(Clone)]
+pub struct Cache {
+    pub b: usize,
+    pub p: usize,
+    pub m: usize,
+    pub d: usize,
+    /// Held addresses, oldest use first, and what is known of each.
+    pub(crate) addresses: VecDeque<u32>,
+    pub(crate) held: HashMap<u32, Held>,
+    /// Slots of free rows, in the order of the rows.
+    pub(crate) free: VecDeque<u32>,
+    /// Cached fingerprints, oldest use first, and the slot of each.
+    pub(crate) cached: VecDeque<Fingerprint>,
+    pub(crate) slots: HashMap<Fingerprint, u32>,
+    pub(crate) disk: Store,
+    pub(crate) flash: Store,
+    pub counters: Counters,
+}
+
+impl Cache {
+    /// A fresh box over the disk and flash given. The numbers are in their sets and the lengths are right.
+    pub fn fresh(b: usize, p: usize, m: usize, d: usize, disk: Vec<u8>, flash: Vec<u8>) -> Cache {
+        assert!(disk.len() == p * b && flash.len() == d * b);
+        Cache {
+            b,
+            p,
+            m,
+            d,
+            addresses: VecDeque::new(),
+            held: HashMap::new(),
+            free: (0..d as u32).collect(),
+            cached: VecDeque::new(),
+            slots: HashMap::new(),
+            disk: Store::new(b, disk),
+            flash: Store::new(b, flash),
+            counters: Counters::default(),
+        }
+    }
+
+    /// A call on this box: the number of a refusal, or the answer. A read leaves its block in `block`, a write takes it from there.
+    pub fn call(&mut self, call: Call, address: u32, block: &mut Vec<u8>) -> Result<Answer, u32> {
+        if call.takes_block() && block.len() != self.b {
+            return Err(2);
+        }
+        if call.takes_address() && address as usize >= self.p {
+            return Err(3);
+        }
+        let Counters { reads, hits, flash, primary } = self.counters;
+        if call != Call::Look && [reads, hits, flash, primary].iter().any(|counter| *counter > MOST_COUNTED) {
+            return Err(9);
+        }
+        Ok(match call {
+            Call::Open => panic!("opening makes a cache"),
+            Call::Read => self.read(address, block),
+            Call::Through => self.write(address, block, false, true),
+            Call::Back => self.write(address, block, true, false),
+            Call::Invalidate => self.invalidate(address, block),
+            Call::Flush => self.flush(),
+            Call::Look => self.look(address),
+        })
+    }
+
+    fn read(&mut self, a: u32, block: &mut Vec<u8>) -> Answer {
+        let known = self.held.get(&a).copied().filter(|row| self.slots.contains_key(&row.fingerprint));
+        let (word, writes) = match known {
+            Some(row) => {
+                *block = self.flash.block(self.slots[&row.fingerprint] as usize).to_vec();
+                (HIT, self.step(a, row.fingerprint, block, row.dirty))
+            }
+            None => {
+                *block = self.disk.block(a as usize).to_vec();
+                (MISS, self.step(a, fingerprint(block), block, false))
+            }
+        };
+        self.counters.reads += 1;
+        self.counters.hits += (word == HIT) as u64;
+        self.counted(word, writes)
+    }
+
+    fn write(&mut self, a: u32, block: &[u8], dirty: bool, to_disk: bool) -> Answer {
+        let g = fingerprint(block);
+        let word = self.same_or_new(&g);
+        if to_disk {
+            self.disk.put(a as usize, block);
+        }
+        let mut writes = self.step(a, g, block, dirty);
+        writes.primary += to_disk as u64;
+        self.counted(word, writes)
+    }
+
+    fn invalidate(&mut self, a: u32, block: &[u8]) -> Answer {
+        let word = self.same_or_new(&fingerprint(block));
+        self.disk.put(a as usize, block);
+        if self.held.contains_key(&a) {
+            let q = self.take_out(a);
+            if !self.has_address(&q) && self.slots.contains_key(&q) {
+                self.set_free(&q);
+            }
+        }
+        self.counted(word, Writes { flash: 0, primary: 1 })
+    }
+
+    fn flush(&mut self) -> Answer {
+        let mut writes = Writes::default();
+        for a in self.addresses.clone() {
+            if self.held[&a].dirty {
+                self.clean(a);
+                writes.primary += 1;
+            }
+        }
+        self.counted(DONE, writes)
+    }
+
+    fn look(&self, a: u32) -> Answer {
+        let slot = self.held.get(&a).and_then(|row| self.slots.get(&row.fingerprint));
+        let (word, place) = match slot {
+            Some(slot) => (CACHE, *slot),
+            None => (DISK, a),
+        };
+        Answer { word, first: place as u64 * self.b as u64, second: self.b as u64 }
+    }
+
+    /// The step of one request, under the document's numbers.
+    fn step(&mut self, a: u32, g: Fingerprint, b: &[u8], dirty: bool) -> Writes {
+        let mut writes = Writes::default();
+        // 1
+        let mut q = None;
+        if self.held.contains_key(&a) {
+            q = Some(self.take_out(a));
+        } else if self.addresses.len() == self.m {
+            let oldest = self.addresses[0];
+            if self.held[&oldest].dirty {
+                self.clean(oldest);
+                writes.primary += 1;
+            }
+            q = Some(self.take_out(oldest));
+        }
+        // 2
+        self.addresses.push_back(a);
+        self.held.insert(a, Held { fingerprint: g, dirty });
+        // 3
+        if let Some(q) = q {
+            let without_block = |x: &u32| *x != a && !self.slots.contains_key(&self.held[x].fingerprint);
+            if self.slots.contains_key(&q) && !self.has_address(&q) && self.addresses.iter().any(without_block) {
+                self.set_free(&q);
+            }
+        }
+        // 4
+        if self.slots.contains_key(&g) {
+            self.cached.retain(|other| *other != g);
+            self.cached.push_back(g);
+            return writes;
+        }
+        let slot = match self.free.pop_front() {
+            Some(slot) => slot,
+            None => {
+                let wanted: HashSet<Fingerprint> = self.held.values().map(|row| row.fingerprint).collect();
+                let victim = self.cached.iter().find(|other| !wanted.contains(*other)).unwrap_or(&self.cached[0]).to_owned();
+                for x in self.addresses.clone() {
+                    if self.held[&x] == (Held { fingerprint: victim, dirty: true }) {
+                        self.clean(x);
+                        writes.primary += 1;
+                    }
+                }
+                self.cached.retain(|other| *other != victim);
+                self.slots.remove(&victim).unwrap()
+            }
+        };
+        self.flash.put(slot as usize, b);
+        writes.flash += 1;
+        self.slots.insert(g, slot);
+        self.cached.push_back(g);
+        writes
+    }
+
+    fn same_or_new(&self, g: &Fingerprint) -> u64 {
+        if self.slots.contains_key(g) {
+            SAME
+        } else {
+            NEW
+        }
+    }
+
+    fn has_address(&self, g: &Fingerprint) -> bool {
+        self.held.values().any(|row| row.fingerprint == *g)
+    }
+
+    /// Takes the row of a held address out and gives its fingerprint.
+    fn take_out(&mut self, a: u32) -> Fingerprint {
+        self.addresses.retain(|other| *other != a);
+        self.held.remove(&a).unwrap().fingerprint
+    }
+
+    /// Copies the block of a dirty row to the disk; the row is clean then.
+    fn clean(&mut self, a: u32) {
+        let row = self.held.get_mut(&a).unwrap();
+        row.dirty = false;
+        let block = self.flash.block(self.slots[&row.fingerprint] as usize).to_vec();
+        self.disk.put(a as usize, &block);
+    }
+
+    /// The row of a cached block becomes free and the first of all.
+    fn set_free(&mut self, g: &Fingerprint) {
+        self.cached.retain(|other| other != g);
+        self.free.push_front(self.slots.remove(g).unwrap());
+    }
+
+    fn counted(&mut self, word: u64, writes: Writes) -> Answer {
+        self.counters.flash += writes.flash;
+        self.counters.primary += writes.primary;
+        Answer { word, first: writes.flash, second: writes.primary }
+    }
+
+    pub fn disk_block(&self, a: u32) -> &[u8] {
+        self.disk.block(a as usize)
+    }
+
+    /// Held addresses, oldest first, with what is known of each.
+    pub fn rows(&self) -> Vec<(u32, Held)> {
+        self.addresses.iter().map(|a| (*a, self.held[a])).collect()
+    }
+
+    /// The cached blocks' bytes, oldest first.
+    pub fn cached_blocks(&self) -> Vec<&[u8]> {
+        self.cached.iter().map(|g| self.flash.block(self.slots[g] as usize)).collect()
+    }
+}

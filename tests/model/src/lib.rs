@@ -1,0 +1,79 @@
+//! The cache of document 01 in maps and queues, made from the document alone, to compare an engine over tables with.
+//!
+//! `Cache` runs calls from a fresh box. `Lent` is a box in bytes, any bytes: `carry_out` gives what a call must answer and what every buffer
+//! must hold after it. `machines` has the two machines that the document compares a list of calls with.
+mod cache;
+mod lent;
+pub mod machines;
+
+pub use cache::{Answer, Cache, Counters};
+pub use lent::{carry_out, read_tables, refusal, AddressRow, BlockRow, Lent, Numbers};
+
+use sha2::{Digest, Sha256};
+
+pub type Fingerprint = [u8; 32];
+
+pub fn fingerprint(block: &[u8]) -> Fingerprint {
+    Sha256::digest(block).into()
+}
+
+pub const BLOCK_SIZES: [usize; 7] = [64, 128, 256, 512, 1_024, 2_048, 4_096];
+pub const MOST_P: usize = 65_536;
+pub const MOST_M: usize = 1_024;
+pub const MOST_D: usize = 256;
+/// A counter above this is refused.
+pub const MOST_COUNTED: u64 = 1 << 63;
+pub const ROW: usize = 40;
+pub const STATE: usize = 72;
+pub const ANSWER: usize = 24;
+
+#[derive(Clone, Copy, Debug, PartialEq, Eq, Hash)]
+pub enum Call {
+    Open,
+    Read,
+    Through,
+    Back,
+    Invalidate,
+    Flush,
+    Look,
+}
+
+pub const CALLS: [Call; 7] = [Call::Open, Call::Read, Call::Through, Call::Back, Call::Invalidate, Call::Flush, Call::Look];
+
+impl Call {
+    pub fn is_write(self) -> bool {
+        matches!(self, Call::Through | Call::Back | Call::Invalidate)
+    }
+
+    /// Reads and writes are lent one block.
+    pub fn takes_block(self) -> bool {
+        self == Call::Read || self.is_write()
+    }
+
+    pub fn takes_address(self) -> bool {
+        self.takes_block() || self == Call::Look
+    }
+
+    /// The refusals that the document checks in this call, in its order.
+    pub fn checks(self) -> &'static [u32] {
+        match self {
+            Call::Open => &[1, 2],
+            Call::Flush => &[1, 2, 6, 7, 8, 9],
+            Call::Look => &[1, 2, 3, 6, 7, 8],
+            _ => &[1, 2, 3, 6, 7, 8, 9],
+        }
+    }
+}
+
+/// The words of an answer.
+pub const HIT: u64 = 1;
+pub const MISS: u64 = 2;
+pub const SAME: u64 = 3;
+pub const NEW: u64 = 4;
+pub const CACHE: u64 = 5;
+pub const DISK: u64 = 6;
+pub const DONE: u64 = 7;
+
+pub fn word(number: u64) -> &'static str {
+    ["hit", "miss", "same", "new", "cache", "disk", "done"][number as usize - 1]
+}

@@ -1,0 +1,451 @@
+//! Random boxes in bytes: fresh ones, sound ones that no list of calls need reach, each way of breaking one, and any bytes.
+use common::Random;
+use model::{fingerprint, read_tables, AddressRow, BlockRow, Call, Fingerprint, Lent, Numbers, ANSWER, BLOCK_SIZES, MOST_COUNTED, ROW};
+use std::collections::HashSet;
+
+pub fn fill(random: &mut Random, bytes: &mut [u8]) {
+    for part in bytes.chunks_mut(8) {
+        part.copy_from_slice(&random.number().to_le_bytes()[..part.len()]);
+    }
+}
+
+pub fn bytes(random: &mut Random, length: usize) -> Vec<u8> {
+    let mut bytes = vec![0; length];
+    fill(random, &mut bytes);
+    bytes
+}
+
+pub fn pick<T: Copy>(random: &mut Random, list: &[T]) -> T {
+    list[random.below(list.len())]
+}
+
+pub fn shuffle<T>(random: &mut Random, list: &mut [T]) {
+    for k in (1..list.len()).rev() {
+        list.swap(k, random.below(k + 1));
+    }
+}
+
+#[derive(Clone, Copy, Debug)]
+pub struct Shape {
+    pub b: usize,
+    pub p: usize,
+    pub m: usize,
+    pub d: usize,
+}
+
+impl Shape {
+    /// Random numbers up to those of `most`, its block size kept.
+    pub fn below(random: &mut Random, most: Shape) -> Shape {
+        Shape { b: most.b, p: 1 + random.below(most.p), m: 1 + random.below(most.m), d: 1 + random.below(most.d) }
+    }
+
+    pub fn numbers(&self) -> Numbers {
+        Numbers { b: self.b as u64, p: self.p as u64, m: self.m as u64, d: self.d as u64, n: 0, counters: [0; 4] }
+    }
+}
+
+/// A few blocks that disk, flash and writes have in common, so that contents are shared often.
+pub struct Contents {
+    pub blocks: Vec<Vec<u8>>,
+}
+
+impl Contents {
+    pub fn new(random: &mut Random, b: usize, count: usize) -> Contents {
+        let style = random.below(3);
+        let base = bytes(random, b);
+        let block = |random: &mut Random, k: usize| match style {
+            // One byte repeated, with the first byte telling apart those beyond 256.
+            0 => [&[k as u8 ^ (k >> 8) as u8][..], &vec![k as u8; b - 1]].concat(),
+            // The blocks of a pool differ in their last two bytes only.
+            1 => [&base[..b - 2], &(k as u16).to_le_bytes()].concat(),
+            _ => bytes(random, b),
+        };
+        Contents { blocks: (0..count).map(|k| block(random, k)).collect() }
+    }
+
+    pub fn one(&self, random: &mut Random) -> &Vec<u8> {
+        &self.blocks[random.below(self.blocks.len())]
+    }
+
+    pub fn many(&self, random: &mut Random, count: usize) -> Vec<u8> {
+        (0..count).flat_map(|_| self.one(random).clone()).collect()
+    }
+}
+
+/// A box to be opened: disk blocks from the pool, any bytes in flash and tables, any n and counters.
+pub fn unopened(random: &mut Random, shape: Shape, contents: &Contents) -> Lent {
+    let Shape { b, p, m, d } = shape;
+    let counters = std::array::from_fn(|_| random.number());
+    Lent {
+        state: Numbers { n: random.number(), counters, ..shape.numbers() }.to_bytes(),
+        disk: contents.many(random, p),
+        flash: if random.below(2) == 0 { bytes(random, d * b) } else { contents.many(random, d) },
+        addresses: bytes(random, m * ROW),
+        blocks: bytes(random, d * ROW),
+        block: bytes(random, b),
+        answer: bytes(random, ANSWER),
+    }
+}
+
+/// A sound box, reachable or not: addresses without blocks beside blocks without addresses, dirty rows that share a block, slots in any
+/// order, a used fingerprint of zeros, fingerprints that are not those of the blocks in their slots, counters up to the largest.
+pub fn sound(random: &mut Random, shape: Shape) -> Lent {
+    let Shape { b, p, m, d } = shape;
+    let count = 1 + random.below(d + 3);
+    let contents = Contents::new(random, b, count);
+    let mut lent = unopened(random, shape, &contents);
+
+    // Fingerprints: those of the pool, zeros, near relatives of one, and any.
+    let mut fingerprints: Vec<Fingerprint> = contents.blocks.iter().map(|block| fingerprint(block)).collect();
+    if random.below(2) == 0 {
+        fingerprints.push([0; 32]);
+    }
+    let base = fingerprints[0];
+    // In some boxes all of them differ in one byte (two where there are many), often the first or the last, so that whoever compares or sorts
+    // by other bytes only takes them for one.
+    let (style, somewhere) = (random.below(4), random.below(32));
+    let place = pick(random, &[0, 31, somewhere]);
+    while fingerprints.len() < d + 1 + random.below(m + 1) {
+        let mut g = base;
+        let [low, high] = (fingerprints.len() as u16).to_le_bytes();
+        if style < 2 || style == 2 && random.below(2) == 0 {
+            g[place] ^= low;
+            g[(place + 1) % 32] ^= high;
+        } else {
+            fill(random, &mut g);
+        }
+        fingerprints.push(g);
+    }
+    let mut seen = HashSet::new();
+    fingerprints.retain(|g| seen.insert(*g));
+    shuffle(random, &mut fingerprints);
+
+    let used = if random.below(3) == 0 { d } else { random.below(d + 1) }.min(fingerprints.len());
+    let mut slots: Vec<u32> = (0..d as u32).collect();
+    shuffle(random, &mut slots);
+    let mut rows = Vec::new();
+    for (k, slot) in slots.iter().enumerate() {
+        let (g, flag) = if k < d - used { ([0; 32], 0) } else { (fingerprints[k - (d - used)], 1) };
+        rows.extend(BlockRow { fingerprint: g, slot: *slot, used: flag, padding: [0; 3] }.to_bytes());
+    }
+    lent.blocks = rows;
+
+    let most = m.min(p);
+    let n = if random.below(3) == 0 { most } else { random.below(most + 1) };
+    let mut addresses: Vec<u32> = (0..p as u32).collect();
+    if n * 4 < p && random.below(2) == 0 {
+        // At equal distances, so that many have their low bits in common.
+        addresses = (0..n as u32).map(|k| k * (p / n) as u32).collect();
+        shuffle(random, &mut addresses);
+    } else if n * 4 < p {
+        let mut chosen = HashSet::new();
+        addresses = std::iter::repeat_with(|| random.below(p) as u32).filter(|a| chosen.insert(*a)).take(n).collect();
+    } else {
+        shuffle(random, &mut addresses);
+    }
+    // Few fingerprints to choose from make rows share them.
+    let choice = match random.below(3) {
+        0 => used.max(1),
+        1 => 1 + random.below(fingerprints.len()),
+        _ => fingerprints.len(),
+    };
+    let mut rows = Vec::new();
+    for address in &addresses[..n] {
+        let k = random.below(choice);
+        let dirty = (k < used && random.below(2) == 0) as u8;
+        rows.extend(AddressRow { address: *address, fingerprint: fingerprints[k], dirty, padding: [0; 3] }.to_bytes());
+    }
+    rows.resize(m * ROW, 0);
+    lent.addresses = rows;
+
+    let counter = |random: &mut Random| match random.below(6) {
+        0 => MOST_COUNTED,
+        1 => MOST_COUNTED - 1 - random.below(2) as u64,
+        2 => random.number() >> 1,
+        3 => u32::MAX as u64,
+        _ => random.below(1000) as u64,
+    };
+    let counters = std::array::from_fn(|_| counter(random));
+    lent.state = Numbers { n: n as u64, counters, ..shape.numbers() }.to_bytes();
+    lent.block = contents.one(random).clone();
+    lent
+}
+
+/// The ways of breaking a call's input.
+#[derive(Clone, Copy, Debug, PartialEq, Eq)]
+pub enum Damage {
+    B,
+    P,
+    M,
+    D,
+    DiskLength,
+    FlashLength,
+    AddressesLength,
+    BlocksLength,
+    BlockLength,
+    Address,
+    TooManyHeld,
+    AddressTooLarge,
+    AddressTwice,
+    DirtyAboveOne,
+    AddressPadding,
+    TailNotZero,
+    FreeAfterUsed,
+    UsedAboveOne,
+    BlockPadding,
+    FreeWithFingerprint,
+    SlotTwice,
+    SlotTooLarge,
+    FingerprintTwice,
+    DirtyUncached,
+    Reads,
+    Hits,
+    FlashWrites,
+    PrimaryWrites,
+}
+
+/// With the number of each, in the order of the checks. Several are applied from the last to the first.
+pub const DAMAGES: [(Damage, u32); 28] = [
+    (Damage::B, 1),
+    (Damage::P, 1),
+    (Damage::M, 1),
+    (Damage::D, 1),
+    (Damage::DiskLength, 2),
+    (Damage::FlashLength, 2),
+    (Damage::AddressesLength, 2),
+    (Damage::BlocksLength, 2),
+    (Damage::BlockLength, 2),
+    (Damage::Address, 3),
+    (Damage::TooManyHeld, 6),
+    (Damage::AddressTooLarge, 6),
+    (Damage::AddressTwice, 6),
+    (Damage::DirtyAboveOne, 6),
+    (Damage::AddressPadding, 6),
+    (Damage::TailNotZero, 6),
+    (Damage::FreeAfterUsed, 7),
+    (Damage::UsedAboveOne, 7),
+    (Damage::BlockPadding, 7),
+    (Damage::FreeWithFingerprint, 7),
+    (Damage::SlotTwice, 7),
+    (Damage::SlotTooLarge, 7),
+    (Damage::FingerprintTwice, 7),
+    (Damage::DirtyUncached, 8),
+    (Damage::Reads, 9),
+    (Damage::Hits, 9),
+    (Damage::FlashWrites, 9),
+    (Damage::PrimaryWrites, 9),
+];
+
+/// The number that a call must give on a sound box with these damages, 0 where it does not ask for any of them.
+pub fn number_of(call: Call, damages: &[Damage]) -> u32 {
+    let asked = |damage: &Damage| match damage {
+        Damage::BlockLength => call.takes_block(),
+        Damage::Address => call.takes_address(),
+        _ => true,
+    };
+    let numbers: Vec<u32> = DAMAGES.iter().filter(|(damage, _)| damages.contains(damage) && asked(damage)).map(|(_, number)| *number).collect();
+    call.checks().iter().copied().find(|number| numbers.contains(number)).unwrap_or(0)
+}
+
+fn set_state(lent: &mut Lent, place: usize, number: u64) {
+    lent.state[place * 8..place * 8 + 8].copy_from_slice(&number.to_le_bytes());
+}
+
+/// A number above `most` or, where zero is given, that as well.
+fn outside(random: &mut Random, most: u64) -> u64 {
+    match random.below(6) {
+        0 | 1 => 0,
+        2 => most + 1,
+        3 => u64::MAX - random.below(2) as u64,
+        // The low 32 bits alone would be good.
+        4 => (1 << 32) + 1,
+        _ => most + 1 + random.below(3) as u64,
+    }
+}
+
+fn wrong_length(random: &mut Random, bytes: &mut Vec<u8>) {
+    let length = bytes.len();
+    let other = match random.below(6) {
+        0 => 0,
+        1 => length.saturating_sub(1),
+        2 => length.saturating_sub(ROW),
+        3 => length + ROW,
+        4 => 2 * length,
+        _ => length + 1,
+    };
+    bytes.resize(if other == length { length + 1 } else { other }, 0);
+}
+
+/// Makes the buffers as long as the numbers ask, so that only the numbers are wrong, where that is not much memory.
+fn fit(random: &mut Random, lent: &mut Lent) {
+    let Numbers { b, p, m, d, .. } = lent.numbers();
+    let lengths = [p.checked_mul(b), d.checked_mul(b), m.checked_mul(ROW as u64), d.checked_mul(ROW as u64), Some(b)];
+    let most = if random.below(50) == 0 { 20_000_000 } else { 100_000 };
+    if random.below(2) == 0 || lengths.iter().any(|length| length.is_none_or(|length| length > most)) {
+        return;
+    }
+    let [disk, flash, addresses, blocks, block] = lengths.map(|length| length.unwrap() as usize);
+    lent.disk.resize(disk, 0);
+    lent.flash.resize(flash, 0);
+    lent.addresses.resize(addresses, 0);
+    lent.blocks.resize(blocks, 0);
+    lent.block.resize(block, 0);
+}
+
+/// Breaks a sound box in one way, or its address. Answers false, and changes nothing, where the box cannot be broken so.
+pub fn damage(random: &mut Random, lent: &mut Lent, address: &mut u32, kind: Damage) -> bool {
+    let numbers = lent.numbers();
+    let (rows, blocks) = read_tables(lent);
+    // Numbers and lengths may be broken already; a damage to the tables comes before those.
+    let (m, d, p) = (rows.len(), blocks.len(), numbers.p as usize);
+    let n = numbers.n.min(m as u64) as usize;
+    let used: Vec<usize> = (0..d).filter(|k| blocks[*k].used == 1).collect();
+    let free: Vec<usize> = (0..d).filter(|k| blocks[*k].used == 0).collect();
+    let row = random.below(n.max(1)) * ROW;
+    let block = random.below(d.max(1)) * ROW;
+    let nonzero = 1 + random.below(255) as u8;
+    match kind {
+        Damage::B => {
+            let b = match random.below(4) {
+                0 => pick(random, &[0, 1, 2, 16, 32, 8_192, 16_384, 65_536]),
+                1 => pick(random, &[63, 65, 96, 127, 192, 4_095, 4_097, 6_144]),
+                2 => pick(random, &[(1 << 32) + 64, 1 << 32, 1 << 63, u64::MAX]),
+                _ => loop {
+                    let b = random.below(8_200);
+                    if !BLOCK_SIZES.contains(&b) {
+                        break b as u64;
+                    }
+                },
+            };
+            set_state(lent, 0, b);
+            fit(random, lent);
+        }
+        Damage::P | Damage::M | Damage::D => {
+            let (place, most) = match kind {
+                Damage::P => (1, model::MOST_P),
+                Damage::M => (2, model::MOST_M),
+                _ => (3, model::MOST_D),
+            };
+            let number = outside(random, most as u64);
+            set_state(lent, place, number);
+            fit(random, lent);
+        }
+        Damage::DiskLength => wrong_length(random, &mut lent.disk),
+        Damage::FlashLength => wrong_length(random, &mut lent.flash),
+        Damage::AddressesLength => wrong_length(random, &mut lent.addresses),
+        Damage::BlocksLength => wrong_length(random, &mut lent.blocks),
+        Damage::BlockLength => wrong_length(random, &mut lent.block),
+        Damage::Address => *address = pick(random, &[p as u32, p as u32 + 1, u32::MAX, 1 << 31, 65_536]).max(p as u32),
+        Damage::TooManyHeld => {
+            let n = match random.below(4) {
+                0 => m as u64 + 1,
+                1 => u64::MAX,
+                2 => 1 << 32,
+                _ => m as u64 + 1 + random.below(2_000) as u64,
+            };
+            set_state(lent, 4, n);
+        }
+        Damage::AddressTooLarge if n > 0 => {
+            let large = pick(random, &[p as u32, u32::MAX, p as u32 + 7, 1 << 31]);
+            lent.addresses[row..row + 4].copy_from_slice(&large.to_le_bytes());
+        }
+        Damage::AddressTwice if n > 1 => {
+            let one = random.below(n);
+            let two = (one + 1 + random.below(n - 1)) % n;
+            lent.addresses[two * ROW..two * ROW + 4].copy_from_slice(&rows[one].address.to_le_bytes());
+        }
+        Damage::DirtyAboveOne if n > 0 => lent.addresses[row + 36] = nonzero.max(2),
+        Damage::AddressPadding if n > 0 => lent.addresses[row + 37 + random.below(3)] = nonzero,
+        Damage::TailNotZero if n < m => lent.addresses[n * ROW + random.below((m - n) * ROW)] = nonzero,
+        Damage::FreeAfterUsed if !used.is_empty() && !free.is_empty() => {
+            let (one, two) = (pick(random, &free), pick(random, &used));
+            let (first, second) = (blocks[one].to_bytes(), blocks[two].to_bytes());
+            lent.blocks[one * ROW..(one + 1) * ROW].copy_from_slice(&second);
+            lent.blocks[two * ROW..(two + 1) * ROW].copy_from_slice(&first);
+        }
+        Damage::UsedAboveOne => lent.blocks[block + 36] = nonzero.max(2),
+        Damage::BlockPadding => lent.blocks[block + 37 + random.below(3)] = nonzero,
+        Damage::FreeWithFingerprint if !free.is_empty() => lent.blocks[pick(random, &free) * ROW + random.below(32)] = nonzero,
+        Damage::SlotTwice if d > 1 => {
+            let one = random.below(d);
+            let two = (one + 1 + random.below(d - 1)) % d;
+            lent.blocks[two * ROW + 32..two * ROW + 36].copy_from_slice(&blocks[one].slot.to_le_bytes());
+        }
+        Damage::SlotTooLarge => {
+            let slot = pick(random, &[d as u32, u32::MAX, d as u32 + 256, 1 << 31]);
+            lent.blocks[block + 32..block + 36].copy_from_slice(&slot.to_le_bytes());
+        }
+        Damage::FingerprintTwice if used.len() > 1 => {
+            let one = random.below(used.len());
+            let two = (one + 1 + random.below(used.len() - 1)) % used.len();
+            lent.blocks[used[two] * ROW..used[two] * ROW + 32].copy_from_slice(&blocks[used[one]].fingerprint);
+        }
+        Damage::DirtyUncached => {
+            let cached: HashSet<Fingerprint> = used.iter().map(|k| blocks[*k].fingerprint).collect();
+            let without: Vec<usize> = (0..n).filter(|k| !cached.contains(&rows[*k].fingerprint)).collect();
+            if without.is_empty() {
+                return false;
+            }
+            lent.addresses[pick(random, &without) * ROW + 36] = 1;
+        }
+        Damage::Reads | Damage::Hits | Damage::FlashWrites | Damage::PrimaryWrites => {
+            let place = 5 + [Damage::Reads, Damage::Hits, Damage::FlashWrites, Damage::PrimaryWrites].iter().position(|other| *other == kind).unwrap();
+            let large = pick(random, &[MOST_COUNTED + 1, u64::MAX, MOST_COUNTED + 2, 3 << 62]);
+            set_state(lent, place, large);
+        }
+        _ => return false,
+    }
+    true
+}
+
+/// Any numbers and any bytes: small tables, lengths that fit more often than not.
+pub fn noise(random: &mut Random) -> Lent {
+    let wild = |random: &mut Random| pick(random, &[0, 1, 2, 3, 64, 255, 256, 257, 1_023, 1_024, 1_025, 65_535, 65_536, 65_537, 1 << 32, 1 << 63, u64::MAX, 461_168_601_842_738_791]);
+    let mut number = |good: &[u64]| if random.below(12) == 0 { wild(random) } else { pick(random, good) };
+    let [b, p, m, d, n] = [number(&[64, 64, 128]), number(&[1, 2, 3, 4]), number(&[1, 2, 3, 4]), number(&[1, 2, 3]), number(&[0, 1, 2, 3])];
+    let counters = std::array::from_fn(|_| number(&[0, 1, 77, 1 << 63]));
+    let mut length = |one: u64, two: u64| {
+        let exact = one.checked_mul(two).filter(|length| *length < 20_000).unwrap_or(two.min(64)) as usize;
+        match random.below(40) {
+            0 => exact + 1,
+            1 => exact.saturating_sub(1),
+            2 => exact.saturating_sub(ROW),
+            _ => exact,
+        }
+    };
+    let lengths = [length(p, b), length(d, b), length(m, ROW as u64), length(d, ROW as u64), length(1, b)];
+    let few = |random: &mut Random, length: usize| -> Vec<u8> {
+        let kinds = [[0, 0, 0, 0, 0, 0, 0, 1], [0, 0, 0, 0, 1, 1, 2, 255]];
+        let kind = random.below(8).min(1);
+        (0..length).map(|_| kinds[1 - kind][random.below(8)]).collect()
+    };
+    let mut lent = Lent {
+        state: Numbers { b, p, m, d, n, counters }.to_bytes(),
+        disk: bytes(random, lengths[0]),
+        flash: bytes(random, lengths[1]),
+        addresses: few(random, lengths[2]),
+        blocks: few(random, lengths[3]),
+        block: bytes(random, lengths[4]),
+        answer: bytes(random, ANSWER),
+    };
+    // Half of the time each row is brought near to a sound one, or no box would come past 6.
+    if random.below(2) == 0 {
+        for (k, row) in lent.addresses.chunks_exact_mut(ROW).enumerate() {
+            row[1..4].fill(0);
+            row[36..].fill(0);
+            row[36] = (random.below(4) == 0) as u8;
+            if k as u64 >= n {
+                row.fill(0);
+            }
+        }
+        for (k, row) in lent.blocks.chunks_exact_mut(ROW).enumerate() {
+            row[32..36].copy_from_slice(&(k as u32).to_le_bytes());
+            row[36..].fill(0);
+            row[36] = random.below(2) as u8;
+            if row[36] == 0 {
+                row[..32].fill(0);
+            }
+        }
+    }
+    lent
+}

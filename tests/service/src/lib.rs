@@ -1,0 +1,7 @@
+//! The proved service as Rust calls it, random boxes to lend to it, and what the tests have in common.
+pub mod boxes;
+pub mod calls;
+pub mod compare;
+#[cfg(feature = "double")]
+mod double;
+pub mod progress;

@@ -1,0 +1,184 @@
+//! Boxes that must be refused: the number is right and every byte is kept.
+use common::Random;
+use model::{Call, CALLS};
+use service::boxes::{damage, fill, noise, number_of, pick, sound, Damage, Shape, DAMAGES};
+use service::compare::compare;
+use service::progress::{count, seed, Progress};
+
+fn small(random: &mut Random) -> Shape {
+    let b = pick(random, &[64, 64, 64, 64, 128, 256]);
+    Shape::below(random, Shape { b, p: 10, m: 6, d: 5 })
+}
+
+/// A sound box with these damages, made of as many boxes as it takes; the address is of the box unless the damage is there.
+fn damaged(random: &mut Random, damages: &[Damage], shape: fn(&mut Random) -> Shape) -> (model::Lent, u32) {
+    for _ in 0..200 {
+        let shape = shape(random);
+        let mut lent = sound(random, shape);
+        let mut address = random.below(shape.p) as u32;
+        // From the last check to the first, as DAMAGES says.
+        let mut in_order: Vec<Damage> = DAMAGES.iter().map(|(kind, _)| *kind).filter(|kind| damages.contains(kind)).collect();
+        in_order.reverse();
+        if in_order.iter().all(|kind| damage(random, &mut lent, &mut address, *kind)) {
+            return (lent, address);
+        }
+    }
+    panic!("no box can be broken by {damages:?}");
+}
+
+/// Tries damages with every call and gives how many calls were refused with each number.
+fn try_all(random: &mut Random, damages: &[Damage], shape: fn(&mut Random) -> Shape, numbers: &mut [usize; 10], seed: u64) -> usize {
+    let (lent, address) = damaged(random, damages, shape);
+    for call in CALLS {
+        let mut lent = lent.clone();
+        let expected = number_of(call, damages);
+        let context = || format!("damages {damages:?}, seed {seed}");
+        let number = compare(call, address, &mut lent, random.below(32), &context);
+        assert_eq!(number, expected, "{call:?} with {damages:?}, seed {seed}");
+        numbers[number as usize] += 1;
+    }
+    1
+}
+
+fn show(name: &str, boxes: usize, numbers: &[usize; 10], seed: u64, progress: &Progress) {
+    let refused: Vec<String> = [1, 2, 3, 6, 7, 8, 9].iter().map(|k| format!("{k}: {}", numbers[*k])).collect();
+    println!("{name}: {boxes} boxes, calls refused with {}; served {} (seed {seed}, {:.1} s)", refused.join(", "), numbers[0], progress.seconds());
+    assert!([1, 2, 3, 6, 7, 8, 9].iter().all(|k| numbers[*k] > 0));
+}
+
+#[test]
+fn each_alone() {
+    let (seed, turns) = (seed(201), count(500));
+    let mut random = Random(seed);
+    let (mut boxes, mut numbers) = (0, [0; 10]);
+    let mut progress = Progress::new("each damage alone", turns * DAMAGES.len());
+    for _ in 0..turns {
+        for (kind, _) in DAMAGES {
+            boxes += try_all(&mut random, &[kind], small, &mut numbers, seed);
+            progress.at(boxes);
+        }
+    }
+    show("each damage alone, every call", boxes, &numbers, seed, &progress);
+}
+
+/// Every two damages, which says the order of the checks; and more of them.
+#[test]
+fn together() {
+    let (seed, turns) = (seed(202), count(20));
+    let mut random = Random(seed);
+    let (mut boxes, mut numbers) = (0, [0; 10]);
+    let mut progress = Progress::new("damages together", turns * (DAMAGES.len() * (DAMAGES.len() - 1) / 2 + 150));
+    for _ in 0..turns {
+        for k in 0..DAMAGES.len() {
+            for j in 0..k {
+                boxes += try_all(&mut random, &[DAMAGES[j].0, DAMAGES[k].0], small, &mut numbers, seed);
+            }
+        }
+        for _ in 0..150 {
+            let many: Vec<Damage> = (0..3 + random.below(3)).map(|_| pick(&mut random, &DAMAGES).0).collect();
+            boxes += try_all(&mut random, &many, small, &mut numbers, seed);
+        }
+        progress.at(boxes);
+    }
+    show("every two damages and more, every call", boxes, &numbers, seed, &progress);
+}
+
+/// Large tables: a damage in any of many rows is seen.
+#[test]
+fn in_large_tables() {
+    let (seed, turns) = (seed(203), count(60));
+    let mut random = Random(seed);
+    let (mut boxes, mut numbers) = (0, [0; 10]);
+    let mut progress = Progress::new("damages in large tables", turns * DAMAGES.len());
+    let large = |random: &mut Random| Shape { b: 64, p: 1_024 + random.below(500), m: pick(random, &[1_024, 700, 257]), d: pick(random, &[256, 255, 100]) };
+    for _ in 0..turns {
+        for (kind, _) in DAMAGES {
+            let (lent, address) = damaged(&mut random, &[kind], large);
+            let call = CALLS[random.below(7)];
+            let mut lent = lent.clone();
+            let number = compare(call, address, &mut lent, random.below(32), &|| format!("{kind:?}, seed {seed}"));
+            assert_eq!(number, number_of(call, &[kind]), "{call:?} with {kind:?}, seed {seed}");
+            numbers[number as usize] += 1;
+            boxes += 1;
+            progress.at(boxes);
+        }
+    }
+    show("each damage in large tables", boxes, &numbers, seed, &progress);
+}
+
+/// One to three bytes of a sound box changed anywhere in the state or the tables. Some boxes are sound still.
+#[test]
+fn changed_bytes() {
+    let (seed, total) = (seed(204), count(70_000));
+    let mut random = Random(seed);
+    let mut numbers = [0; 10];
+    let mut progress = Progress::new("changed bytes", total);
+    for turn in 0..total {
+        let shape = small(&mut random);
+        let mut lent = sound(&mut random, shape);
+        for _ in 0..1 + random.below(3) {
+            let buffer = match random.below(5) {
+                0 => &mut lent.state,
+                1 | 2 => &mut lent.addresses,
+                _ => &mut lent.blocks,
+            };
+            let place = random.below(buffer.len());
+            match random.below(3) {
+                0 => buffer[place] ^= 1 << random.below(8),
+                1 => buffer[place] = random.below(3) as u8,
+                _ => buffer[place] = random.number() as u8,
+            }
+        }
+        let address = random.below(shape.p + 1) as u32;
+        let call = CALLS[random.below(7)];
+        let number = compare(call, address, &mut lent, random.below(32), &|| format!("turn {turn}, {shape:?}, seed {seed}"));
+        numbers[number as usize] += 1;
+        progress.at(turn);
+    }
+    show("sound boxes with bytes changed", total, &numbers, seed, &progress);
+}
+
+#[test]
+fn any_bytes() {
+    let (seed, total) = (seed(205), count(60_000));
+    let mut random = Random(seed);
+    let mut numbers = [0; 10];
+    let mut progress = Progress::new("any bytes", total);
+    for turn in 0..total {
+        let mut lent = noise(&mut random);
+        let address = pick(&mut random, &[0, 0, 1, 2, u32::MAX]);
+        let call = CALLS[random.below(7)];
+        let number = compare(call, address, &mut lent, random.below(32), &|| format!("turn {turn}, seed {seed}"));
+        numbers[number as usize] += 1;
+        progress.at(turn);
+    }
+    show("any numbers and bytes", total, &numbers, seed, &progress);
+}
+
+/// A state that has not 72 bytes or an answer that has not 24 gives 2, whatever else is wrong, and nothing is changed.
+#[test]
+fn other_lengths_of_state_and_answer() {
+    let (seed, turns) = (seed(206), count(2_000));
+    let mut random = Random(seed);
+    let mut calls = 0;
+    for _ in 0..turns {
+        let damages: Vec<Damage> = (0..random.below(3)).map(|_| pick(&mut random, &DAMAGES).0).collect();
+        let (mut lent, address) = damaged(&mut random, &damages, small);
+        let state = random.below(2) == 0;
+        if state {
+            let length = pick(&mut random, &[0, 1, 8, 40, 64, 71, 73, 80, 144]);
+            lent.state.resize(length, 0);
+        } else {
+            let length = pick(&mut random, &[0, 1, 8, 16, 23, 25, 32, 72]);
+            lent.answer.resize(length, 0);
+            fill(&mut random, &mut lent.answer);
+        }
+        for call in CALLS.into_iter().filter(|call| state || *call != Call::Open) {
+            let mut lent = lent.clone();
+            let number = compare(call, address, &mut lent, random.below(32), &|| format!("damages {damages:?}, seed {seed}"));
+            assert_eq!(number, 2, "{call:?}");
+            calls += 1;
+        }
+    }
+    println!("states and answers of other lengths: {calls} calls on {turns} boxes give 2 (seed {seed})");
+}

@@ -1,0 +1,219 @@
+//! Random lists of calls from fresh boxes: after each call every number and every byte is the model's.
+use common::Random;
+use model::{Answer, Cache, Call, Lent, BLOCK_SIZES, CALLS};
+use service::boxes::{pick, unopened, Contents, Shape};
+use service::calls::call;
+use service::progress::{count, seed, Progress};
+
+/// What a run has met, so that it shows where a list would say little.
+#[derive(Default)]
+struct Met {
+    calls: usize,
+    refused: [usize; 10],
+    words: [usize; 8],
+    flash_writes: u64,
+    primary_writes: u64,
+    /// Blocks copied to the disk by a read or a write back, which happens only where a dirty row or block has to go.
+    written_back: u64,
+    lists: usize,
+}
+
+impl Met {
+    fn show(&self, name: &str, seed: u64, progress: &Progress) {
+        let [_, hit, miss, same, new, cache, disk, done] = self.words;
+        println!(
+            "{name}: {} calls in {} lists agree with the model in every byte (seed {seed}, {:.1} s)",
+            self.calls,
+            self.lists,
+            progress.seconds()
+        );
+        println!(
+            "  {hit} hits, {miss} misses, {same} same, {new} new, {cache} looks in flash, {disk} on disk, {done} flushes, {} refused with 2, {} with 3; {} flash writes, {} primary writes, {} of them by reads and writes back",
+            self.refused[2], self.refused[3], self.flash_writes, self.primary_writes, self.written_back
+        );
+        assert!(self.words[1..].iter().all(|count| *count > 0) && self.written_back > 0, "a kind of answer never came");
+    }
+}
+
+/// A call of a list and its address: mostly few addresses, sometimes any, sometimes none of the box.
+fn choose(random: &mut Random, shape: Shape) -> (Call, u32) {
+    let call = match random.below(100) {
+        0..=36 => Call::Read,
+        37..=54 => Call::Through,
+        55..=76 => Call::Back,
+        77..=84 => Call::Invalidate,
+        // Seldom where the tables are large: dirty rows shall come to be the oldest.
+        85..=87 if random.below(1 + shape.m / 32) == 0 => Call::Flush,
+        85..=87 => Call::Back,
+        _ => Call::Look,
+    };
+    let near = (shape.m + 2).min(shape.p);
+    let address = match random.below(40) {
+        0 => pick(random, &[shape.p as u32, shape.p as u32 + 1, u32::MAX, 65_536]).max(shape.p as u32),
+        1..=12 => random.below(shape.p) as u32,
+        _ => random.below(near) as u32,
+    };
+    (call, address)
+}
+
+fn buffer(lent: &mut Lent, which: usize) -> &mut Vec<u8> {
+    [&mut lent.disk, &mut lent.flash, &mut lent.addresses, &mut lent.blocks].into_iter().nth(which).unwrap()
+}
+
+/// Lends a buffer of a wrong length: refused with 2, and nothing moves.
+fn wrong_length(random: &mut Random, kind: Call, address: u32, lent: &mut Lent) {
+    let which = random.below(4);
+    let last = buffer(lent, which).pop().unwrap();
+    let before = lent.clone();
+    assert_eq!(call(kind, address, lent), 2);
+    assert_eq!(lent.difference(&before), None);
+    buffer(lent, which).push(last);
+}
+
+/// A list of calls from a fresh box.
+fn list(random: &mut Random, shape: Shape, length: usize, met: &mut Met) {
+    let Shape { b, p, m, d } = shape;
+    // Fewer contents than slots, about as many, or more; more where the tables are large.
+    let pool = match random.below(4) {
+        0 if d < 64 => 1 + random.below(3),
+        1 => 1 + random.below(d + 1),
+        2 => d + 1 + random.below(d + 2),
+        _ => m + d,
+    };
+    let contents = Contents::new(random, b, pool);
+    let mut lent = unopened(random, shape, &contents);
+    let mut cache = Cache::fresh(b, p, m, d, lent.disk.clone(), lent.flash.clone());
+    let (block, answer) = (lent.block.clone(), lent.answer.clone());
+    assert_eq!(call(Call::Open, 0, &mut lent), 0, "opening {shape:?}");
+    assert_eq!(cache.difference(&lent), None, "opening {shape:?}");
+    assert!(lent.block == block && lent.answer == answer);
+    met.lists += 1;
+    for turn in 0..length {
+        let (kind, address) = choose(random, shape);
+        if random.below(100) == 0 && p * b < 100_000 {
+            wrong_length(random, kind, address, &mut lent);
+            met.refused[2] += 1;
+        }
+        let mut block = contents.one(random).clone();
+        match random.below(80) {
+            0 => block.truncate(b - 1),
+            1 => block.push(0),
+            _ => {}
+        }
+        lent.block.clone_from(&block);
+        let answer = lent.answer.clone();
+        let number = call(kind, address, &mut lent);
+        let context = || format!("{shape:?}, call {turn} of list {}: {kind:?} {address}", met.lists);
+        match cache.call(kind, address, &mut block) {
+            Err(expected) => {
+                assert_eq!(number, expected, "{}", context());
+                assert_eq!(lent.answer, answer, "answer of a refused call, {}", context());
+                met.refused[number as usize] += 1;
+            }
+            Ok(expected) => {
+                assert_eq!(number, 0, "{}", context());
+                assert_eq!(Answer::from_bytes(&lent.answer), expected, "{}", context());
+                met.words[expected.word as usize] += 1;
+                if kind != Call::Look {
+                    met.flash_writes += expected.first;
+                    met.primary_writes += expected.second;
+                }
+                if kind == Call::Read || kind == Call::Back {
+                    met.written_back += expected.second;
+                }
+            }
+        }
+        assert!(lent.block == block, "lent block, {}", context());
+        if let Some(name) = cache.difference(&lent) {
+            panic!("{name} differs after {}", context());
+        }
+        met.calls += 1;
+    }
+}
+
+#[test]
+fn small_boxes() {
+    let (seed, total) = (seed(101), count(170_000));
+    let mut random = Random(seed);
+    let mut met = Met::default();
+    let mut progress = Progress::new("small boxes", total);
+    while met.calls < total {
+        let b = pick(&mut random, &[64, 64, 64, 128, 256]);
+        let most = pick(&mut random, &[Shape { b, p: 4, m: 3, d: 2 }, Shape { b, p: 12, m: 6, d: 4 }, Shape { b, p: 40, m: 12, d: 8 }]);
+        let shape = Shape::below(&mut random, most);
+        list(&mut random, shape, 200, &mut met);
+        progress.at(met.calls);
+    }
+    met.show("small boxes", seed, &progress);
+}
+
+#[test]
+fn every_block_size() {
+    let (seed, total) = (seed(102), count(28_000));
+    let mut random = Random(seed);
+    let mut met = Met::default();
+    let mut progress = Progress::new("every block size", total);
+    while met.calls < total {
+        for b in BLOCK_SIZES {
+            let shape = Shape::below(&mut random, Shape { b, p: 30, m: 20, d: 12 });
+            list(&mut random, shape, 200, &mut met);
+            progress.at(met.calls);
+        }
+    }
+    met.show("every block size", seed, &progress);
+}
+
+/// Tables up to the largest, on disks of some thousand blocks: the first list has the largest tables, and is long enough to fill them.
+#[test]
+fn large_tables() {
+    let (seed, total) = (seed(103), count(40_000));
+    let mut random = Random(seed);
+    let mut met = Met::default();
+    let mut progress = Progress::new("large tables", total);
+    while met.calls < total {
+        let shape = match met.lists % 4 {
+            0 => Shape { b: 64, p: 3_000, m: 1_024, d: 256 },
+            1 => Shape { b: 64, p: 5_000, m: 1 + random.below(1_024), d: 256 },
+            2 => Shape { b: 128, p: 1 + random.below(2_000), m: 1_024, d: 1 + random.below(256) },
+            _ => Shape::below(&mut random, Shape { b: 64, p: 4_000, m: 1_024, d: 256 }),
+        };
+        list(&mut random, shape, 4_000, &mut met);
+        progress.at(met.calls);
+    }
+    met.show("large tables", seed, &progress);
+}
+
+/// The largest disk in blocks, and the largest box of all.
+#[test]
+fn largest_boxes() {
+    let seed = seed(104);
+    let mut random = Random(seed);
+    let mut met = Met::default();
+    let progress = Progress::new("largest boxes", 0);
+    list(&mut random, Shape { b: 64, p: 65_536, m: 1_024, d: 256 }, 2_000, &mut met);
+
+    let (b, p, m, d) = (4_096, 65_536, 1_024, 256);
+    let shape = Shape { b, p, m, d };
+    let mut lent = Lent {
+        state: shape.numbers().to_bytes(),
+        disk: vec![0; p * b],
+        flash: vec![0; d * b],
+        addresses: vec![0; m * 40],
+        blocks: vec![0; d * 40],
+        block: vec![0; b],
+        answer: vec![0; 24],
+    };
+    let mut cache = Cache::fresh(b, p, m, d, vec![0; p * b], vec![0; d * b]);
+    assert_eq!(call(Call::Open, 0, &mut lent), 0);
+    for (turn, kind) in [1, 2, 6, 3, 6, 1, 5, 4, 6, 1].map(|k| CALLS[k]).into_iter().enumerate() {
+        let mut block = vec![turn as u8 + 1; b];
+        lent.block.clone_from(&block);
+        assert_eq!(call(kind, 65_535, &mut lent), 0);
+        assert_eq!(Answer::from_bytes(&lent.answer), cache.call(kind, 65_535, &mut block).unwrap(), "{kind:?}");
+        assert!(lent.block == block, "{kind:?}");
+        assert_eq!(cache.difference(&lent), None, "{kind:?}");
+        met.calls += 1;
+    }
+    met.lists += 1;
+    met.show("largest boxes", seed, &progress);
+}
