@@ -1,7 +1,7 @@
 /* Mindavehu: a deduplicating flash cache with D-LRU replacement, in memory that the caller lends.
  *
  * Link with libservice.a (`rt staticlib service`). The library keeps nothing between calls, allocates nothing and reads no clock:
- * whatever a call needs and leaves is in the buffers below. Each call is proved to do what docs/01-scope.md says, on any bytes.
+ * whatever a call needs and leaves is in the buffers below. Each call is proved to do what document 01 says, on any bytes.
  *
  * The box: B bytes a block (64, 128, 256, 512, 1024, 2048 or 4096), P disk blocks (1 to 65536), at most m addresses held (1 to 1024),
  * d cached blocks (1 to 256). n is the number of addresses held now.
