@@ -17,7 +17,7 @@ use Rattle.paper.specs.Engine.{Fixed, engine}
 use Rattle.paper.specs.Index.{indexWhere, unknown-yes, unknown-no, has-at, without-at}
 use Rattle.paper.specs.Layout.{Blocks}
 use Rattle.policy.specs.Steps.{noBlock, victimPlace, Picked, pickedTaken}
-use Rattle.policy.proofs.Moved.{used-flag, first-flag}
+use Rattle.policy.specs.MoveLaws.{used-flag, first-flag}
 
 -- victim
 module _ (B d : ℕ) (t : List ℕ) (l : List (AddressRow (Fixed 32))) (used : List (BlockRow (Fixed 32))) where

@@ -17,8 +17,8 @@ use Rattle.paper.specs.Index.{indexWhere, index-holds, has-yes, has-no, find-ye
 use Rattle.paper.specs.Layout.{Addrs, Blocks, addressesOf, blocksOf}
 use Rattle.policy.specs.Rep.{noRow}
 use Rattle.policy.specs.Steps.{noBlock, placeOf, blockBytes}
-use Rattle.policy.proofs.Moved.{used-part, fronted}
-use Rattle.policy.proofs.Copying.{right-no}
+use Rattle.policy.specs.MoveLaws.{used-part, fronted}
+use Rattle.policy.specs.CopyLaws.{right-no}
 
 -- the block row of the fingerprint q, by its place
 module _ (B d : ℕ) (t : List ℕ) (free : List ℕ) (used : List (BlockRow (Fixed 32))) (h : Blocks d t free used) (place : ℕ) (q : Fixed 32) (e : place ≡ placeOf (some q) free used) where

@@ -16,7 +16,7 @@ use Rattle.paper.specs.Cache.{AddressRow, BlockRow, known, cached, someUncached
 use Rattle.paper.specs.Engine.{Fixed, engine}
 use Rattle.paper.specs.Index.{indexWhere, index-map}
 use Rattle.paper.specs.Layout.{Addrs, Blocks}
-use Rattle.policy.proofs.Tab.{addrBytes, usedBytes, freeBytes, rows-addrs, rows-blocks, length-blocks, fp-of, fp-used, flag-used, flag-free, placed, placed-first, isAt, used-has, fp-known, fp-cached, all-any}
+use Rattle.policy.specs.TableLaws.{addrBytes, usedBytes, freeBytes, rows-addrs, rows-blocks, length-blocks, fp-of, fp-used, flag-used, flag-free, placed, placed-first, isAt, used-has, fp-known, fp-cached, all-any}
 
 absent-is : (f : Found) → absent f ≡ not (isAt f)
 absent-is (At i) = refl

@@ -1,15 +1,9 @@
-pub mod Tab
-pub mod Moved
 pub mod Indexed
-pub mod Copying
 pub mod Looped
 pub mod Asking
 pub mod Stepping
 pub mod Storing
 pub mod Whole
-pub mod Serving
 pub mod Dropping
 pub mod Refusing
-pub mod Calling
 pub mod Opening
-pub mod Looking

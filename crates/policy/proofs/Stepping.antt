@@ -20,9 +20,9 @@ use Rattle.paper.specs.Index.{indexWhere, has-yes, has-no}
 use Rattle.paper.specs.Layout.{Addrs, Blocks, addressesOf, blocksOf}
 use Rattle.policy.specs.Rep.{Rep, Copied, copiedRow, copiedRows, partBox, noRow, clean}
 use Rattle.policy.specs.Steps.{noBlock, placeOf, Out1, out1, blockBytes, Picked, pickedTaken}
-use Rattle.policy.proofs.Moved.{used-flag, first-flag, used-part, refilled, first-filled}
+use Rattle.policy.specs.MoveLaws.{used-flag, first-flag, used-part, refilled, first-filled}
 use Rattle.policy.proofs.Asking.{own-slot}
-use Rattle.policy.proofs.Copying.{right-no}
+use Rattle.policy.specs.CopyLaws.{right-no}
 use Rattle.policy.proofs.Dropping.{not-there, there, known-as, freed-at, without-row, row-is, one-less}
 
 -- ---- step 1

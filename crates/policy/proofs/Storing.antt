@@ -17,7 +17,7 @@ use Rattle.paper.specs.Index.{indexWhere, index-holds, has-yes, has-no, without
 use Rattle.paper.specs.Layout.{Blocks, addressesOf, blocksOf}
 use Rattle.policy.specs.Rep.{Rep, Copied, copiedRows, partBox}
 use Rattle.policy.specs.Steps.{noBlock, victimPlace, Picked, pickedTaken, Out4, out4}
-use Rattle.policy.proofs.Moved.{slot-is, slot-below, first-slot, renewed}
+use Rattle.policy.specs.MoveLaws.{slot-is, slot-below, first-slot, renewed}
 use Rattle.policy.proofs.Asking.{victim-picked, taken-is}
 
 picked-slot : (d : ℕ) (bt : List ℕ) (free : List ℕ) (used : List (BlockRow (Fixed 32))) (t : ℕ) → Blocks d bt free used → Picked free used t → le4 (rowAt bt t) 32 ≡ pickedTaken free used t .slot

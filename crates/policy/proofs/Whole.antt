@@ -21,7 +21,7 @@ use Rattle.paper.specs.Lent.{bit}
 use Rattle.paper.specs.Layout.{Addrs, Blocks, blocksOf}
 use Rattle.policy.specs.Rep.{Rep}
 use Rattle.policy.specs.Steps.{placeOf, Out1, out1, blockBytes, Out4, out4, After, after, asks, Sure}
-use Rattle.policy.proofs.Moved.{pushed}
+use Rattle.policy.specs.MoveLaws.{pushed}
 
 -- block rows whose slots are 0 to d - 1
 pub blocks-from : (d : ℕ) (t : List ℕ) (free : List ℕ) (used : List (BlockRow (Fixed 32))) → List·Permᴰ (free ++ map (λ u. u .slot) used) (slotsFrom 0 d) → d ≤ 256 → t ≡ blocksOf free used → Blocks d t free used

@@ -6,3 +6,10 @@ pub mod Steps
 pub mod Calls
 pub mod Checks
 pub mod Look
+-- promises: what the calls find in lent bytes, and what a look finds there
+pub mod TableLaws
+pub mod MoveLaws
+pub mod CopyLaws
+pub mod ServeLaws
+pub mod CallLaws
+pub mod LookLaws

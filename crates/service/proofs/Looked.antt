@@ -20,7 +20,7 @@ use Rattle.policy.specs.declared.look.Place.the-variants.{Refused, Flash, Disk}
 use Rattle.policy.specs.Contract.{numbersOf, countersOf, lent}
 use Rattle.policy.specs.Look.{whereIs, answerAt, partAt}
 use Rattle.policy.specs.Look as Found
-use Rattle.policy.proofs.Looking.{PartIn, where-in, look-answers, look-returns}
+use Rattle.policy.specs.LookLaws.{PartIn, where-in, look-answers, look-returns}
 use Rattle.service.specs.Fields.{get8, recordIn, countersIn, putAnswer, fitting}
 use Rattle.service.specs.FieldLaws.{word-read, second-read, third-read}
 use Rattle.service.specs.Left.{numberOf, LeftLook, startOf, placeIn, lentIn, leavesLook, shown, wordIn, Shows}

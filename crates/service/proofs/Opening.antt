@@ -35,6 +35,6 @@ module _ (s disk flash addresses blocks : List ℕ) where
   unfolding leavesOpen openedIn
   opened h b c eb ec o addresses′ blocks′ e number s′ en es =
       let read : opens (record { size = b .size; blocks = b .blocks; rows = b .rows; slots = b .slots; held = 0 }) disk flash addresses blocks (countersOf c) ≡ opens (freshRecord s) disk flash addresses blocks (countersOf (countersIn s))
-          = λ i. opens (record { size = eb i .size; blocks = eb i .blocks; rows = eb i .rows; slots = eb i .slots; held = 0 }) disk flash addresses blocks (countersOf (ec i)) in
+      = λ i. opens (record { size = eb i .size; blocks = eb i .blocks; rows = eb i .rows; slots = eb i .slots; held = 0 }) disk flash addresses blocks (countersOf (ec i)) in
       rw (eq-eqb (length s) 72 h)
       (_∙_ {A = LeftOpen} (λ i. record { number = en i; state = es i; addresses = addresses′; blocks = blocks′ }) (ap (λ (x : Opened). openedIn s x) (e ∙ read)))

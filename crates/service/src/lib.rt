@@ -31,7 +31,16 @@ pub extern "C" fn mindavehu_read(
     }
     let b = fields::record_in(state);
     let c = fields::counters_in(state);
-    let o = policy::calls::read(b, SourceAddress(address), disk, flash, addresses, blocks, c, block);
+    let o = policy::calls::read(
+        b,
+        SourceAddress(address),
+        disk,
+        flash,
+        addresses,
+        blocks,
+        c,
+        block,
+    );
     fields::write_outcome(state, answer, o)
 }
 
@@ -55,7 +64,16 @@ pub extern "C" fn mindavehu_write_through(
     }
     let b = fields::record_in(state);
     let c = fields::counters_in(state);
-    let o = policy::calls::write_through(b, SourceAddress(address), disk, flash, addresses, blocks, c, block);
+    let o = policy::calls::write_through(
+        b,
+        SourceAddress(address),
+        disk,
+        flash,
+        addresses,
+        blocks,
+        c,
+        block,
+    );
     fields::write_outcome(state, answer, o)
 }
 
@@ -79,7 +97,16 @@ pub extern "C" fn mindavehu_write_back(
     }
     let b = fields::record_in(state);
     let c = fields::counters_in(state);
-    let o = policy::calls::write_back(b, SourceAddress(address), disk, flash, addresses, blocks, c, block);
+    let o = policy::calls::write_back(
+        b,
+        SourceAddress(address),
+        disk,
+        flash,
+        addresses,
+        blocks,
+        c,
+        block,
+    );
     fields::write_outcome(state, answer, o)
 }
 
@@ -103,7 +130,16 @@ pub extern "C" fn mindavehu_write_invalidate(
     }
     let b = fields::record_in(state);
     let c = fields::counters_in(state);
-    let o = policy::calls::write_invalidate(b, SourceAddress(address), disk, flash, addresses, blocks, c, block);
+    let o = policy::calls::write_invalidate(
+        b,
+        SourceAddress(address),
+        disk,
+        flash,
+        addresses,
+        blocks,
+        c,
+        block,
+    );
     fields::write_outcome(state, answer, o)
 }
 
@@ -170,6 +206,16 @@ pub extern "C" fn mindavehu_open(
     }
     let b = fields::record_in(state);
     let c = fields::counters_in(state);
-    let o = policy::open::open(b.size, b.blocks, b.rows, b.slots, disk, flash, addresses, blocks, c);
+    let o = policy::open::open(
+        b.size,
+        b.blocks,
+        b.rows,
+        b.slots,
+        disk,
+        flash,
+        addresses,
+        blocks,
+        c,
+    );
     fields::write_opening(state, o)
 }

@@ -7,7 +7,7 @@ use lib.ListN.{length}
 use borrow.Author.Needs.{needs}
 use borrow.Author.Tests.{not-true, not-false}
 use Rattle.paper.specs.RowBytes.{Bytes}
-use Rattle.policy.proofs.Calling.{all-bytes}
+use Rattle.policy.specs.CallLaws.{all-bytes}
 use Rattle.service.specs.Fields.{fitting}
 use Rattle.service.specs.FieldLaws.{get8-below}
 use Rattle.service.proofs.Noting.{lengths}
@@ -58,11 +58,10 @@ returns-2 c =
     let a = start f .args in
     let lf : length (a .flash .now) < 2 ^ 64 = start f .good .1 .1 .1 .0 .0 in
     let ld : length (a .disk .now) < 2 ^ 64 = start f .good .1 .1 .0 .0 in
-    let below = get8-below (a .state .now) 0 (λ i. omega (arith, f .before .before .before .before .before .before .before .shared-slice-known .given i)) in
-    (
+    let below = get8-below (a .state .now) 0 (λ i. omega (arith, f .before .before .before .before .before .before .before .shared-slice-known .given i)) in (
       looked (a .address) (a .state .now) (a .disk .now) (a .flash .now) (a .addresses .now) (a .blocks .now) (a .answer .now) (b .record-in .result) (b .record-in .ensures) (p .place-of .result) (p .place-of .ensures) (fits e) _ _ (w .write-place .ensures),
       λ h. looked-shows (a .address) (a .state .now) (a .disk .now) (a .flash .now) (a .addresses .now) (a .blocks .now) (a .answer .now) (b .record-in .result) (b .record-in .ensures) (p .place-of .result) (p .place-of .ensures) h _ _ (w .write-place .ensures)
-      (bytesA f) (bytesB f) (lengths _ _ h .1) below lf ld,
+          (bytesA f) (bytesB f) (lengths _ _ h .1) below lf ld,
     )
 
 pub mindavehu-look-spec : {M : Type 1} → statement M

@@ -11,7 +11,7 @@ use Rattle.paper.specs.Lent.{Ask, calling, refusal, callOf, boxIn}
 use Rattle.paper.specs.CallLaws.{served-finds}
 use Rattle.policy.specs.Calls.{Leaves, leaves}
 use Rattle.policy.specs.Contract.{numbersOf, countersOf, lent, told}
-use Rattle.policy.proofs.Calling.{all-bytes, sure, rep, sizes, block-fits, address-fits, finish, keep, fitting, read-says, said-is, hit-counted, read-block, one-le, yes-of, block-of}
+use Rattle.policy.specs.CallLaws.{all-bytes, sure, rep, sizes, block-fits, address-fits, finish, keep, fitting, read-says, said-is, hit-counted, read-block, one-le, yes-of, block-of}
 use Rattle.policy.proofs.calls.read.Statement.{statement}
 use Rattle.policy.proofs.calls.read.Tie as tie
 

@@ -8,7 +8,7 @@ use lib.ListN.{getD}
 use Rattle.paper.specs.Engine.{engine}
 use Rattle.policy.specs.Rep.{noRow}
 use Rattle.tables.specs.Rows.{rowAt}
-use Rattle.policy.proofs.Copying.{row-left, row-copied, row-fp, same-slot, copy-fits, both-yes, left-no, right-no}
+use Rattle.policy.specs.CopyLaws.{row-left, row-copied, row-fp, same-slot, copy-fits, both-yes, left-no, right-no}
 use borrow.Author.Needs.{needs}
 use Rattle.policy.proofs.copy.clean_row.Statement.{statement}
 use Rattle.policy.proofs.copy.clean_row.Tie as tie

@@ -6,8 +6,8 @@ use Prim.Native.Nat.{_+_, _*_, _-_}
 use native.Mathlib.Omega.{arith}
 use lib.ListN.{getD}
 use Rattle.policy.specs.Rep.{noRow}
-use Rattle.policy.proofs.Moved.{fp-part}
-use Rattle.policy.proofs.Copying.{row-left, row-copied, copy-fits, slotOf-below, both-yes, left-no}
+use Rattle.policy.specs.MoveLaws.{fp-part}
+use Rattle.policy.specs.CopyLaws.{row-left, row-copied, copy-fits, slotOf-below, both-yes, left-no}
 use borrow.Author.Needs.{needs}
 use Rattle.policy.proofs.copy.flush_row.Statement.{statement}
 use Rattle.policy.proofs.copy.flush_row.Tie as tie

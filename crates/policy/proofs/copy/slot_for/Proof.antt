@@ -1,7 +1,7 @@
 -- By whether the fingerprint has a place. Assumes nothing.
 use Prim.Native.Nat.{_-_}
 use native.Mathlib.Omega.{arith}
-use Rattle.policy.proofs.Copying.{slot-none, slot-some}
+use Rattle.policy.specs.CopyLaws.{slot-none, slot-some}
 use borrow.Author.Needs.{needs}
 use Rattle.policy.proofs.copy.slot_for.Statement.{statement}
 use Rattle.policy.proofs.copy.slot_for.Tie as tie

@@ -4,8 +4,8 @@ use Rattle.paper.specs.Cache.{noCounts}
 use Rattle.paper.specs.Lent.{Ask, boxIn}
 use Rattle.paper.specs.RowBytes.{Bytes}
 use Rattle.policy.specs.Contract.{numbersOf, lent}
-use Rattle.policy.proofs.Calling.{all-bytes, rep, sizes}
-use Rattle.policy.proofs.Looking.{found-flash, found-disk}
+use Rattle.policy.specs.CallLaws.{all-bytes, rep, sizes}
+use Rattle.policy.specs.LookLaws.{found-flash, found-disk}
 use Rattle.policy.proofs.look.found.Statement.{statement}
 use Rattle.policy.proofs.look.found.Tie as tie
 

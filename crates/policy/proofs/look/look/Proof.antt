@@ -3,7 +3,7 @@ use mathlib.Core.Path.{sym, ap, _∙_}
 use borrow.Author.Needs.{needs}
 use Rattle.policy.specs.Contract.{numbersOf, lent}
 use Rattle.policy.specs.Look.{answerAt}
-use Rattle.policy.proofs.Looking.{look-answers}
+use Rattle.policy.specs.LookLaws.{look-answers}
 use Rattle.policy.proofs.look.look.Statement.{statement}
 use Rattle.policy.proofs.look.look.Tie as tie
 

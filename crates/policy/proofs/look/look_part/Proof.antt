@@ -5,8 +5,8 @@ use borrow.Author.Needs.{needs}
 use Rattle.paper.specs.Cache.{noCounts}
 use Rattle.paper.specs.RowBytes.{Bytes}
 use Rattle.policy.specs.Look.{partAt}
-use Rattle.policy.proofs.Calling.{all-bytes}
-use Rattle.policy.proofs.Looking.{PartIn, where-in, look-returns}
+use Rattle.policy.specs.CallLaws.{all-bytes}
+use Rattle.policy.specs.LookLaws.{PartIn, where-in, look-returns}
 use Rattle.policy.proofs.look.look_part.Statement.{statement}
 use Rattle.policy.proofs.look.look_part.Tie as tie
 

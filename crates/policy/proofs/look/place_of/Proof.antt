@@ -2,7 +2,7 @@
 use mathlib.Core.Path.{sym, _∙_}
 use borrow.Author.Needs.{needs}
 use Rattle.policy.specs.Contract.{numbersOf, lent}
-use Rattle.policy.proofs.Looking.{where-refused}
+use Rattle.policy.specs.LookLaws.{where-refused}
 use Rattle.policy.proofs.look.place_of.Statement.{statement}
 use Rattle.policy.proofs.look.place_of.Tie as tie
 

@@ -1,7 +1,7 @@
 -- What `find_fingerprint` finds tells whether the paper's rows have it. Assumes nothing.
 use mathlib.Core.Path.{sym, _∙_}
 use Rattle.tables.specs.declared.Found.the-variants.{At, Nothing}
-use Rattle.policy.proofs.Tab.{fp-known}
+use Rattle.policy.specs.TableLaws.{fp-known}
 use borrow.Author.Needs.{needs}
 use Rattle.policy.proofs.rows.knows.Statement.{statement}
 use Rattle.policy.proofs.rows.knows.Tie as tie

@@ -1,7 +1,7 @@
 -- What `find_cached` finds is the paper's index behind the free rows. Assumes nothing.
 use mathlib.Core.Path.{sym, _∙_}
 use Rattle.tables.specs.declared.Found.the-variants.{At, Nothing}
-use Rattle.policy.proofs.Tab.{block-index}
+use Rattle.policy.specs.TableLaws.{block-index}
 use borrow.Author.Needs.{needs}
 use Rattle.policy.proofs.rows.place_of.Statement.{statement}
 use Rattle.policy.proofs.rows.place_of.Tie as tie

@@ -5,7 +5,7 @@ use native.Mathlib.Omega.{arith}
 use lib.ListN.{getD}
 use Rattle.policy.specs.Rep.{noRow}
 use borrow.Author.Tests.{lt-ltb, le-ltb}
-use Rattle.policy.proofs.Moved.{fp-part}
+use Rattle.policy.specs.MoveLaws.{fp-part}
 use borrow.Author.Needs.{needs}
 use Rattle.policy.proofs.rows.place_of_row.Statement.{statement}
 use Rattle.policy.proofs.rows.place_of_row.Tie as tie

@@ -1,7 +1,7 @@
 -- What `find_address` finds is the paper's index. Assumes nothing.
 use mathlib.Core.Path.{sym, _∙_}
 use Rattle.tables.specs.declared.Found.the-variants.{At, Nothing}
-use Rattle.policy.proofs.Tab.{addr-index}
+use Rattle.policy.specs.TableLaws.{addr-index}
 use borrow.Author.Needs.{needs}
 use Rattle.policy.proofs.rows.row_of.Statement.{statement}
 use Rattle.policy.proofs.rows.row_of.Tie as tie

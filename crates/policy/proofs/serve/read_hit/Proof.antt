@@ -11,9 +11,9 @@ use Rattle.paper.specs.Lent.{bit}
 use Rattle.policy.specs.Rep.{noRow}
 use native.Mathlib.Nat.{zero-add}
 use Rattle.policy.specs.Steps.{asks}
-use Rattle.policy.proofs.Moved.{fp-part, dirty-is}
-use Rattle.policy.proofs.Copying.{parts-length, block-ends, slot-some, slotOf-below}
-use Rattle.policy.proofs.Serving.{answer-is, copied-block, hit-is}
+use Rattle.policy.specs.MoveLaws.{fp-part, dirty-is}
+use Rattle.policy.specs.CopyLaws.{parts-length, block-ends, slot-some, slotOf-below}
+use Rattle.policy.specs.ServeLaws.{answer-is, copied-block, hit-is}
 use borrow.Author.Needs.{needs}
 use Rattle.policy.proofs.serve.read_hit.Statement.{statement}
 use Rattle.policy.proofs.serve.read_hit.Tie as tie

@@ -10,8 +10,8 @@ use Rattle.paper.specs.Engine.{engine}
 use native.Mathlib.Nat.{zero-add}
 use Rattle.hash.specs.Sha256.{sha256}
 use Rattle.policy.specs.Steps.{asks}
-use Rattle.policy.proofs.Copying.{parts-length, block-ends}
-use Rattle.policy.proofs.Serving.{answer-is, copied-block, miss-is}
+use Rattle.policy.specs.CopyLaws.{parts-length, block-ends}
+use Rattle.policy.specs.ServeLaws.{answer-is, copied-block, miss-is}
 use borrow.Author.Needs.{needs}
 use Rattle.policy.proofs.serve.read_miss.Statement.{statement}
 use Rattle.policy.proofs.serve.read_miss.Tie as tie

@@ -9,7 +9,7 @@ use Rattle.paper.specs.Cache.{cached, sameBlock, newBlock, step}
 use Rattle.paper.specs.Engine.{engine}
 use native.Mathlib.Nat.{zero-add}
 use Rattle.policy.specs.Steps.{asks}
-use Rattle.policy.proofs.Serving.{yes-is, answer-is, back-is}
+use Rattle.policy.specs.ServeLaws.{yes-is, answer-is, back-is}
 use borrow.Author.Needs.{needs}
 use Rattle.policy.proofs.serve.serve_back.Statement.{statement}
 use Rattle.policy.proofs.serve.serve_back.Tie as tie

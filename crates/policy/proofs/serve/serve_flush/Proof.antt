@@ -1,7 +1,7 @@
 -- The loop over the rows gives all. Assumes nothing.
 use Prim.Native.Nat.{_-_}
 use native.Mathlib.Omega.{arith}
-use Rattle.policy.proofs.Serving.{flush-is}
+use Rattle.policy.specs.ServeLaws.{flush-is}
 use borrow.Author.Needs.{needs}
 use Rattle.policy.proofs.serve.serve_flush.Statement.{statement}
 use Rattle.policy.proofs.serve.serve_flush.Tie as tie

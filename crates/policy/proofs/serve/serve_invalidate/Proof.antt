@@ -7,8 +7,8 @@ use borrow.Author.Needs.{needs}
 use Rattle.hash.specs.Sha256.{sha256}
 use Rattle.block.specs.Blocks.{splice}
 use Rattle.paper.specs.Engine.{engine}
-use Rattle.policy.proofs.Copying.{block-ends}
-use Rattle.policy.proofs.Serving.{yes-is, invalidate-is, part-all}
+use Rattle.policy.specs.CopyLaws.{block-ends}
+use Rattle.policy.specs.ServeLaws.{yes-is, invalidate-is, part-all}
 use Rattle.policy.proofs.serve.serve_invalidate.Statement.{statement}
 use Rattle.policy.proofs.serve.serve_invalidate.Tie as tie
 

@@ -1,6 +1,6 @@
 -- By whether the row's fingerprint has a place, which is the paper's hit. Assumes nothing.
 use Prim.Native.Nat.{_-_}
-use Rattle.policy.proofs.Serving.{found-hit, found-miss}
+use Rattle.policy.specs.ServeLaws.{found-hit, found-miss}
 use borrow.Author.Needs.{needs}
 use Rattle.policy.proofs.serve.serve_read.Statement.{statement}
 use Rattle.policy.proofs.serve.serve_read.Tie as tie

@@ -10,8 +10,8 @@ use Rattle.paper.specs.Engine.{Fixed, engine}
 use Rattle.block.specs.Blocks.{splice}
 use Rattle.paper.specs.Sound.{sound-onDisk}
 use Rattle.policy.specs.Steps.{asks}
-use Rattle.policy.proofs.Copying.{block-ends}
-use Rattle.policy.proofs.Serving.{yes-is, answer-is, through-is, rep-onDisk, part-all}
+use Rattle.policy.specs.CopyLaws.{block-ends}
+use Rattle.policy.specs.ServeLaws.{yes-is, answer-is, through-is, rep-onDisk, part-all}
 use Rattle.hash.specs.Sha256.{sha256}
 use borrow.Author.Needs.{needs}
 use Rattle.policy.proofs.serve.serve_through.Statement.{statement}

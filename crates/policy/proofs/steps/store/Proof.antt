@@ -1,6 +1,6 @@
 -- The row taken is the paper's; then its block is lost and the new one stored. Assumes nothing.
 use Prim.Native.Nat.{_-_}
-use Rattle.policy.proofs.Copying.{parts-length, block-ends}
+use Rattle.policy.specs.CopyLaws.{parts-length, block-ends}
 use Rattle.policy.proofs.Indexed.{unique-is}
 use Rattle.policy.proofs.Storing.{at-picked, at-slot, at-below, store-is}
 use borrow.Author.Needs.{needs}

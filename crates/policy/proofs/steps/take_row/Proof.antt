@@ -4,7 +4,7 @@ use Prim.Native.Nat.{_+_, _*_, _-_}
 use native.Mathlib.Omega.{arith}
 use lib.ListN.{getD}
 use Rattle.policy.specs.Rep.{noRow}
-use Rattle.policy.proofs.Moved.{fp-part, removed}
+use Rattle.policy.specs.MoveLaws.{fp-part, removed}
 use borrow.Author.Needs.{needs}
 use Rattle.policy.proofs.steps.take_row.Statement.{statement}
 use Rattle.policy.proofs.steps.take_row.Tie as tie

@@ -25,9 +25,9 @@ use Rattle.policy.specs.Rep.{Rep, noRow}
 use Rattle.policy.specs.Calls.{HitAt}
 use Rattle.policy.specs.Contract.{numbersOf, lent}
 use Rattle.policy.specs.Look.{placeIn, whereIs, answerAt, partAt}
-use Rattle.policy.proofs.Copying.{part-block, parts-length, block-ends, slot-some, slotOf-below}
-use Rattle.policy.proofs.Serving.{hit-row, found-hit, found-miss}
-use Rattle.policy.proofs.Calling.{rep, address-fits}
+use Rattle.policy.specs.CopyLaws.{part-block, parts-length, block-ends, slot-some, slotOf-below}
+use Rattle.policy.specs.ServeLaws.{hit-row, found-hit, found-miss}
+use Rattle.policy.specs.CallLaws.{rep, address-fits}
 
 -- a look that is not refused
 module _ (b : BoxRecord) (disk flash addrs blocks : List ℕ) (k : Counters) (a : ℕ) (e : refusal (numbersOf b) (lent b disk flash addrs blocks k) (calling (Ask.look a)) ≡ 0) (ba : Bytes addrs) (bb : Bytes blocks) where

@@ -20,7 +20,7 @@ use Rattle.paper.specs.Engine.{Fixed}
 use Rattle.paper.specs.Lent.{bit}
 use Rattle.paper.specs.LentLaws.{bit-back}
 use Rattle.paper.specs.Layout.{addressesOf, blocksOf, Addrs, Blocks}
-use Rattle.policy.proofs.Tab.{addrBytes, usedBytes, freeBytes, addrs-flat, blocks-flat, wide-addrs, length-zeros, rows-addrs, rest-addrs, rows-blocks, fp-of, fp-used, flag-used, flag-free}
+use Rattle.policy.specs.TableLaws.{addrBytes, usedBytes, freeBytes, addrs-flat, blocks-flat, wide-addrs, length-zeros, rows-addrs, rest-addrs, rows-blocks, fp-of, fp-used, flag-used, flag-free}
 
 pub all-getD : {A : Type 0} (Q : A → Type 0) (l : List A) (i : ℕ) (z : A) → All Q l → i < length l → Q (getD l i z)
 all-getD Q [] i z q h = absurd (omega arith)

@@ -19,9 +19,9 @@ use Rattle.paper.specs.Parts.{length-join, join-set}
 use Rattle.paper.specs.Layout.{Blocks, Parts}
 use Rattle.policy.specs.Rep.{Rep, Copied, copiedRow, noRow}
 use Rattle.paper.specs.Index.{indexWhere, slotOf-yes, slotOf-no}
-use Rattle.policy.proofs.Moved.{row-is, slot-is, address-is, address-below, dirty-is, cleaned-row}
+use Rattle.policy.specs.MoveLaws.{row-is, slot-is, address-is, address-below, dirty-is, cleaned-row}
 use Rattle.tables.specs.Find.{hasFingerprint}
-use Rattle.policy.proofs.Tab.{has-fp}
+use Rattle.policy.specs.TableLaws.{has-fp}
 
 -- block k of the bytes
 join-part : (n : ℕ) (bs : List (Fixed n)) (k : ℕ) (z : Fixed n) → k < length bs → take n (drop (k * n) (join bs)) ≡ (getD bs k z) .0

@@ -22,7 +22,7 @@ use Rattle.policy.specs.Rep.{noRow, Rep, Copied, copiedRows, partBox}
 use Rattle.paper.specs.Layout.{Blocks, Parts, addressesOf}
 use Rattle.policy.specs.Steps.{out4, After, after, asks, blockBytes}
 use Rattle.policy.specs.Calls.{isYes, returned, Leaves, leaves, HitAt}
-use Rattle.policy.proofs.Copying.{put-block-is, part-block}
+use Rattle.policy.specs.CopyLaws.{put-block-is, part-block}
 
 -- "same" where the fingerprint has a place
 pub yes-is : (B d : ℕ) (t : List ℕ) (free : List ℕ) (used : List (BlockRow (Fixed 32))) → Blocks d t free used → (f : Fixed 32) (j : ℕ) → j ≡ length free + indexWhere (λ u. engine 0 .same f (u .fingerprint)) used
