@@ -1,0 +1,108 @@
+/* Prints the stack that each call of the service needs, at m = 1,024 and d = 256: each runs in a thread whose stack was filled with one byte. */
+#define _GNU_SOURCE
+#include <pthread.h>
+#include <stdio.h>
+#include <stdlib.h>
+#include <string.h>
+#include <sys/mman.h>
+#include "mindavehu.h"
+
+enum { B = 4096, P = 2048, M = 1024, D = 256, STACK = 1 << 20, PAINT = 0xA5 };
+
+static uint8_t state[MINDAVEHU_STATE], answer[MINDAVEHU_ANSWER], addresses[M * MINDAVEHU_ROW], blocks[D * MINDAVEHU_ROW], block[B];
+static uint8_t *disk, *flash;
+
+#define MEMORY disk, P *B, flash, D *B, addresses, sizeof addresses, blocks, sizeof blocks
+#define BLOCK block, B, answer, sizeof answer
+
+static void *nothing(void *unused) { return unused; }
+
+static void *opens(void *unused)
+{
+    mindavehu_open(state, sizeof state, MEMORY);
+    return unused;
+}
+
+/* More addresses and contents than the tables hold, so that rows and blocks are taken. */
+static void *writes_back(void *unused)
+{
+    for (unsigned k = 0; k < 1500; k++) {
+        memset(block, (int)(k % 251), B);
+        block[0] = (uint8_t)(k >> 8);
+        mindavehu_write_back(state, sizeof state, k, MEMORY, BLOCK);
+    }
+    return unused;
+}
+
+static void *writes_through(void *unused)
+{
+    for (unsigned k = 0; k < 800; k++) {
+        memset(block, (int)(k % 101), B);
+        mindavehu_write_through(state, sizeof state, k, MEMORY, BLOCK);
+    }
+    return unused;
+}
+
+static void *invalidates(void *unused)
+{
+    for (unsigned k = 0; k < 800; k++)
+        mindavehu_write_invalidate(state, sizeof state, k, MEMORY, BLOCK);
+    return unused;
+}
+
+static void *reads(void *unused)
+{
+    for (unsigned k = 0; k < 1500; k++)
+        mindavehu_read(state, sizeof state, k, MEMORY, BLOCK);
+    return unused;
+}
+
+static void *flushes(void *unused)
+{
+    mindavehu_flush(state, sizeof state, MEMORY, answer, sizeof answer);
+    return unused;
+}
+
+static void *looks(void *unused)
+{
+    mindavehu_look(state, sizeof state, 1200, MEMORY, answer, sizeof answer);
+    return unused;
+}
+
+/* The bytes of its stack that a thread changed. */
+static long used(void *(*call)(void *))
+{
+    uint8_t *stack = mmap(NULL, STACK, PROT_READ | PROT_WRITE, MAP_PRIVATE | MAP_ANONYMOUS, -1, 0);
+    pthread_attr_t attributes;
+    pthread_t thread;
+    long k = 0;
+    memset(stack, PAINT, STACK);
+    pthread_attr_init(&attributes);
+    pthread_attr_setstack(&attributes, stack, STACK);
+    if (pthread_create(&thread, &attributes, call, NULL))
+        exit(1);
+    pthread_join(thread, NULL);
+    while (k < STACK && stack[k] == PAINT)
+        k++;
+    munmap(stack, STACK);
+    return STACK - k;
+}
+
+int main(void)
+{
+    static const struct { const char *name; void *(*call)(void *); } calls[] = {
+        {"open", opens}, {"write back", writes_back}, {"read", reads}, {"flush", flushes},
+        {"look", looks}, {"write invalidate", invalidates}, {"write through", writes_through},
+    };
+    long none = used(nothing);
+    disk = calloc(P, B);
+    flash = calloc(D, B);
+    mindavehu_put(state, MINDAVEHU_B, B);
+    mindavehu_put(state, MINDAVEHU_P, P);
+    mindavehu_put(state, MINDAVEHU_M, M);
+    mindavehu_put(state, MINDAVEHU_D, D);
+    puts("Stack of each call, in bytes, less that of an empty thread:");
+    for (size_t k = 0; k < sizeof calls / sizeof *calls; k++)
+        printf("%-20s %8ld\n", calls[k].name, used(calls[k].call) - none);
+    return 0;
+}
