@@ -90,6 +90,11 @@ pub fn unopened(random: &mut Random, shape: Shape, contents: &Contents) -> Lent 
 /// A sound box, reachable or not: addresses without blocks beside blocks without addresses, dirty rows that share a block, slots in any
 /// order, a used fingerprint of zeros, fingerprints that are not those of the blocks in their slots, counters up to the largest.
 pub fn sound(random: &mut Random, shape: Shape) -> Lent {
+    sound_at(random, shape, None)
+}
+
+/// The same. With a place, most of its fingerprints differ in that byte alone (in the next as well where there are more than 256).
+pub fn sound_at(random: &mut Random, shape: Shape, place: Option<usize>) -> Lent {
     let Shape { b, p, m, d } = shape;
     let count = 1 + random.below(d + 3);
     let contents = Contents::new(random, b, count);
@@ -103,8 +108,8 @@ pub fn sound(random: &mut Random, shape: Shape) -> Lent {
     let base = fingerprints[0];
     // In some boxes all of them differ in one byte (two where there are many), often the first or the last, so that whoever compares or sorts
     // by other bytes only takes them for one.
-    let (style, somewhere) = (random.below(4), random.below(32));
-    let place = pick(random, &[0, 31, somewhere]);
+    let (style, somewhere) = (if place.is_some() { 0 } else { random.below(4) }, random.below(32));
+    let place = place.unwrap_or(pick(random, &[0, 31, somewhere]));
     while fingerprints.len() < d + 1 + random.below(m + 1) {
         let mut g = base;
         let [low, high] = (fingerprints.len() as u16).to_le_bytes();

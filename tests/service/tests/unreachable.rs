@@ -1,7 +1,7 @@
 //! Sound boxes that no list of calls need reach, served: every byte is the model's, for a few calls from each.
 use common::Random;
 use model::{fingerprint, read_tables, Call, Lent, CALLS};
-use service::boxes::{pick, sound, Shape};
+use service::boxes::{damage, pick, sound, sound_at, Damage, Shape};
 use service::compare::compare;
 use service::progress::{count, seed, Progress};
 use std::collections::HashSet;
@@ -38,16 +38,22 @@ impl Had {
 fn calls_on(random: &mut Random, shape: Shape, length: usize, had: &mut Had, seed: u64) -> usize {
     let mut lent = sound(random, shape);
     had.see(&lent);
+    calls_from(random, shape, &mut lent, length, seed)
+}
+
+fn calls_from(random: &mut Random, shape: Shape, lent: &mut Lent, length: usize, seed: u64) -> usize {
     for turn in 0..length {
         let call = match random.below(12) {
-            0..=3 => Call::Read,
-            4 | 5 => Call::Through,
-            6..=8 => Call::Back,
-            _ => CALLS[4 + random.below(3)],
+            0..=2 => Call::Read,
+            3 | 4 => Call::Through,
+            5..=7 => Call::Back,
+            8 | 9 => Call::Invalidate,
+            10 => Call::Flush,
+            _ => Call::Look,
         };
         let n = lent.numbers().n as usize;
         let address = match random.below(3) {
-            0 if n > 0 => read_tables(&lent).0[random.below(n)].address,
+            0 if n > 0 => read_tables(lent).0[random.below(n)].address,
             _ => random.below(shape.p) as u32,
         };
         let source = if random.below(2) == 0 { &lent.disk } else { &lent.flash };
@@ -56,7 +62,7 @@ fn calls_on(random: &mut Random, shape: Shape, length: usize, had: &mut Had, see
         if random.below(8) == 0 {
             lent.block[0] ^= 1;
         }
-        let number = compare(call, address, &mut lent, random.below(32), &|| format!("call {turn}, {shape:?}, seed {seed}"));
+        let number = compare(call, address, lent, random.below(32), &|| format!("call {turn}, {shape:?}, seed {seed}"));
         // 9 comes once a counter has passed its largest; the box is used on with other counters.
         assert!(number == 0 || number == 9);
         if number == 9 {
@@ -101,4 +107,30 @@ fn large_boxes() {
         progress.at(calls);
     }
     println!("{calls} calls on {boxes} large sound boxes agree with the model in every byte (seed {seed}, {:.1} s)", progress.seconds());
+}
+
+/// Fingerprints that differ in one byte alone, for each of the 32: they are told apart wherever they are compared.
+#[test]
+fn every_byte_of_a_fingerprint() {
+    let (seed, turns) = (seed(303), count(1_500));
+    let mut random = Random(seed);
+    let (mut calls, mut refused) = (0, 0);
+    let mut progress = Progress::new("every byte of a fingerprint", turns);
+    for turn in 0..turns {
+        for place in 0..32 {
+            let shape = Shape::below(&mut random, Shape { b: 64, p: 12, m: 8, d: 6 });
+            let mut lent = sound_at(&mut random, shape, Some(place));
+            // A dirty row whose fingerprint is nearly that of a block is refused still.
+            let mut bad = lent.clone();
+            if damage(&mut random, &mut bad, &mut 0, Damage::DirtyUncached) {
+                let call = CALLS[1 + random.below(6)];
+                assert_eq!(compare(call, 0, &mut bad, 0, &|| format!("byte {place}, turn {turn}, {shape:?}, seed {seed}")), 8);
+                refused += 1;
+            }
+            let length = 1 + random.below(6);
+            calls += calls_from(&mut random, shape, &mut lent, length, seed);
+        }
+        progress.at(turn);
+    }
+    println!("{calls} calls on sound boxes whose fingerprints differ in one byte, for each of the 32, agree with the model in every byte; {refused} such boxes are refused with 8 (seed {seed}, {:.1} s)", progress.seconds());
 }
