@@ -4,3 +4,5 @@ pub mod Fields
 pub mod Left
 -- what is written is what is read, and all that is changed
 pub mod FieldLaws
+-- a call reads what the call before it wrote
+pub mod Carried

@@ -1,0 +1,120 @@
+-- A call reads what the call before it wrote: the state's bytes carry the box record and the counters, so that the next call on
+-- the bytes is the paper's call on what the paper's last call left. Assumes nothing.
+use mathlib.Core.Path.{_≡_, refl, sym, ap, _∙_, subst}
+use mathlib.Core.Bool.{true}
+use mathlib.Core.List.{List}
+use Prim.Native.Nat.{ℕ, _+_, _^_, _<_, _≤_}
+use native.Mathlib.Omega.{arith}
+use lib.Dec.{eqb}
+use lib.ListN.{length, getD}
+use borrow.Author.Tests.{eq-eqb, eqb-true, eqb-false}
+use Rattle.paper.specs.KeyedLaws.{and-left, by-test}
+use Rattle.paper.specs.Cache.{Word, noCounts}
+use Rattle.paper.specs.Lent.{Numbers, Lent, Ask, Answer, refused, answered, After, calling, opening, refusal, call, served, lentOf, opened, fresh, unopened}
+use Rattle.paper.specs.RefusalLaws.{served-is, keeps, opened-is, refused-opening}
+use Rattle.paper.specs.CallLaws.{In64, served-finds, served-lent, outcome, outcome-sound, counters-stay}
+use Rattle.policy.specs.Contract.{numbersOf, countersOf, lent}
+use Rattle.service.specs.Fields.{get8, put8, recordIn, countersIn, putState, fitting}
+use Rattle.service.specs.FieldLaws.{get8-below, length-put8, get8-put8, get8-before, get8-after, length-putState, record-back, counters-back}
+use Rattle.service.specs.Left.{lentIn, Left, toldIn, leaves, freshRecord, openedIn, leavesOpen}
+
+-- the state has its length, the four numbers are as they were, and n, the buffers and the counters are the paper's
+pub record Carries (state disk flash addresses blocks : List ℕ) (N : Numbers) (t : Lent) : Type 0 where
+  pub long : length state ≡ 72
+  pub numbers : numbersOf (recordIn state) ≡ N
+  pub lent : lentIn state disk flash addresses blocks ≡ t
+
+module _ (s : List ℕ) (h : length s ≡ 72) where
+  -- what is written of n and the counters
+  written : (t : Lent) → t .n < 2 ^ 64 → In64 (t .counters) → Carries (putState (t .n) (t .counters) s) (t .disk) (t .flash) (t .addresses) (t .blocks) (numbersOf (recordIn s)) t
+  written t bn bk =
+      let r = record-back (t .n) (t .counters) s h bn in
+      let k = counters-back (t .n) (t .counters) s h (bk .reads) (bk .hits) (bk .flashWrites) (bk .primaryWrites) in
+      record {
+        long = length-putState (t .n) (t .counters) s h;
+        numbers = ap numbersOf r;
+        lent = λ i. record { n = r i .held; disk = t .disk; flash = t .flash; addresses = t .addresses; blocks = t .blocks; counters = k i };
+      }
+
+  -- what a served call leaves, and a refused one
+  module _ (l : List ℕ) (x : After) where
+    next-served : (w : Word) (f p : ℕ) → x .answer ≡ answered w f p → x .lent .n < 2 ^ 64 → In64 (x .lent .counters)
+        → Carries (toldIn s l x .state) (toldIn s l x .disk) (toldIn s l x .flash) (toldIn s l x .addresses) (toldIn s l x .blocks) (numbersOf (recordIn s)) (x .lent)
+    unfolding toldIn
+    next-served w f p e bn bk = rw e (written (x .lent) bn bk)
+
+    next-refused : (k : ℕ) (disk flash addresses blocks : List ℕ) → x .answer ≡ refused k → x .lent ≡ lentIn s disk flash addresses blocks
+        → Carries (toldIn s l x .state) (toldIn s l x .disk) (toldIn s l x .flash) (toldIn s l x .addresses) (toldIn s l x .blocks) (numbersOf (recordIn s)) (x .lent)
+    unfolding toldIn
+    next-refused k disk flash addresses blocks e el =
+        rw e (record { long = h; numbers = refl; lent = subst (λ (t : Lent). lentIn s (t .disk) (t .flash) (t .addresses) (t .blocks) ≡ t) (sym el) refl })
+
+-- counters of eight bytes each have 64 bits
+in64 : (s : List ℕ) → ((i : ℕ) → getD s i 0 < 256) → In64 (countersOf (countersIn s))
+in64 s b = record { reads = get8-below s 40 b; hits = get8-below s 48 b; flashWrites = get8-below s 56 b; primaryWrites = get8-below s 64 b }
+
+-- a served call holds at most m addresses
+held-below : (N : Numbers) (t : Lent) (q : Ask) → refusal N t (calling q) ≡ 0 → (call N t q) .lent .n < 2 ^ 64
+unfolding lentOf
+held-below N t q e =
+    let m = served-finds N t q e .fits .m-most in
+    let few = outcome-sound N t q e .few in
+    let n = ap (λ (x : Lent). x .n) (served-lent N t q e) in
+    omega arith
+
+-- the word of a served call
+served-word : (N : Numbers) (t : Lent) (q : Ask) → refusal N t (calling q) ≡ 0 → (call N t q) .answer ≡ answered (outcome N t q .word) (outcome N t q .flashWrites) (outcome N t q .primaryWrites)
+unfolding served
+served-word N t q e = ap (λ (x : After). x .answer) (served-is N t q e)
+
+module _ (q : Ask) (s disk flash addresses blocks l : List ℕ) (h : fitting s l ≡ true) (bytes : (i : ℕ) → getD s i 0 < 256) where
+  seventy-two : length s ≡ 72
+  unfolding fitting
+  seventy-two = eqb-true (length s) 72 (and-left (eqb (length s) 72) (eqb (length l) 24) h)
+
+  -- after a call the bytes carry what the paper's call left, served or refused
+  pub carried : (let z = leaves q s disk flash addresses blocks l in Carries (z .state) (z .disk) (z .flash) (z .addresses) (z .blocks) (numbersOf (recordIn s)) ((call (numbersOf (recordIn s)) (lentIn s disk flash addresses blocks) q) .lent))
+  unfolding leaves
+  carried =
+      let N = numbersOf (recordIn s) in
+      let t = lentIn s disk flash addresses blocks in
+      rw h
+      (by-test (eqb (refusal N t (calling q)) 0)
+      (λ y. let e = eqb-true (refusal N t (calling q)) 0 y in
+      next-served s seventy-two l (call N t q) _ _ _ (served-word N t q e) (held-below N t q e) (counters-stay N t q (in64 s bytes)))
+      (λ y. let k = keeps N t q (eqb-false (refusal N t (calling q)) 0 y) in
+      next-refused s seventy-two l (call N t q) _ disk flash addresses blocks (k .answer) (k .lent)))
+
+-- after an opening they carry the fresh box, or where it is refused what was given, with n = 0
+module _ (s disk flash addresses blocks : List ℕ) (h : length s ≡ 72) where
+  abbrev given : Lent
+  given = lent (freshRecord s) disk flash addresses blocks (countersOf (countersIn s))
+
+  -- n = 0 written alone
+  alone : Carries (put8 32 0 s) disk flash addresses blocks (numbersOf (recordIn s)) given
+  alone =
+      let room : 32 + 8 ≤ length s = omega arith in
+      let before : (i : ℕ) → i + 8 ≤ 32 → get8 (put8 32 0 s) i ≡ get8 s i = get8-before 32 0 s room in
+      let after : (i : ℕ) → 32 + 8 ≤ i → get8 (put8 32 0 s) i ≡ get8 s i = get8-after 32 0 s room in
+      record {
+        long = length-put8 32 0 s room ∙ h;
+        numbers = λ i. record { B = before 0 (omega arith) i; P = before 8 (omega arith) i; m = before 16 (omega arith) i; d = before 24 (omega arith) i };
+        lent = λ i. record {
+          n = get8-put8 32 0 s room (omega arith) i;
+          disk = disk;
+          flash = flash;
+          addresses = addresses;
+          blocks = blocks;
+          counters = record { reads = after 40 (omega arith) i; hits = after 48 (omega arith) i; flashWrites = after 56 (omega arith) i; primaryWrites = after 64 (omega arith) i };
+        };
+      }
+
+  pub carried-open : (let z = leavesOpen s disk flash addresses blocks in Carries (z .state) disk flash (z .addresses) (z .blocks) (numbersOf (recordIn s)) (opened (numbersOf (recordIn s)) given))
+  unfolding leavesOpen openedIn fresh unopened
+  carried-open =
+      let N = numbersOf (recordIn s) in
+      let bounds : In64 noCounts = record { reads = omega arith; hits = omega arith; flashWrites = omega arith; primaryWrites = omega arith } in
+      rw (eq-eqb (length s) 72 h)
+      (by-test (eqb (refusal N given opening) 0)
+      (λ y. rw (y, opened-is N given (eqb-true (refusal N given opening) 0 y)) (written s h (fresh N given) (omega arith) bounds))
+      (λ y. rw (y, refused-opening N given (eqb-false (refusal N given opening) 0 y)) alone))
