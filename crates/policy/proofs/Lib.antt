@@ -1,9 +1,2 @@
-pub mod Indexed
-pub mod Looped
-pub mod Asking
-pub mod Stepping
-pub mod Storing
-pub mod Whole
-pub mod Dropping
 pub mod Refusing
 pub mod Opening

@@ -15,7 +15,7 @@ use Rattle.paper.specs.Lent.{Numbers, Lent, Ask, opening, calling, between, unf
 use Rattle.paper.specs.LentLaws.{Lengths, right-lengths}
 use Rattle.paper.specs.RefusalLaws.{exactly-opening}
 use Rattle.paper.specs.CallLaws.{fits}
-use Rattle.policy.specs.declared.BoxRecord.{BoxRecord}
+use Rattle.step.specs.declared.BoxRecord.{BoxRecord}
 use Rattle.policy.specs.Contract.{numbersOf, lent}
 use Rattle.policy.specs.Checks.{sizes, wrongLengths, tablesRefusal, stateRefusal}
 

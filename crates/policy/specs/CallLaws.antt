@@ -19,12 +19,12 @@ use Rattle.paper.specs.LentLaws.{passes-sound, fit-whole}
 use Rattle.paper.specs.RefusalLaws.{exactly, served-is, refused-keeps}
 use Rattle.paper.specs.CallLaws.{Served, served-finds, outcome}
 use Rattle.paper.specs.Layout.{Addrs, Blocks, Parts, addressesOf, blocksOf, passes-addrs, passes-blocks, passes-flash, passes-disk}
-use Rattle.policy.specs.declared.BoxRecord.{BoxRecord}
+use Rattle.step.specs.declared.BoxRecord.{BoxRecord}
 use Rattle.policy.specs.declared.Word as CodeWord
 use Rattle.policy.specs.declared.Answer.the-variants.{Refused, Answered}
-use Rattle.policy.specs.Rep.{Rep}
-use Rattle.policy.specs.Steps.{Out4, out4, Sure}
-use Rattle.policy.specs.Calls.{Leaves, leaves, isYes, returned}
+use Rattle.step.specs.Rep.{Rep}
+use Rattle.step.specs.Steps.{Out4, out4, Sure}
+use Rattle.step.specs.Calls.{Leaves, leaves, isYes, returned}
 use Rattle.policy.specs.Contract.{numbersOf, countersOf, lent, wordOf, Told, told, called}
 
 -- bytes below 256, one by one

@@ -18,15 +18,15 @@ use Rattle.paper.specs.Index.{indexWhere, has-yes, find-yes}
 use Rattle.paper.specs.RowBytes.{Bytes}
 use Rattle.paper.specs.RefusalLaws.{served-is, keeps}
 use Rattle.paper.specs.CallLaws.{served-finds}
-use Rattle.policy.specs.declared.BoxRecord.{BoxRecord}
+use Rattle.step.specs.declared.BoxRecord.{BoxRecord}
 use Rattle.policy.specs.declared.look.Place.{Place}
 use Rattle.policy.specs.declared.look.Place.the-variants.{Refused, Flash, Disk}
-use Rattle.policy.specs.Rep.{Rep, noRow}
-use Rattle.policy.specs.Calls.{HitAt}
+use Rattle.step.specs.Rep.{Rep, noRow}
+use Rattle.step.specs.Calls.{HitAt}
 use Rattle.policy.specs.Contract.{numbersOf, lent}
 use Rattle.policy.specs.Look.{placeIn, whereIs, answerAt, partAt}
-use Rattle.policy.specs.CopyLaws.{part-block, parts-length, block-ends, slot-some, slotOf-below}
-use Rattle.policy.specs.ServeLaws.{hit-row, found-hit, found-miss}
+use Rattle.step.specs.CopyLaws.{part-block, parts-length, block-ends, slot-some, slotOf-below}
+use Rattle.step.specs.ServeLaws.{hit-row, found-hit, found-miss}
 use Rattle.policy.specs.CallLaws.{rep, address-fits}
 
 -- a look that is not refused

@@ -1,11 +1,11 @@
 // The calls: each takes any numbers, any slices and any counters.
 use crate::Answer;
-use crate::BoxRecord;
 use crate::Word;
 use crate::refusals;
-use crate::serve;
-use crate::serve::Served;
 use counters::Counters;
+use step::BoxRecord;
+use step::serve;
+use step::serve::Served;
 use tables::SourceAddress;
 ghost use mathlib.Core.Path.{_≡_};
 ghost use mathlib.Core.Bool.{Bool, cond};

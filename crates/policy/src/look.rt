@@ -1,9 +1,9 @@
 // Look: the answer, and the block itself as a part of the flash or of the disk. Nothing is moved or counted.
 use crate::Answer;
-use crate::BoxRecord;
 use crate::Word;
 use crate::refusals;
-use crate::rows;
+use step::BoxRecord;
+use step::rows;
 use tables::FlashSlot;
 use tables::SourceAddress;
 ghost use mathlib.Core.Path.{_≡_};

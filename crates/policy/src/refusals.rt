@@ -1,5 +1,5 @@
 // The refusals, in document 01's order.
-use crate::BoxRecord;
+use step::BoxRecord;
 use tables::SourceAddress;
 ghost use mathlib.Core.Path.{_≡_};
 ghost use Prim.Native.Nat.{_*_, _≤_};

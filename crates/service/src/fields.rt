@@ -1,12 +1,12 @@
 // Numbers in bytes: the fields of the state and of an answer.
 use counters::Counters;
 use policy::Answer;
-use policy::BoxRecord;
 use policy::Word;
 use policy::calls::Outcome;
 use policy::look::Place;
 use policy::open::Begun;
 use policy::open::Opening;
+use step::BoxRecord;
 ghost use mathlib.Core.Path.{_≡_};
 ghost use Prim.Native.Nat.{_+_, _*_, _≤_, _<_, _^_};
 ghost use lib.ListN.{length};

@@ -1,0 +1,7 @@
+pub mod Indexed
+pub mod Looped
+pub mod Asking
+pub mod Stepping
+pub mod Storing
+pub mod Whole
+pub mod Dropping

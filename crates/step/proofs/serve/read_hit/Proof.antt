@@ -1,0 +1,80 @@
+-- The block copied is that of the row's fingerprint; the step gives the rest. Assumes nothing.
+use mathlib.Core.Path.{_≡_, refl, sym, ap, _∙_}
+use mathlib.Core.Bool.{true}
+use mathlib.Core.Option.{some}
+use Prim.Native.Nat.{ℕ, _-_}
+use native.Mathlib.Omega.{arith}
+use lib.ListN.{length, getD}
+use Rattle.paper.specs.Cache.{hit, blockOf, step}
+use Rattle.paper.specs.Engine.{engine}
+use Rattle.paper.specs.Lent.{bit}
+use Rattle.step.specs.Rep.{noRow}
+use native.Mathlib.Nat.{zero-add}
+use Rattle.step.specs.Steps.{asks}
+use Rattle.step.specs.MoveLaws.{fp-part, dirty-is}
+use Rattle.step.specs.CopyLaws.{parts-length, block-ends, slot-some, slotOf-below}
+use Rattle.step.specs.ServeLaws.{answer-is, copied-block, hit-is}
+use borrow.Author.Needs.{needs}
+use Rattle.step.proofs.serve.read_hit.Statement.{statement}
+use Rattle.step.proofs.serve.read_hit.Tie as tie
+
+copy-block-requires : tie.Need-copy-block-requires
+copy-block-requires c κs =
+    let start = c .before .before .before .before .before .before .before .before .before .before .before .before .before in
+    let a = start .args in
+    let p = start .pre .0 in
+    let q = start .pre .1 in
+    (rw (parts-length (a .b .size) (a .b .slots) (a .flash .now) (q .0 .flash) (q .1 .flash-is)) (block-ends (c .before .before .slot-at .result .0) (a .b .slots) (a .b .size) (rw (slot-some (a .b .size) (a .b .slots) (a .blocks .now) (q .0 .free) (q .0 .used) (getD (q .0 .rows) (a .i) noRow .fingerprint) (q .1 .blocks-are) (a .j) (q .3 .place) (q .3 .is-cached) (c .before .before .slot-at .result .0) (c .before .before .slot-at .ensures)) (slotOf-below (a .b .size) (a .b .slots) (getD (q .0 .rows) (a .i) noRow .fingerprint) (q .0 .used) (p .1) (q .1 .blocks-are .used-below)))), omega (arith, p .5))
+
+step-requires : tie.Need-step-requires
+step-requires c κs =
+    let at-copy-block = c .before .before .before .before .before .before .before .before in
+    let at-dirty-at = at-copy-block .before .before .before .before .before in
+    let at-fp-at = at-dirty-at .before .before in
+    let start = at-fp-at .before .before .before .before .before .before .before in
+    let a = start .args in
+    let q = start .pre .1 in
+    let p = start .pre .0 in
+    let lb : length (at-copy-block .copy-block .last .1 .1 .0) ≡ a .b .size = at-copy-block .copy-block .kept .1 .1 .0 ∙ p .5 in
+    ((p .0, p .1, p .2, p .3, p .4, at-fp-at .fp-at .ensures .0, lb, p .6, p .7), (q .0, getD (q .0 .rows) (a .i) noRow .dirty, q .1, q .2, (at-dirty-at .dirty-at .ensures ∙ ap bit (dirty-is (a .b .blocks) (a .b .rows) (a .b .held) (a .addrs .now) (q .0 .rows) (q .1 .rows-are) (a .i) (start .pre .0 .8) noRow))))
+
+returns : tie.Need-returns
+returns c =
+    let at-step = c .before .before .before .before .before .before .before .before in
+    let at-copy-block = at-step .before .before .before .before .before .before .before .before .before in
+    let at-slot-at = at-copy-block .before .before .before in
+    let at-dirty-at = at-slot-at .before .before in
+    let at-fp-at = at-dirty-at .before .before in
+    let start = at-fp-at .before .before .before .before .before .before .before in
+    let a = start .args in
+    let p = start .pre .0 in
+    let w = at-step .step in (
+      (w .ensures .0 .0, omega (arith, w .ensures .0 .1)),
+      λ s lent h sd q.
+          let f = getD (s .rows) (a .i) noRow .fingerprint in
+          let x = blockOf (engine (a .b .size)) f (s .used) (s .flash) in
+          let k = (slot-some (a .b .size) (a .b .slots) (a .blocks .now) (s .free) (s .used) (getD (s .rows) (a .i) noRow .fingerprint) (h .blocks-are) (a .j) (q .place) (q .is-cached) (at-slot-at .slot-at .result .0) (at-slot-at .slot-at .ensures)) in
+          let ex = sym (at-copy-block .copy-block .ensures ∙ copied-block (a .b .size) (a .b .slots) (a .flash .now) (s .flash) (h .flash-is) (at-slot-at .slot-at .result .0) (engine (a .b .size) .blank) (rw (slot-some (a .b .size) (a .b .slots) (a .blocks .now) (s .free) (s .used) (getD (s .rows) (a .i) noRow .fingerprint) (h .blocks-are) (a .j) (q .place) (q .is-cached) (at-slot-at .slot-at .result .0) (at-slot-at .slot-at .ensures)) (slotOf-below (a .b .size) (a .b .slots) (getD (s .rows) (a .i) noRow .fingerprint) (s .used) (p .1) (h .blocks-are .used-below))) (a .block .now) (p .5) ∙ ap (λ (y : ℕ). getD (s .flash) y (engine (a .b .size) .blank) .0) k) in
+          let ef = sym (fp-part (a .b .blocks) (a .b .rows) (a .b .held) (a .addrs .now) (s .rows) (h .rows-are) (a .i) (p .8) noRow 32 refl) ∙ sym (at-fp-at .fp-at .ensures .1) in
+          answer-is (a .b) lent hit (some x) 0 (step (engine (a .b .size)) (a .b .rows) s (asks (a .a .0) f x (getD (s .rows) (a .i) noRow .dirty))) true (w .result .held) (w .result .flashed) (w .result .primary) (w .result .primary) _ _ _ _ _
+          (w .ensures .1 s f x (getD (s .rows) (a .i) noRow .dirty) h sd ef ex (at-dirty-at .dirty-at .ensures ∙ ap bit (dirty-is (a .b .blocks) (a .b .rows) (a .b .held) (a .addrs .now) (s .rows) (h .rows-are) (a .i) (start .pre .0 .8) noRow))) refl (sym (zero-add (w .result .primary))) (sym ex)
+          ∙ hit-is (a .b) (a .disk .now) (a .flash .now) (a .addrs .now) (a .blocks .now) s h (a .a .0) lent (a .i) (a .j) q,
+    )
+
+pub read-hit-spec : {M : Type 1} → statement M
+read-hit-spec =
+    tie.close
+    (tie.spec
+    (λ c κs. search needs)
+    (λ c κs. search needs)
+    (λ c κs. search needs)
+    (λ c. search needs)
+    copy-block-requires
+    (λ c. search needs)
+    step-requires
+    (λ c. search needs)
+    (λ c. search needs)
+    (λ c. search needs)
+    (λ c. search needs)
+    (λ c. search needs)
+    returns)

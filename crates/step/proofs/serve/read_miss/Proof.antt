@@ -1,0 +1,68 @@
+-- The block copied is that of the disk; the step gives the rest. Assumes nothing.
+use mathlib.Core.Path.{refl, sym, ap, _∙_}
+use mathlib.Core.Bool.{false}
+use mathlib.Core.Option.{some}
+use Prim.Native.Nat.{_-_}
+use native.Mathlib.Omega.{arith}
+use lib.ListN.{getD}
+use Rattle.paper.specs.Cache.{miss, step}
+use Rattle.paper.specs.Engine.{engine}
+use native.Mathlib.Nat.{zero-add}
+use Rattle.hash.specs.Sha256.{sha256}
+use Rattle.step.specs.Steps.{asks}
+use Rattle.step.specs.CopyLaws.{parts-length, block-ends}
+use Rattle.step.specs.ServeLaws.{answer-is, copied-block, miss-is}
+use borrow.Author.Needs.{needs}
+use Rattle.step.proofs.serve.read_miss.Statement.{statement}
+use Rattle.step.proofs.serve.read_miss.Tie as tie
+
+copy-block-requires : tie.Need-copy-block-requires
+copy-block-requires c κs =
+    let start = c .before .before .before .before .before .before .before in
+    let a = start .args in
+    let p = start .pre .0 in
+    let q = start .pre .1 in
+    (rw (parts-length (a .b .size) (a .b .blocks) (a .disk .now) (q .0 .disk) (q .1 .disk-is)) (block-ends (a .a .0) (a .b .blocks) (a .b .size) (p .6)), omega (arith, p .5))
+
+step-requires : tie.Need-step-requires
+step-requires c κs =
+    let start = c .before .before .before .before .before .before .before .before .before .before .before .before .before .before .before .before .before .before in
+    let a = start .args in
+    let q = start .pre .1 in
+    (search needs, (q .0, false, q .1, q .2, refl))
+
+returns : tie.Need-returns
+returns c =
+    let at-step = c .before .before .before .before .before .before .before .before in
+    let at-sha256 = at-step .before .before .before .before .before .before .before in
+    let at-copy-block = at-sha256 .before .before .before .before in
+    let start = at-copy-block .before .before .before .before .before .before .before .before in
+    let a = start .args in
+    let p = start .pre .0 in
+    let w = at-step .step in (
+      (w .ensures .0 .0, omega (arith, w .ensures .0 .1)),
+      λ s lent h sd q.
+          let x = getD (s .disk) (a .a .0) (engine (a .b .size) .blank) in
+          let f = engine (a .b .size) .hash x in
+          let ex = sym (at-copy-block .copy-block .ensures ∙ copied-block (a .b .size) (a .b .blocks) (a .disk .now) (s .disk) (h .disk-is) (a .a .0) (engine (a .b .size) .blank) (p .6) (a .block .now) (p .5)) in
+          let ef = ap sha256 ex ∙ sym (at-sha256 .sha256 .ensures) in
+          answer-is (a .b) lent miss (some x) 0 (step (engine (a .b .size)) (a .b .rows) s (asks (a .a .0) f x false)) false (w .result .held) (w .result .flashed) (w .result .primary) (w .result .primary) _ _ _ _ _
+          (w .ensures .1 s f x false h sd ef ex refl) refl (sym (zero-add (w .result .primary))) (sym ex)
+          ∙ miss-is (a .b) (a .disk .now) (a .flash .now) (a .addrs .now) (a .blocks .now) s h (a .a .0) lent q,
+    )
+
+pub read-miss-spec : {M : Type 1} → statement M
+read-miss-spec =
+    tie.close
+    (tie.spec
+    (λ c. search needs)
+    copy-block-requires
+    (λ c κs. search needs)
+    (λ c. search needs)
+    step-requires
+    (λ c. search needs)
+    (λ c. search needs)
+    (λ c. search needs)
+    (λ c. search needs)
+    (λ c. search needs)
+    returns)

@@ -1,0 +1,54 @@
+-- The step gives all but the word, which the place found first gives. Assumes nothing.
+use Rattle.hash.specs.Sha256.{sha256}
+use mathlib.Core.Path.{refl, sym, ap, _∙_}
+use mathlib.Core.Bool.{true, cond}
+use mathlib.Core.Option.{none}
+use Prim.Native.Nat.{_-_}
+use native.Mathlib.Omega.{arith}
+use Rattle.paper.specs.Cache.{cached, sameBlock, newBlock, step}
+use Rattle.paper.specs.Engine.{engine}
+use native.Mathlib.Nat.{zero-add}
+use Rattle.step.specs.Steps.{asks}
+use Rattle.step.specs.ServeLaws.{yes-is, answer-is, back-is}
+use borrow.Author.Needs.{needs}
+use Rattle.step.proofs.serve.serve_back.Statement.{statement}
+use Rattle.step.proofs.serve.serve_back.Tie as tie
+
+step-requires : tie.Need-step-requires
+step-requires c κs =
+    let start = c .before .before .before .before .before .before .before .before .before .before .before .before .before .before in
+    let q = start .pre .1 in
+    (search needs, (q .0, true, q .1, q .2, refl))
+
+returns : tie.Need-returns
+returns c =
+    let at-step = c .before .before .before .before .before .before .before .before .before in
+    let at-place-of = at-step .before .before .before .before .before .before in
+    let at-sha256 = at-place-of .before .before .before in
+    let start = at-sha256 .before .before .before .before .before .before in
+    let a = start .args in
+    let p = at-place-of .place-of in
+    let w = at-step .step in (
+      (w .ensures .0 .0, omega (arith, w .ensures .0 .1)),
+      λ s x h sd ex.
+          let f = engine (a .b .size) .hash x in
+          let ef = ap sha256 ex ∙ sym (at-sha256 .sha256 .ensures) in
+          answer-is (a .b) (a .block .now) (cond (cached (engine (a .b .size)) f (s .used)) sameBlock newBlock) none 0 (step (engine (a .b .size)) (a .b .rows) s (asks (a .a .0) f x true)) _ (w .result .held) (w .result .flashed) (w .result .primary) (w .result .primary) _ _ _ _ (a .block .now)
+          (w .ensures .1 s f x true h sd ef ex refl) (yes-is (a .b .size) (a .b .slots) (a .blocks .now) (s .free) (s .used) (h .blocks-are) f (p .result) (p .ensures (s .free) (s .used) f (h .blocks-are) ef)) (sym (zero-add (w .result .primary))) refl
+          ∙ back-is (a .b) (a .block .now) s (a .a .0) x,
+    )
+
+pub serve-back-spec : {M : Type 1} → statement M
+serve-back-spec =
+    tie.close
+    (tie.spec
+    (λ c κs. search needs)
+    (λ c. search needs)
+    (λ c κs. search needs)
+    (λ c. search needs)
+    step-requires
+    (λ c. search needs)
+    (λ c. search needs)
+    (λ c. search needs)
+    (λ c. search needs)
+    returns)

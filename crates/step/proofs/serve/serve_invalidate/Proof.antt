@@ -1,0 +1,56 @@
+-- The copy gives the disk, `drop_row` both tables, and the place found first the word. Assumes nothing.
+use mathlib.Core.Path.{sym, ap, _∙_}
+use mathlib.Core.List.{List}
+use Prim.Native.Nat.{ℕ, _*_}
+use native.Mathlib.Omega.{arith}
+use borrow.Author.Needs.{needs}
+use Rattle.hash.specs.Sha256.{sha256}
+use Rattle.block.specs.Blocks.{splice}
+use Rattle.paper.specs.Engine.{engine}
+use Rattle.step.specs.CopyLaws.{block-ends}
+use Rattle.step.specs.ServeLaws.{yes-is, invalidate-is, part-all}
+use Rattle.step.proofs.serve.serve_invalidate.Statement.{statement}
+use Rattle.step.proofs.serve.serve_invalidate.Tie as tie
+
+copy-block-requires : tie.Need-copy-block-requires
+copy-block-requires c κs =
+    let s = c .before .before .before .before .before .before .before .before .before .before .before in
+    let a = s .args in
+    let p = s .pre .0 in
+    (omega (arith, p .5), rw (p .8) (block-ends (a .a .0) (a .b .blocks) (a .b .size) (p .6)))
+
+returns : tie.Need-returns
+returns c =
+    let w = c .before .before .before .before .before in
+    let k = w .before .before .before .before .before in
+    let i = k .before .before in
+    let j = i .before .before in
+    let g = j .before .before .before in
+    let s = g .before .before .before .before .before in
+    let a = s .args in
+    let p = s .pre .0 in (
+      (omega arith, omega arith),
+      λ t flash x h sd ex.
+          let f = engine (a .b .size) .hash x in
+          let ef = ap sha256 ex ∙ sym (g .sha256 .ensures) in
+          invalidate-is (a .b) (a .block .now) (a .disk .now) flash (a .addrs .now) (a .blocks .now) t h (a .a .0) (p .6) x _ (w .drop-row .result) _ _ _
+          (yes-is (a .b .size) (a .b .slots) (a .blocks .now) (t .free) (t .used) (h .blocks-are) f (j .place-of .result) (j .place-of .ensures (t .free) (t .used) f (h .blocks-are) ef))
+          (k .copy-block .ensures ∙ ap (λ (y : List ℕ). splice (a .a .0 * a .b .size) y (a .disk .now)) (part-all (a .b .size) (a .block .now) (p .5) ∙ sym ex))
+          (w .drop-row .ensures (a .b .size) (a .a .0) (t .rows) (t .free) (t .used) (h .rows-are) (h .blocks-are) (sd .addresses) (sd .fingerprints) (i .row-of .ensures (a .b .blocks) (a .b .rows) (t .rows) (h .rows-are))),
+    )
+
+pub serve-invalidate-spec : {M : Type 1} → statement M
+serve-invalidate-spec =
+    tie.close
+    (tie.spec
+    (λ c κs. search needs)
+    (λ c. search needs)
+    (λ c κs. search needs)
+    (λ c κs. search needs)
+    (λ c. search needs)
+    copy-block-requires
+    (λ c κs. search needs)
+    (λ c. search needs)
+    (λ c. search needs)
+    (λ c. search needs)
+    returns)

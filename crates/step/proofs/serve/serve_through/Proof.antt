@@ -1,0 +1,81 @@
+-- The copy leaves the paper box with the block on its disk; the step on that gives the rest. Assumes nothing.
+use mathlib.Core.Path.{refl, sym, ap, _∙_}
+use mathlib.Core.Bool.{false, cond}
+use mathlib.Core.List.{List}
+use mathlib.Core.Option.{none}
+use Prim.Native.Nat.{ℕ, _+_, _*_, _-_}
+use native.Mathlib.Omega.{arith}
+use Rattle.paper.specs.Cache.{onDisk, cached, sameBlock, newBlock, step}
+use Rattle.paper.specs.Engine.{Fixed, engine}
+use Rattle.block.specs.Blocks.{splice}
+use Rattle.paper.specs.Sound.{sound-onDisk}
+use Rattle.step.specs.Steps.{asks}
+use Rattle.step.specs.CopyLaws.{block-ends}
+use Rattle.step.specs.ServeLaws.{yes-is, answer-is, through-is, rep-onDisk, part-all}
+use Rattle.hash.specs.Sha256.{sha256}
+use borrow.Author.Needs.{needs}
+use Rattle.step.proofs.serve.serve_through.Statement.{statement}
+use Rattle.step.proofs.serve.serve_through.Tie as tie
+
+copy-block-requires : tie.Need-copy-block-requires
+copy-block-requires c κs =
+    let start = c .before .before .before .before .before .before .before .before .before .before in
+    let a = start .args in
+    let p = start .pre .0 in
+    (omega (arith, p .5), rw (p .8) (block-ends (a .a .0) (a .b .blocks) (a .b .size) (p .6)))
+
+step-requires : tie.Need-step-requires
+step-requires c κs = (
+  search needs,
+  let at-copy-block = c .before .before .before .before .before .before .before in
+      let start = at-copy-block .before .before .before .before .before .before .before .before .before .before .before in
+      let a = start .args in
+      let q = start .pre .1 in
+      let x : Fixed (a .b .size) = (a .block .now, start .pre .0 .5) in
+      (onDisk (engine (a .b .size)) (q .0) (a .a .0) x, false, rep-onDisk (a .b) (a .disk .now) (a .flash .now) (a .addrs .now) (a .blocks .now) (q .0) (q .1) (a .a .0) (start .pre .0 .6) x _ (at-copy-block .copy-block .ensures ∙ ap (λ (y : List ℕ). splice (a .a .0 * a .b .size) y (a .disk .now)) (part-all (a .b .size) (a .block .now) (start .pre .0 .5) ∙ refl)), sound-onDisk (engine (a .b .size)) (a .b .rows) (a .b .slots) (a .b .blocks) (q .0) (a .a .0) x (q .2), refl),
+)
+
+add-t20 : tie.Need-add-t20
+add-t20 c =
+    let at-step = c .before .before .before .before .before .before .before .before .before .before in
+    let start = at-step .before .before .before .before .before .before .before .before .before .before .before .before .before .before .before .before .before .before .before in
+    omega (arith, at-step .step .ensures .0 .1, start .pre .0 .7)
+
+returns : tie.Need-returns
+returns c =
+    let at-step = c .before .before .before .before .before .before .before .before .before .before in
+    let at-copy-block = at-step .before .before .before .before .before .before .before .before in
+    let at-place-of = at-copy-block .before .before in
+    let at-sha256 = at-place-of .before .before .before in
+    let start = at-sha256 .before .before .before .before .before .before in
+    let a = start .args in
+    let p = at-place-of .place-of in
+    let w = at-step .step in (
+      (w .ensures .0 .0, omega (arith, w .ensures .0 .1)),
+      λ s x h sd ex.
+          let f = engine (a .b .size) .hash x in
+          let ef = ap sha256 ex ∙ sym (at-sha256 .sha256 .ensures) in
+          let t = onDisk (engine (a .b .size)) s (a .a .0) x in
+          answer-is (a .b) (a .block .now) (cond (cached (engine (a .b .size)) f (s .used)) sameBlock newBlock) none 1 (step (engine (a .b .size)) (a .b .rows) t (asks (a .a .0) f x false)) _ (w .result .held) (w .result .flashed) (w .result .primary) (1 + w .result .primary) _ _ _ _ (a .block .now)
+          (w .ensures .1 t f x false (rep-onDisk (a .b) (a .disk .now) (a .flash .now) (a .addrs .now) (a .blocks .now) s h (a .a .0) (start .pre .0 .6) x _ (at-copy-block .copy-block .ensures ∙ ap (λ (y : List ℕ). splice (a .a .0 * a .b .size) y (a .disk .now)) (part-all (a .b .size) (a .block .now) (start .pre .0 .5) ∙ sym ex))) (sound-onDisk (engine (a .b .size)) (a .b .rows) (a .b .slots) (a .b .blocks) s (a .a .0) x sd) ef ex refl)
+          (yes-is (a .b .size) (a .b .slots) (a .blocks .now) (s .free) (s .used) (h .blocks-are) f (p .result) (p .ensures (s .free) (s .used) f (h .blocks-are) ef)) refl refl
+          ∙ through-is (a .b) (a .block .now) s (a .a .0) x,
+    )
+
+pub serve-through-spec : {M : Type 1} → statement M
+serve-through-spec =
+    tie.close
+    (tie.spec
+    (λ c κs. search needs)
+    (λ c. search needs)
+    (λ c κs. search needs)
+    (λ c. search needs)
+    copy-block-requires
+    (λ c. search needs)
+    step-requires
+    add-t20
+    (λ c. search needs)
+    (λ c. search needs)
+    (λ c. search needs)
+    (λ c. search needs)
+    returns)

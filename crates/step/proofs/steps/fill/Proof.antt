@@ -1,0 +1,26 @@
+-- The block goes to its part of the flash, the fingerprint to its row. Assumes nothing.
+use mathlib.Core.Path.{sym, ap, _∙_}
+use mathlib.Core.List.{List, [], _∷_, _++_}
+use Prim.Native.Nat.{ℕ, _+_, _*_, _-_}
+use lib.ListN.{getD}
+use Rattle.block.specs.Blocks.{splice}
+use Rattle.tables.specs.Rows.{rows, flat, removeAt, filled}
+use Rattle.step.specs.CopyLaws.{put-block-is}
+use Rattle.step.proofs.Stepping.{filled-at}
+use borrow.Author.Needs.{needs}
+use Rattle.step.proofs.steps.fill.Statement.{statement}
+use Rattle.step.proofs.steps.fill.Tie as tie
+
+returns : tie.Need-returns
+returns c =
+    let at-put = c .before .before .before .before .before .before in
+    let start = at-put .before .before .before .before .before .before .before in
+    let a = start .args in
+    λ free used fl f x hb hf p kb e ef ex. (
+      at-put .put .ensures ∙ ap (λ (y : List ℕ). splice (a .k * a .b .size) y (a .flash .now)) (sym ex) ∙ put-block-is (a .b .size) (a .b .slots) (a .flash .now) fl hf (a .k) kb x,
+      c .before .before .put-block .ensures ∙ ap (λ (y : List ℕ). flat (removeAt (rows (a .b .slots) (a .blocks .now)) (a .t) ++ (filled y (getD (rows (a .b .slots) (a .blocks .now)) (a .t) []) ∷ []))) (sym ef) ∙ filled-at (a .b .slots) (a .blocks .now) free used (a .t) (a .k) f hb p e,
+    )
+
+pub fill-spec : {M : Type 1} → statement M
+fill-spec =
+    tie.close (tie.spec (λ c. search needs) (λ c κs. search needs) (λ c κs. search needs) (λ c. search needs) (λ c. search needs) returns)

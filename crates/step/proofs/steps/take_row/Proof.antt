@@ -1,0 +1,35 @@
+-- The place and the rows left, each by a law of the tables. Assumes nothing.
+use mathlib.Core.Path.{sym, _∙_}
+use Prim.Native.Nat.{_+_, _*_, _-_}
+use native.Mathlib.Omega.{arith}
+use lib.ListN.{getD}
+use Rattle.step.specs.Rep.{noRow}
+use Rattle.step.specs.MoveLaws.{fp-part, removed}
+use borrow.Author.Needs.{needs}
+use Rattle.step.proofs.steps.take_row.Statement.{statement}
+use Rattle.step.proofs.steps.take_row.Tie as tie
+
+returns : tie.Need-returns
+returns c =
+    let at-place-of = c .before .before .before .before in
+    let start = at-place-of .before .before .before .before .before in
+    let a = start .args in
+    λ l free used h hb. (
+      at-place-of .place-of .ensures free used (getD l (a .i) noRow .fingerprint) hb (sym (fp-part (a .b .blocks) (a .b .rows) (a .b .held) (a .addrs .now) l h (a .i) (start .pre .0) noRow (a .i * 40 + 4 + 32 - (a .i * 40 + 4)) (omega arith))),
+      c .before .before .remove-row .ensures ∙ removed (a .b .blocks) (a .b .rows) (a .b .held) (a .addrs .now) l h (a .i) (start .pre .0),
+    )
+
+pub take-row-spec : {M : Type 1} → statement M
+take-row-spec =
+    tie.close
+    (tie.spec
+    (λ c. search needs)
+    (λ c. search needs)
+    (λ c. search needs)
+    (λ c. search needs)
+    (λ c. search needs)
+    (λ c. search needs)
+    (λ c κs. search needs)
+    (λ c κs. search needs)
+    (λ c. search needs)
+    returns)

@@ -1,0 +1,147 @@
+-- The calls, from their steps. Assumes nothing.
+use mathlib.Core.Path.{_≡_, refl, sym, ap, ap₂, _∙_}
+use mathlib.Core.Bool.{Bool, true, false, cond}
+use mathlib.Core.List.{List, [], _++_, append-nil}
+use mathlib.Core.Option.{Option, none, some}
+use Prim.Native.Nat.{ℕ, _≤_, _<_, _+_, _*_, _-_}
+use native.Mathlib.Omega.{arith}
+use lib.Dec.{eqb, ltb}
+use lib.ListN.{length, getD, take, drop, drop-of-length-le, length-set}
+use lib.Seq.{take-all}
+use borrow.Author.Tests.{ltb-true, ltb-false}
+use Rattle.block.specs.Blocks.{part, splice}
+use Rattle.step.specs.declared.BoxRecord.{BoxRecord}
+use Rattle.paper.specs.KeyedLaws.{by-test}
+use Rattle.paper.specs.Cache.{AddressRow, BlockRow, Box, Call, Word, sameBlock, newBlock, Stepped, answer, cached, serve, writeBack, writeThrough, writeInvalidate, flushed, onDisk, withoutAddress, dropped, cleaned, copied, copies, step, hit, miss, readAs, rowWithBlock, rowOf, ifCached, blockOf}
+use Rattle.paper.specs.Sound.{length-cleaned}
+use Rattle.paper.specs.Engine.{Fixed, engine}
+use Rattle.paper.specs.Lent.{join}
+use Rattle.paper.specs.Index.{indexWhere, has-yes, has-no, find-yes, find-no}
+use Rattle.block.specs.Laws.{splice-whole}
+use Rattle.step.specs.Rep.{noRow, Rep, Copied, copiedRows, partBox}
+use Rattle.paper.specs.Layout.{Blocks, Parts, addressesOf}
+use Rattle.step.specs.Steps.{out4, After, after, asks, blockBytes}
+use Rattle.step.specs.Calls.{isYes, returned, Leaves, leaves, HitAt}
+use Rattle.step.specs.CopyLaws.{put-block-is, part-block}
+
+-- "same" where the fingerprint has a place
+pub yes-is : (B d : ℕ) (t : List ℕ) (free : List ℕ) (used : List (BlockRow (Fixed 32))) → Blocks d t free used → (f : Fixed 32) (j : ℕ) → j ≡ length free + indexWhere (λ u. engine 0 .same f (u .fingerprint)) used
+    → ltb j d ≡ isYes (cond (cached (engine B) f used) sameBlock newBlock)
+yes-is B d t free used h f j e =
+    by-test (ltb j d)
+    (λ y. let l = ltb-true j d y in let c : cached (engine B) f used ≡ true = has-yes (engine 0 .same) (λ (u : BlockRow (Fixed 32)). u .fingerprint) f used (omega (arith, e, l, h .count)) in y ∙ rw c refl)
+    (λ y. let l = ltb-false j d y in let c : cached (engine B) f used ≡ false = has-no (engine 0 .same) (λ (u : BlockRow (Fixed 32)). u .fingerprint) f used (omega (arith, e, l, h .count)) in y ∙ rw c refl)
+
+pub answer-is : (b : BoxRecord) (lent : List ℕ) (w : Word) (o : Option (Fixed (b .size))) (more : ℕ) (t : Stepped (Fixed 32) (Fixed (b .size))) (yes : Bool) (held flashed p q : ℕ) (disk flash addrs blocks block : List ℕ)
+    → _≡_ {A = After} (record { held = held; left = (record { flashed = flashed; primary = p; disk = disk; flash = flash; addrs = addrs; blocks = blocks }) }) (after b t) → yes ≡ isYes w → q ≡ more + p → block ≡ returned o lent
+    → _≡_ {A = Leaves} (record { yes = yes; held = held; left = (record { flashed = flashed; primary = q; disk = disk; flash = flash; addrs = addrs; blocks = blocks }); block = block }) (leaves b lent (answer (engine (b .size)) w o more t))
+unfolding leaves answer after out4
+answer-is b lent w o more t y0 held flashed p q disk flash addrs blocks block e ey eq eb =
+    λ j. record {
+      yes = ey j;
+      held = ap (λ (y : After). y .held) e j;
+      left = (record {
+        flashed = ap (λ (y : After). y .left .flashed) e j;
+        primary = (eq ∙ ap (λ (y : After). more + y .left .primary) e) j;
+        disk = ap (λ (y : After). y .left .disk) e j;
+        flash = ap (λ (y : After). y .left .flash) e j;
+        addrs = ap (λ (y : After). y .left .addrs) e j;
+        blocks = ap (λ (y : After). y .left .blocks) e j;
+      });
+      block = eb j;
+    }
+
+pub back-is : (b : BoxRecord) (lent : List ℕ) (s : Box (Fixed 32) (Fixed (b .size))) (a : ℕ) (x : Fixed (b .size)) → leaves b lent (answer (engine (b .size)) (cond (cached (engine (b .size)) (engine (b .size) .hash x) (s .used)) sameBlock newBlock) none 0 (step (engine (b .size)) (b .rows) s (asks a (engine (b .size) .hash x) x true)))
+    ≡ leaves b lent (serve (engine (b .size)) (b .rows) s (Call.back a x))
+unfolding serve writeBack
+back-is b lent s a x = refl
+
+pub through-is : (b : BoxRecord) (lent : List ℕ) (s : Box (Fixed 32) (Fixed (b .size))) (a : ℕ) (x : Fixed (b .size)) → leaves b lent (answer (engine (b .size)) (cond (cached (engine (b .size)) (engine (b .size) .hash x) (s .used)) sameBlock newBlock) none 1 (step (engine (b .size)) (b .rows) (onDisk (engine (b .size)) s a x) (asks a (engine (b .size) .hash x) x false)))
+    ≡ leaves b lent (serve (engine (b .size)) (b .rows) s (Call.through a x))
+unfolding serve writeThrough
+through-is b lent s a x = refl
+
+-- the disk with the block on it
+pub rep-onDisk : (b : BoxRecord) (disk flash addrs blocks : List ℕ) (s : Box (Fixed 32) (Fixed (b .size))) → Rep b disk flash addrs blocks s → (a : ℕ) → a < b .blocks → (x : Fixed (b .size)) (disk′ : List ℕ) → disk′ ≡ splice (a * b .size) (x .0) disk
+    → Rep b disk′ flash addrs blocks (onDisk (engine (b .size)) s a x)
+rep-onDisk b disk flash addrs blocks s h a l x disk′ e =
+    record { rows-are = h .rows-are; blocks-are = h .blocks-are; flash-is = h .flash-is; disk-is = record { count = length-set (s .disk) a x ∙ h .disk-is .count; is = e ∙ put-block-is (b .size) (b .blocks) disk (s .disk) (h .disk-is) a l x } }
+
+-- all of a block
+pub part-all : (n : ℕ) (l : List ℕ) → length l ≡ n → part (0 * n) n l ≡ l
+unfolding part
+part-all n l e = let z : 0 * n ≡ 0 = omega arith in rw z (take-all n l (omega arith))
+
+pub flush-is : (b : BoxRecord) (lent disk flash addrs blocks : List ℕ) (s : Box (Fixed 32) (Fixed (b .size))) → Rep b disk flash addrs blocks s → (count : ℕ) (disk′ addrs′ : List ℕ) → _≡_ {A = Copied} (record { count = count; disk = disk′; addrs = addrs′ }) (copiedRows b (λ f. true) s (b .held))
+    → _≡_ {A = Leaves} (record { yes = true; held = b .held; left = (record { flashed = 0; primary = count; disk = disk′; flash = flash; addrs = addrs′; blocks = blocks }); block = lent }) (leaves b lent (serve (engine (b .size)) (b .rows) s Call.flush))
+unfolding leaves serve flushed out4 copiedRows partBox
+flush-is b lent disk flash addrs blocks s h count disk′ addrs′ e =
+    let lr : length (s .rows) ≤ b .held = omega (arith, h .rows-are .count) in
+    let all : take (b .held) (s .rows) ≡ s .rows = take-all (b .held) (s .rows) lr in
+    let nil : drop (b .held) (s .rows) ≡ [] = drop-of-length-le (s .rows) lr in
+    let n : b .held ≡ length (cleaned (engine (b .size)) (λ f. true) (s .rows)) = sym (h .rows-are .count) ∙ sym (length-cleaned (engine (b .size)) (λ f. true) (s .rows)) in
+    let e1 : count ≡ copies (engine (b .size)) (λ f. true) (s .rows) = ap (λ (y : Copied). y .count) e ∙ ap (copies (engine (b .size)) (λ f. true)) all in
+    let e2 : disk′ ≡ join (copied (engine (b .size)) (λ f. true) (s .rows) (s .used) (s .flash) (s .disk)) = ap (λ (y : Copied). y .disk) e ∙ ap (λ (y : List (AddressRow (Fixed 32))). join (copied (engine (b .size)) (λ f. true) y (s .used) (s .flash) (s .disk))) all in
+    let e3 : addrs′ ≡ addressesOf (b .rows) (cleaned (engine (b .size)) (λ f. true) (s .rows)) = ap (λ (y : Copied). y .addrs) e ∙ ap₂ {C = List ℕ} (λ y z. addressesOf (b .rows) (cleaned (engine (b .size)) (λ f. true) y ++ z)) all nil ∙ ap (addressesOf (b .rows)) (append-nil (cleaned (engine (b .size)) (λ f. true) (s .rows))) in
+    λ j. record { yes = true; held = n j; left = (record { flashed = 0; primary = e1 j; disk = e2 j; flash = h .flash-is .is j; addrs = e3 j; blocks = h .blocks-are .is j }); block = lent }
+
+-- invalidate
+pub invalidate-is : (b : BoxRecord) (lent disk flash addrs blocks : List ℕ) (s : Box (Fixed 32) (Fixed (b .size))) → Rep b disk flash addrs blocks s → (a : ℕ) → a < b .blocks → (x : Fixed (b .size)) (yes : Bool) (held : ℕ) (disk′ addrs′ blocks′ : List ℕ)
+    → yes ≡ isYes (cond (cached (engine (b .size)) (engine (b .size) .hash x) (s .used)) sameBlock newBlock) → disk′ ≡ splice (a * b .size) (x .0) disk
+    → (held ≡ length (withoutAddress a (s .rows))) × (addrs′ ≡ addressesOf (b .rows) (withoutAddress a (s .rows))) × (blocks′ ≡ blockBytes (dropped (engine (b .size)) (withoutAddress a (s .rows)) (record { free = s .free; used = s .used }) (rowOf a (s .rows))))
+    → _≡_ {A = Leaves} (record { yes = yes; held = held; left = (record { flashed = 0; primary = 1; disk = disk′; flash = flash; addrs = addrs′; blocks = blocks′ }); block = lent }) (leaves b lent (serve (engine (b .size)) (b .rows) s (Call.invalidate a x)))
+unfolding leaves serve writeInvalidate out4
+invalidate-is b lent disk flash addrs blocks s h a l x y0 n disk′ addrs′ blocks′ ey ed q =
+    let d = rep-onDisk b disk flash addrs blocks s h a l x disk′ ed in
+    λ j. record { yes = ey j; held = q .0 j; left = (record { flashed = 0; primary = 1; disk = d .disk-is .is j; flash = h .flash-is .is j; addrs = q .1 j; blocks = q .2 j }); block = lent }
+
+-- ---- read
+pub copied-block : (B d : ℕ) (flash : List ℕ) (fl : List (Fixed B)) → Parts B d flash fl → (k : ℕ) (z : Fixed B) → k < d → (block : List ℕ) → length block ≡ B → splice (0 * B) (part (k * B) B flash) block ≡ (getD fl k z) .0
+copied-block B d flash fl h k z b block e =
+    let p = part-block B d flash fl h k z b in
+    let o : 0 * B ≡ 0 = omega arith in
+    ap₂ {C = List ℕ} (λ x y. splice x y block) o p ∙ splice-whole (getD fl k z .0) block ((getD fl k z) .1 ∙ sym e)
+
+module _ (b : BoxRecord) (disk flash addrs blocks : List ℕ) (s : Box (Fixed 32) (Fixed (b .size))) (h : Rep b disk flash addrs blocks s) (a : ℕ) where
+  pub hit-row : (i j : ℕ) → HitAt b s a i j → rowWithBlock (engine (b .size)) s a ≡ some (getD (s .rows) i noRow)
+  unfolding ifCached
+  hit-row i j q =
+      let lt : indexWhere (λ (x : AddressRow (Fixed 32)). eqb a (x .address)) (s .rows) < length (s .rows) = omega (arith, q .row, q .is-held, h .rows-are .count) in
+      let f : rowOf a (s .rows) ≡ some (getD (s .rows) i noRow) = find-yes eqb (λ (x : AddressRow (Fixed 32)). x .address) a (s .rows) noRow lt ∙ ap (λ (k : ℕ). some (getD (s .rows) k noRow)) (sym (q .row)) in
+      let c : cached (engine (b .size)) (getD (s .rows) i noRow .fingerprint) (s .used) ≡ true = has-yes (engine 0 .same) (λ (u : BlockRow (Fixed 32)). u .fingerprint) (getD (s .rows) i noRow .fingerprint) (s .used) (omega (arith, q .place, q .is-cached, h .blocks-are .count)) in
+      rw (f, c) refl
+
+  pub hit-is : (lent : List ℕ) (i j : ℕ) → HitAt b s a i j
+      → leaves b lent (answer (engine (b .size)) hit (some (blockOf (engine (b .size)) (getD (s .rows) i noRow .fingerprint) (s .used) (s .flash))) 0 (step (engine (b .size)) (b .rows) s (asks a (getD (s .rows) i noRow .fingerprint) (blockOf (engine (b .size)) (getD (s .rows) i noRow .fingerprint) (s .used) (s .flash)) (getD (s .rows) i noRow .dirty))))
+      ≡ leaves b lent (serve (engine (b .size)) (b .rows) s (Call.read a))
+  unfolding serve readAs
+  hit-is lent i j q = rw (hit-row i j q) refl
+
+  pub miss-is : (lent : List ℕ) → rowWithBlock (engine (b .size)) s a ≡ none
+      → leaves b lent (answer (engine (b .size)) miss (some (getD (s .disk) a (engine (b .size) .blank))) 0 (step (engine (b .size)) (b .rows) s (asks a (engine (b .size) .hash (getD (s .disk) a (engine (b .size) .blank))) (getD (s .disk) a (engine (b .size) .blank)) false)))
+      ≡ leaves b lent (serve (engine (b .size)) (b .rows) s (Call.read a))
+  unfolding serve readAs
+  miss-is lent q = rw q refl
+
+  -- what the two searches of a read say
+  pub found-hit : (i j : ℕ) → i ≡ indexWhere (λ x. eqb a (x .address)) (s .rows) → j ≡ cond (ltb i (b .held)) (length (s .free) + indexWhere (λ u. engine 0 .same (getD (s .rows) i noRow .fingerprint) (u .fingerprint)) (s .used)) (b .slots) → j < b .slots → HitAt b s a i j
+  found-hit i j ei ej l =
+      by-test (ltb i (b .held))
+      (λ y. record { row = ei; is-held = ltb-true i (b .held) y; place = rw y at ej; is-cached = l })
+      (λ y. absurd (let e : j ≡ b .slots = rw y at ej in omega (arith, e, l)))
+
+  pub found-miss : (i j : ℕ) → i ≡ indexWhere (λ x. eqb a (x .address)) (s .rows) → j ≡ cond (ltb i (b .held)) (length (s .free) + indexWhere (λ u. engine 0 .same (getD (s .rows) i noRow .fingerprint) (u .fingerprint)) (s .used)) (b .slots) → b .slots ≤ j → rowWithBlock (engine (b .size)) s a ≡ none
+  unfolding ifCached
+  found-miss i j ei ej l =
+      by-test (ltb i (b .held))
+      (λ y.
+      let ih = ltb-true i (b .held) y in
+      let lt : indexWhere (λ (x : AddressRow (Fixed 32)). eqb a (x .address)) (s .rows) < length (s .rows) = omega (arith, ei, ih, h .rows-are .count) in
+      let e : j ≡ length (s .free) + indexWhere (λ (u : BlockRow (Fixed 32)). engine 0 .same (getD (s .rows) i noRow .fingerprint) (u .fingerprint)) (s .used) = rw y at ej in
+      let f : rowOf a (s .rows) ≡ some (getD (s .rows) i noRow) = find-yes eqb (λ (x : AddressRow (Fixed 32)). x .address) a (s .rows) noRow lt ∙ ap (λ (k : ℕ). some (getD (s .rows) k noRow)) (sym ei) in
+      let c : cached (engine (b .size)) (getD (s .rows) i noRow .fingerprint) (s .used) ≡ false = has-no (engine 0 .same) (λ (u : BlockRow (Fixed 32)). u .fingerprint) (getD (s .rows) i noRow .fingerprint) (s .used) (omega (arith, e, l, h .blocks-are .count)) in
+      rw (f, c) refl)
+      (λ y.
+      let ih = ltb-false i (b .held) y in
+      let f : rowOf a (s .rows) ≡ none = find-no eqb (λ (x : AddressRow (Fixed 32)). x .address) a (s .rows) (omega (arith, ei, ih, h .rows-are .count)) in
+      rw f refl)

@@ -1,0 +1,14 @@
+// The step of a request and the calls that are not refused, on the bytes of a paper box.
+mod copy;
+pub mod rows;
+pub mod serve;
+mod steps;
+
+// The box record: the block size B, the disk's blocks P, the most addresses held m, the cached blocks d, and the addresses held n.
+pub struct BoxRecord {
+    pub size: usize,
+    pub blocks: usize,
+    pub rows: usize,
+    pub slots: usize,
+    pub held: usize,
+}

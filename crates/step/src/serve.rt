@@ -1,0 +1,223 @@
+// The calls that are not refused, on the bytes of a paper box.
+use crate::BoxRecord;
+use crate::copy;
+use crate::rows;
+use crate::steps;
+use tables::SourceAddress;
+ghost use mathlib.Core.Path.{_≡_};
+ghost use mathlib.Core.List.{List};
+ghost use Prim.Native.Nat.{ℕ, _+_, _*_, _<_, _≤_};
+ghost use lib.ListN.{length};
+ghost use mathlib.Core.Option.{Option};
+ghost use Rattle.paper.specs.Cache.{Box, Call, serve, rowWithBlock};
+ghost use Rattle.paper.specs.Engine.{Fixed, engine};
+ghost use Rattle.step.specs.Rep.{Rep};
+ghost use Rattle.step.specs.Steps.{Sure};
+ghost use Rattle.step.specs.Calls.{leaves, HitAt};
+
+// What a served call tells: whether its word is the first of its two, the rows held, and its flash and primary writes.
+pub struct Served {
+    pub yes: bool,
+    pub held: usize,
+    pub flashed: usize,
+    pub primary: usize,
+}
+
+// Write back.
+pub fn serve_back(
+    b: BoxRecord,
+    a: SourceAddress,
+    disk: &mut [u8],
+    flash: &mut [u8],
+    addrs: &mut [u8],
+    blocks: &mut [u8],
+    block: &[u8],
+) -> Served
+    requires { ⌜ (0 < b .rows) × (0 < b .slots) × (b .held ≤ b .rows) × (length (now addrs) ≡ b .rows * 40) × (length (now blocks) ≡ b .slots * 40) × (length (now block) ≡ b .size) × (a .0 < b .blocks) × (b .rows ≤ 1024) ⌝ }
+    requires { ⌜ ((s : Box (Fixed 32) (Fixed (b .size))) × Rep b (now disk) (now flash) (now addrs) (now blocks) s × Sure b s) ⌝ }
+    ensures { λ r. ⌜ (r .flashed ≤ 1) × (r .primary ≤ 2 + b .rows) ⌝ }
+    ensures { λ r. ⌜ ((s : Box (Fixed 32) (Fixed (b .size))) (x : Fixed (b .size)) → Rep b (now (disk .entry)) (now (flash .entry)) (now (addrs .entry)) (now (blocks .entry)) s → Sure b s → x .0 ≡ now (block .entry)
+        → record { yes = r .yes; held = r .held; left = (record { flashed = r .flashed; primary = r .primary; disk = now (disk .exit); flash = now (flash .exit); addrs = now (addrs .exit); blocks = now (blocks .exit) }); block = now (block .entry) }
+        ≡ leaves b (now (block .entry)) (serve (engine (b .size)) (b .rows) s (Call.back (a .0) x))) ⌝ }
+{
+    let g = hash::sha256(block);
+    let j = rows::place_of(blocks, b.slots, &g);
+    let d = steps::step(b, a, 1, disk, flash, addrs, blocks, &g, block);
+    Served {
+        yes: j < b.slots,
+        held: d.held,
+        flashed: d.flashed,
+        primary: d.primary,
+    }
+}
+
+// Flush.
+pub fn serve_flush(
+    b: BoxRecord,
+    disk: &mut [u8],
+    flash: &[u8],
+    addrs: &mut [u8],
+    blocks: &[u8],
+) -> Served
+    requires { ⌜ (0 < b .slots) × (b .held ≤ b .rows) × (length (now addrs) ≡ b .rows * 40) × (length (now blocks) ≡ b .slots * 40) ⌝ }
+    requires { ⌜ ((s : Box (Fixed 32) (Fixed (b .size))) × Rep b (now disk) (now flash) (now addrs) (now blocks) s) ⌝ }
+    ensures { λ r. ⌜ (r .flashed ≤ 1) × (r .primary ≤ 2 + b .rows) ⌝ }
+    ensures { λ r. ⌜ ((s : Box (Fixed 32) (Fixed (b .size))) (lent : List ℕ) → Rep b (now (disk .entry)) (now (flash .entry)) (now (addrs .entry)) (now (blocks .entry)) s
+        → record { yes = r .yes; held = r .held; left = (record { flashed = r .flashed; primary = r .primary; disk = now (disk .exit); flash = now (flash .entry); addrs = now (addrs .exit); blocks = now (blocks .entry) }); block = lent }
+        ≡ leaves b lent (serve (engine (b .size)) (b .rows) s Call.flush)) ⌝ }
+{
+    let count = copy::flush_rows(b, disk, flash, addrs, blocks);
+    Served {
+        yes: true,
+        held: b.held,
+        flashed: 0,
+        primary: count,
+    }
+}
+
+// Write through.
+pub fn serve_through(
+    b: BoxRecord,
+    a: SourceAddress,
+    disk: &mut [u8],
+    flash: &mut [u8],
+    addrs: &mut [u8],
+    blocks: &mut [u8],
+    block: &[u8],
+) -> Served
+    requires { ⌜ (0 < b .rows) × (0 < b .slots) × (b .held ≤ b .rows) × (length (now addrs) ≡ b .rows * 40) × (length (now blocks) ≡ b .slots * 40) × (length (now block) ≡ b .size) × (a .0 < b .blocks) × (b .rows ≤ 1024) × (length (now disk) ≡ b .blocks * b .size) ⌝ }
+    requires { ⌜ ((s : Box (Fixed 32) (Fixed (b .size))) × Rep b (now disk) (now flash) (now addrs) (now blocks) s × Sure b s) ⌝ }
+    ensures { λ r. ⌜ (r .flashed ≤ 1) × (r .primary ≤ 2 + b .rows) ⌝ }
+    ensures { λ r. ⌜ ((s : Box (Fixed 32) (Fixed (b .size))) (x : Fixed (b .size)) → Rep b (now (disk .entry)) (now (flash .entry)) (now (addrs .entry)) (now (blocks .entry)) s → Sure b s → x .0 ≡ now (block .entry)
+        → record { yes = r .yes; held = r .held; left = (record { flashed = r .flashed; primary = r .primary; disk = now (disk .exit); flash = now (flash .exit); addrs = now (addrs .exit); blocks = now (blocks .exit) }); block = now (block .entry) }
+        ≡ leaves b (now (block .entry)) (serve (engine (b .size)) (b .rows) s (Call.through (a .0) x))) ⌝ }
+{
+    let g = hash::sha256(block);
+    let j = rows::place_of(blocks, b.slots, &g);
+    let n = a.0;
+    block::copy_block(block, 0, disk, n as usize, b.size);
+    let d = steps::step(b, a, 0, disk, flash, addrs, blocks, &g, block);
+    Served {
+        yes: j < b.slots,
+        held: d.held,
+        flashed: d.flashed,
+        primary: 1 + d.primary,
+    }
+}
+
+// Write invalidate.
+pub fn serve_invalidate(
+    b: BoxRecord,
+    a: SourceAddress,
+    disk: &mut [u8],
+    addrs: &mut [u8],
+    blocks: &mut [u8],
+    block: &[u8],
+) -> Served
+    requires { ⌜ (0 < b .rows) × (0 < b .slots) × (b .held ≤ b .rows) × (length (now addrs) ≡ b .rows * 40) × (length (now blocks) ≡ b .slots * 40) × (length (now block) ≡ b .size) × (a .0 < b .blocks) × (b .rows ≤ 1024) × (length (now disk) ≡ b .blocks * b .size) ⌝ }
+    requires { ⌜ ((s : Box (Fixed 32) (Fixed (b .size))) × (flash : List ℕ) × Rep b (now disk) flash (now addrs) (now blocks) s × Sure b s) ⌝ }
+    ensures { λ r. ⌜ (r .flashed ≤ 1) × (r .primary ≤ 2 + b .rows) ⌝ }
+    ensures { λ r. ⌜ ((s : Box (Fixed 32) (Fixed (b .size))) (flash : List ℕ) (x : Fixed (b .size)) → Rep b (now (disk .entry)) flash (now (addrs .entry)) (now (blocks .entry)) s → Sure b s → x .0 ≡ now (block .entry)
+        → record { yes = r .yes; held = r .held; left = (record { flashed = r .flashed; primary = r .primary; disk = now (disk .exit); flash = flash; addrs = now (addrs .exit); blocks = now (blocks .exit) }); block = now (block .entry) }
+        ≡ leaves b (now (block .entry)) (serve (engine (b .size)) (b .rows) s (Call.invalidate (a .0) x))) ⌝ }
+{
+    let g = hash::sha256(block);
+    let j = rows::place_of(blocks, b.slots, &g);
+    let i = rows::row_of(addrs, b.held, a);
+    let n = a.0;
+    block::copy_block(block, 0, disk, n as usize, b.size);
+    let held = steps::drop_row(b, i, addrs, blocks);
+    Served {
+        yes: j < b.slots,
+        held: held,
+        flashed: 0,
+        primary: 1,
+    }
+}
+
+// Read, where `a` is held in row `i` and its block is in the block row at `j`.
+pub fn read_hit(
+    b: BoxRecord,
+    a: SourceAddress,
+    i: usize,
+    j: usize,
+    disk: &mut [u8],
+    flash: &mut [u8],
+    addrs: &mut [u8],
+    blocks: &mut [u8],
+    block: &mut [u8],
+) -> Served
+    requires { ⌜ (0 < b .rows) × (0 < b .slots) × (b .held ≤ b .rows) × (length (now addrs) ≡ b .rows * 40) × (length (now blocks) ≡ b .slots * 40) × (length (now block) ≡ b .size) × (a .0 < b .blocks) × (b .rows ≤ 1024) × (i < b .held) × (j < b .slots) ⌝ }
+    requires { ⌜ ((s : Box (Fixed 32) (Fixed (b .size))) × Rep b (now disk) (now flash) (now addrs) (now blocks) s × Sure b s × HitAt b s (a .0) i j) ⌝ }
+    ensures { λ r. ⌜ (r .flashed ≤ 1) × (r .primary ≤ 2 + b .rows) ⌝ }
+    ensures { λ r. ⌜ ((s : Box (Fixed 32) (Fixed (b .size))) (lent : List ℕ) → Rep b (now (disk .entry)) (now (flash .entry)) (now (addrs .entry)) (now (blocks .entry)) s → Sure b s → HitAt b s (a .0) i j
+        → record { yes = r .yes; held = r .held; left = (record { flashed = r .flashed; primary = r .primary; disk = now (disk .exit); flash = now (flash .exit); addrs = now (addrs .exit); blocks = now (blocks .exit) }); block = now (block .exit) }
+        ≡ leaves b lent (serve (engine (b .size)) (b .rows) s (Call.read (a .0)))) ⌝ }
+{
+    let g = rows::fp_at(addrs, i);
+    let dirty = rows::dirty_at(addrs, i);
+    let x = tables::find::slot_at(blocks, j);
+    let k = x.0;
+    block::copy_block(flash, k as usize, block, 0, b.size);
+    let d = steps::step(b, a, dirty, disk, flash, addrs, blocks, &g, block);
+    Served {
+        yes: true,
+        held: d.held,
+        flashed: d.flashed,
+        primary: d.primary,
+    }
+}
+
+// Read, where `a` is not held with its block.
+pub fn read_miss(
+    b: BoxRecord,
+    a: SourceAddress,
+    disk: &mut [u8],
+    flash: &mut [u8],
+    addrs: &mut [u8],
+    blocks: &mut [u8],
+    block: &mut [u8],
+) -> Served
+    requires { ⌜ (0 < b .rows) × (0 < b .slots) × (b .held ≤ b .rows) × (length (now addrs) ≡ b .rows * 40) × (length (now blocks) ≡ b .slots * 40) × (length (now block) ≡ b .size) × (a .0 < b .blocks) × (b .rows ≤ 1024) ⌝ }
+    requires { ⌜ ((s : Box (Fixed 32) (Fixed (b .size))) × Rep b (now disk) (now flash) (now addrs) (now blocks) s × Sure b s) ⌝ }
+    ensures { λ r. ⌜ (r .flashed ≤ 1) × (r .primary ≤ 2 + b .rows) ⌝ }
+    ensures { λ r. ⌜ ((s : Box (Fixed 32) (Fixed (b .size))) (lent : List ℕ) → Rep b (now (disk .entry)) (now (flash .entry)) (now (addrs .entry)) (now (blocks .entry)) s → Sure b s → rowWithBlock (engine (b .size)) s (a .0) ≡ Option.none
+        → record { yes = r .yes; held = r .held; left = (record { flashed = r .flashed; primary = r .primary; disk = now (disk .exit); flash = now (flash .exit); addrs = now (addrs .exit); blocks = now (blocks .exit) }); block = now (block .exit) }
+        ≡ leaves b lent (serve (engine (b .size)) (b .rows) s (Call.read (a .0)))) ⌝ }
+{
+    let n = a.0;
+    block::copy_block(disk, n as usize, block, 0, b.size);
+    let g = hash::sha256(block);
+    let d = steps::step(b, a, 0, disk, flash, addrs, blocks, &g, block);
+    Served {
+        yes: false,
+        held: d.held,
+        flashed: d.flashed,
+        primary: d.primary,
+    }
+}
+
+// Read.
+pub fn serve_read(
+    b: BoxRecord,
+    a: SourceAddress,
+    disk: &mut [u8],
+    flash: &mut [u8],
+    addrs: &mut [u8],
+    blocks: &mut [u8],
+    block: &mut [u8],
+) -> Served
+    requires { ⌜ (0 < b .rows) × (0 < b .slots) × (b .held ≤ b .rows) × (length (now addrs) ≡ b .rows * 40) × (length (now blocks) ≡ b .slots * 40) × (length (now block) ≡ b .size) × (a .0 < b .blocks) × (b .rows ≤ 1024) ⌝ }
+    requires { ⌜ ((s : Box (Fixed 32) (Fixed (b .size))) × Rep b (now disk) (now flash) (now addrs) (now blocks) s × Sure b s) ⌝ }
+    ensures { λ r. ⌜ (r .flashed ≤ 1) × (r .primary ≤ 2 + b .rows) ⌝ }
+    ensures { λ r. ⌜ ((s : Box (Fixed 32) (Fixed (b .size))) (lent : List ℕ) → Rep b (now (disk .entry)) (now (flash .entry)) (now (addrs .entry)) (now (blocks .entry)) s → Sure b s
+        → record { yes = r .yes; held = r .held; left = (record { flashed = r .flashed; primary = r .primary; disk = now (disk .exit); flash = now (flash .exit); addrs = now (addrs .exit); blocks = now (blocks .exit) }); block = now (block .exit) }
+        ≡ leaves b lent (serve (engine (b .size)) (b .rows) s (Call.read (a .0)))) ⌝ }
+{
+    let i = rows::row_of(addrs, b.held, a);
+    let j = rows::place_of_row(b, i, addrs, blocks);
+    if j < b.slots {
+        return read_hit(b, a, i, j, disk, flash, addrs, blocks, block);
+    }
+    read_miss(b, a, disk, flash, addrs, blocks, block)
+}

@@ -1,0 +1,297 @@
+// The steps of one request.
+use crate::BoxRecord;
+use crate::copy;
+use crate::rows;
+use tables::SourceAddress;
+ghost use mathlib.Core.Path.{_≡_};
+ghost use mathlib.Core.Bool.{Bool, true};
+ghost use mathlib.Core.List.{List, [], _∷_, _++_};
+ghost use mathlib.Core.Option.{Option};
+ghost use Prim.Native.Nat.{ℕ, _+_, _*_, _-_, _<_, _≤_};
+ghost use lib.ListN.{length, getD, take, set};
+ghost use lib.Dec.{eqb};
+ghost use Rattle.tables.specs.Rows.{removeAt, rows};
+ghost use Rattle.tables.specs.Find.{every};
+ghost use Rattle.tables.specs.Index.{unique};
+ghost use Rattle.paper.specs.KeyedLaws.{Distinct};
+ghost use Rattle.paper.specs.Index.{indexWhere};
+ghost use Rattle.paper.specs.Cache.{AddressRow, BlockRow, Box, blockRow, isLost, taken, stored, step1, step3, step4, step, dropped, rowOf, withoutAddress};
+ghost use Rattle.paper.specs.Engine.{Fixed, engine};
+ghost use Rattle.paper.specs.Lent.{bit, join};
+ghost use Rattle.paper.specs.Layout.{Addrs, Blocks, Parts, addressesOf, blocksOf};
+ghost use Rattle.step.specs.Rep.{Rep, Lent, copiedRows, noRow};
+ghost use Rattle.step.specs.Steps.{placeOf, out1, blockBytes, Picked, pickedTaken, out4, after, asks, Sure};
+
+// What step 1 tells: how many rows are held then, the place of the fingerprint taken out, and the blocks copied to the disk.
+pub struct Out {
+    pub held: usize,
+    pub place: usize,
+    pub primary: usize,
+}
+
+// Takes row `i` out. The place of its fingerprint's block row.
+pub fn take_row(b: BoxRecord, i: usize, addrs: &mut [u8], blocks: &[u8]) -> usize
+    requires { ⌜ (i < b .held) × (b .held ≤ b .rows) × (length (now addrs) ≡ b .rows * 40) × (length (now blocks) ≡ b .slots * 40) ⌝ }
+    ensures { λ r. ⌜ ((rows : List (AddressRow (Fixed 32))) (free : List ℕ) (used : List (BlockRow (Fixed 32))) → Addrs (b .blocks) (b .rows) (b .held) (now (addrs .entry)) rows → Blocks (b .slots) (now (blocks .entry)) free used
+        → (r ≡ placeOf (Option.some (getD rows i noRow .fingerprint)) free used) × (now (addrs .exit) ≡ addressesOf (b .rows) (removeAt rows i))) ⌝ }
+{
+    let at = i * 40 + 4;
+    let end = at + 32;
+    let place = rows::place_of(blocks, b.slots, &addrs[at..end]);
+    tables::shift::remove_row(addrs, b.held, i);
+    place
+}
+
+// Step 1.
+pub fn step1(
+    b: BoxRecord,
+    a: SourceAddress,
+    disk: &mut [u8],
+    flash: &[u8],
+    addrs: &mut [u8],
+    blocks: &[u8],
+) -> Out
+    requires { ⌜ (0 < b .rows) × (0 < b .slots) × (b .held ≤ b .rows) × (length (now addrs) ≡ b .rows * 40) × (length (now blocks) ≡ b .slots * 40) ⌝ }
+    requires { ⌜ Lent b (now disk) (now flash) (now addrs) (now blocks) ⌝ }
+    ensures { λ r. ⌜ (r .held < b .rows) × (r .primary ≤ 1) ⌝ }
+    ensures { λ r. ⌜ ((s : Box (Fixed 32) (Fixed (b .size))) → Rep b (now (disk .entry)) (now (flash .entry)) (now (addrs .entry)) (now (blocks .entry)) s → Distinct eqb (λ x. x .address) (s .rows)
+        → record { held = r .held; place = r .place; primary = r .primary; disk = now (disk .exit); addrs = now (addrs .exit) } ≡ out1 b s (step1 (engine (b .size)) (b .rows) s (a .0))) ⌝ }
+{
+    let i = rows::row_of(addrs, b.held, a);
+    if i < b.held {
+        let place = take_row(b, i, addrs, blocks);
+        return Out {
+            held: b.held - 1,
+            place: place,
+            primary: 0,
+        };
+    }
+    if b.held < b.rows {
+        return Out {
+            held: b.held,
+            place: b.slots,
+            primary: 0,
+        };
+    }
+    let primary = copy::flush_row(b, 0, disk, flash, addrs, blocks);
+    let place = take_row(b, 0, addrs, blocks);
+    Out {
+        held: b.held - 1,
+        place: place,
+        primary: primary,
+    }
+}
+
+// Step 3, where the fingerprint taken out has its block row at `place`.
+pub fn step3(b: BoxRecord, place: usize, addrs: &[u8], blocks: &mut [u8])
+    requires { ⌜ (0 < b .held) × (b .held ≤ b .rows) × (length (now addrs) ≡ b .rows * 40) × (length (now blocks) ≡ b .slots * 40) × (b .slots ≤ 256) × (b .held ≤ 1024) ⌝ }
+    requires { ⌜ every unique (rows (b .slots) (now blocks)) ≡ true ⌝ }
+    ensures { λ _. ⌜ ((B : ℕ) (l : List (AddressRow (Fixed 32))) (free : List ℕ) (used : List (BlockRow (Fixed 32))) (gone : Option (Fixed 32)) → Addrs (b .blocks) (b .rows) (b .held) (now (addrs .entry)) l → Blocks (b .slots) (now (blocks .entry)) free used
+        → Distinct (engine 0 .same) (λ u. u .fingerprint) used → place ≡ placeOf gone free used → now (blocks .exit) ≡ blockBytes (step3 (engine B) gone (take (b .held - 1) l) l (record { free = free; used = used }))) ⌝ }
+{
+    let d = b.slots;
+    if d <= place {
+        return;
+    }
+    let at = place * 40;
+    let end = at + 32;
+    if rows::knows(addrs, b.held, &blocks[at..end]) {
+        return;
+    }
+    if rows::uncached(addrs, b.held - 1, blocks, d) {
+        tables::shift::to_front(blocks, d, place);
+    }
+}
+
+// Copies the block of the block row at `t`, in slot `k`, to the disk for each dirty row that has its fingerprint, if it is used.
+pub fn lose(
+    b: BoxRecord,
+    t: usize,
+    k: usize,
+    disk: &mut [u8],
+    flash: &[u8],
+    addrs: &mut [u8],
+    blocks: &[u8],
+) -> usize
+    requires { ⌜ (t < b .slots) × (k < b .slots) × (b .held ≤ b .rows) × (length (now addrs) ≡ b .rows * 40) × (length (now blocks) ≡ b .slots * 40) ⌝ }
+    requires { ⌜ ((s : Box (Fixed 32) (Fixed (b .size))) × Rep b (now disk) (now flash) (now addrs) (now blocks) s × Distinct (engine 0 .same) (λ u. u .fingerprint) (s .used) × Picked (s .free) (s .used) t × (k ≡ pickedTaken (s .free) (s .used) t .slot)) ⌝ }
+    ensures { λ r. ⌜ r ≤ b .held ⌝ }
+    ensures { λ r. ⌜ ((s : Box (Fixed 32) (Fixed (b .size))) → Rep b (now (disk .entry)) (now (flash .entry)) (now (addrs .entry)) (now (blocks .entry)) s → Distinct (engine 0 .same) (λ u. u .fingerprint) (s .used) → Picked (s .free) (s .used) t → k ≡ pickedTaken (s .free) (s .used) t .slot
+        → record { count = r; disk = now (disk .exit); addrs = now (addrs .exit) } ≡ copiedRows b (isLost (engine (b .size)) (pickedTaken (s .free) (s .used) t .lost)) s (b .held)) ⌝ }
+{
+    if !tables::find::flag_at(blocks, t) {
+        return 0;
+    }
+    let at = t * 40;
+    let end = at + 32;
+    copy::clean_rows(b, disk, flash, addrs, blocks, &blocks[at..end], k)
+}
+
+// Puts `block` into slot `k`, and `g` into the block row at `t`, which becomes newest.
+pub fn fill(
+    b: BoxRecord,
+    t: usize,
+    k: usize,
+    flash: &mut [u8],
+    blocks: &mut [u8],
+    g: &[u8],
+    block: &[u8],
+)
+    requires { ⌜ (t < b .slots) × (k * b .size + b .size ≤ length (now flash)) × (length (now g) ≡ 32) × (length (now block) ≡ b .size) × (length (now blocks) ≡ b .slots * 40) ⌝ }
+    ensures { λ _. ⌜ ((free : List ℕ) (used : List (BlockRow (Fixed 32))) (fl : List (Fixed (b .size))) (f : Fixed 32) (x : Fixed (b .size)) → Blocks (b .slots) (now (blocks .entry)) free used → Parts (b .size) (b .slots) (now (flash .entry)) fl → Picked free used t → k < b .slots → k ≡ pickedTaken free used t .slot
+        → f .0 ≡ now (g .entry) → x .0 ≡ now (block .entry)
+        → (now (flash .exit) ≡ join (set fl k x)) × (now (blocks .exit) ≡ blocksOf (pickedTaken free used t .free) (pickedTaken free used t .used ++ (blockRow f k ∷ [])))) ⌝ }
+{
+    block::put(block, flash, k * b.size);
+    tables::put::put_block(blocks, b.slots, t, g);
+}
+
+// Step 4 where `g` is not cached. How many blocks were copied to the disk.
+pub fn store(
+    b: BoxRecord,
+    disk: &mut [u8],
+    flash: &mut [u8],
+    addrs: &mut [u8],
+    blocks: &mut [u8],
+    g: &[u8],
+    block: &[u8],
+) -> usize
+    requires { ⌜ (0 < b .slots) × (b .held ≤ b .rows) × (length (now addrs) ≡ b .rows * 40) × (length (now blocks) ≡ b .slots * 40) × (length (now g) ≡ 32) × (length (now block) ≡ b .size) × (b .slots ≤ 256) × (b .held ≤ 1024) ⌝ }
+    requires { ⌜ ((s : Box (Fixed 32) (Fixed (b .size))) × Rep b (now disk) (now flash) (now addrs) (now blocks) s × Distinct (engine 0 .same) (λ u. u .fingerprint) (s .used)) ⌝ }
+    ensures { λ r. ⌜ r ≤ b .held ⌝ }
+    ensures { λ r. ⌜ ((s : Box (Fixed 32) (Fixed (b .size))) (f : Fixed 32) (x : Fixed (b .size)) → Rep b (now (disk .entry)) (now (flash .entry)) (now (addrs .entry)) (now (blocks .entry)) s → Distinct (engine 0 .same) (λ u. u .fingerprint) (s .used) → f .0 ≡ now (g .entry) → x .0 ≡ now (block .entry)
+        → record { flashed = 1; primary = r; disk = now (disk .exit); flash = now (flash .exit); addrs = now (addrs .exit); blocks = now (blocks .exit) }
+        ≡ out4 b (stored (engine (b .size)) (s .rows) (s .used) (s .flash) (s .disk) f x 0 (taken (engine (b .size)) (s .rows) (s .free) (s .used)))) ⌝ }
+{
+    let t = rows::victim(addrs, b.held, blocks, b.slots);
+    let x = tables::find::slot_at(blocks, t);
+    let n = x.0;
+    let k = n as usize;
+    let count = lose(b, t, k, disk, flash, addrs, blocks);
+    fill(b, t, k, flash, blocks, g, block);
+    count
+}
+
+// What step 4 tells: the blocks stored in the flash, and those copied to the disk.
+pub struct Wrote {
+    pub flashed: usize,
+    pub primary: usize,
+}
+
+// Step 4.
+pub fn step4(
+    b: BoxRecord,
+    disk: &mut [u8],
+    flash: &mut [u8],
+    addrs: &mut [u8],
+    blocks: &mut [u8],
+    g: &[u8],
+    block: &[u8],
+) -> Wrote
+    requires { ⌜ (0 < b .slots) × (b .held ≤ b .rows) × (length (now addrs) ≡ b .rows * 40) × (length (now blocks) ≡ b .slots * 40) × (length (now g) ≡ 32) × (length (now block) ≡ b .size) × (b .slots ≤ 256) × (b .held ≤ 1024) ⌝ }
+    requires { ⌜ ((s : Box (Fixed 32) (Fixed (b .size))) × Rep b (now disk) (now flash) (now addrs) (now blocks) s × Distinct (engine 0 .same) (λ u. u .fingerprint) (s .used)) ⌝ }
+    ensures { λ r. ⌜ (r .flashed ≤ 1) × (r .primary ≤ b .held) ⌝ }
+    ensures { λ r. ⌜ ((s : Box (Fixed 32) (Fixed (b .size))) (f : Fixed 32) (x : Fixed (b .size)) → Rep b (now (disk .entry)) (now (flash .entry)) (now (addrs .entry)) (now (blocks .entry)) s → Distinct (engine 0 .same) (λ u. u .fingerprint) (s .used) → f .0 ≡ now (g .entry) → x .0 ≡ now (block .entry)
+        → record { flashed = r .flashed; primary = r .primary; disk = now (disk .exit); flash = now (flash .exit); addrs = now (addrs .exit); blocks = now (blocks .exit) }
+        ≡ out4 b (step4 (engine (b .size)) (s .rows) (record { free = s .free; used = s .used }) (s .flash) (s .disk) f x 0)) ⌝ }
+{
+    let j = rows::place_of(blocks, b.slots, g);
+    if j < b.slots {
+        tables::shift::to_newest(blocks, b.slots, j);
+        return Wrote {
+            flashed: 0,
+            primary: 0,
+        };
+    }
+    let count = store(b, disk, flash, addrs, blocks, g, block);
+    Wrote {
+        flashed: 1,
+        primary: count,
+    }
+}
+
+// What a step tells: how many rows are held, the blocks stored in the flash, and those copied to the disk.
+pub struct Done {
+    pub held: usize,
+    pub flashed: usize,
+    pub primary: usize,
+}
+
+// The step of one request.
+pub fn step(
+    b: BoxRecord,
+    a: SourceAddress,
+    dirty: u8,
+    disk: &mut [u8],
+    flash: &mut [u8],
+    addrs: &mut [u8],
+    blocks: &mut [u8],
+    g: &[u8],
+    block: &[u8],
+) -> Done
+    requires { ⌜ (0 < b .rows) × (0 < b .slots) × (b .held ≤ b .rows) × (length (now addrs) ≡ b .rows * 40) × (length (now blocks) ≡ b .slots * 40) × (length (now g) ≡ 32) × (length (now block) ≡ b .size) × (a .0 < b .blocks) × (b .rows ≤ 1024) ⌝ }
+    requires { ⌜ ((s : Box (Fixed 32) (Fixed (b .size))) × (w : Bool) × Rep b (now disk) (now flash) (now addrs) (now blocks) s × Sure b s × (dirty ≡ bit w)) ⌝ }
+    ensures { λ r. ⌜ (r .flashed ≤ 1) × (r .primary ≤ 1 + b .rows) ⌝ }
+    ensures { λ r. ⌜ ((s : Box (Fixed 32) (Fixed (b .size))) (f : Fixed 32) (x : Fixed (b .size)) (w : Bool) → Rep b (now (disk .entry)) (now (flash .entry)) (now (addrs .entry)) (now (blocks .entry)) s → Sure b s → f .0 ≡ now (g .entry) → x .0 ≡ now (block .entry) → dirty ≡ bit w
+        → record { held = r .held; left = (record { flashed = r .flashed; primary = r .primary; disk = now (disk .exit); flash = now (flash .exit); addrs = now (addrs .exit); blocks = now (blocks .exit) }) }
+        ≡ after b (step (engine (b .size)) (b .rows) s (asks (a .0) f x w))) ⌝ }
+{
+    let o = step1(b, a, disk, flash, addrs, blocks);
+    tables::put::push_address(addrs, o.held, a, g, dirty);
+    let n = o.held + 1;
+    let c = BoxRecord {
+        size: b.size,
+        blocks: b.blocks,
+        rows: b.rows,
+        slots: b.slots,
+        held: n,
+    };
+    step3(c, o.place, addrs, blocks);
+    let w = step4(c, disk, flash, addrs, blocks, g, block);
+    Done {
+        held: n,
+        flashed: w.flashed,
+        primary: o.primary + w.primary,
+    }
+}
+
+// Frees the block row at `place` where no held row has its fingerprint.
+pub fn free_unknown(b: BoxRecord, place: usize, addrs: &[u8], blocks: &mut [u8])
+    requires { ⌜ (b .held ≤ b .rows) × (length (now addrs) ≡ b .rows * 40) × (length (now blocks) ≡ b .slots * 40) ⌝ }
+    ensures { λ _. ⌜ ((B : ℕ) (l : List (AddressRow (Fixed 32))) (free : List ℕ) (used : List (BlockRow (Fixed 32))) (r : AddressRow (Fixed 32)) → Addrs (b .blocks) (b .rows) (b .held) (now (addrs .entry)) l → Blocks (b .slots) (now (blocks .entry)) free used
+        → Distinct (engine 0 .same) (λ u. u .fingerprint) used → place ≡ placeOf (Option.some (r .fingerprint)) free used → now (blocks .exit) ≡ blockBytes (dropped (engine B) l (record { free = free; used = used }) (Option.some r))) ⌝ }
+{
+    let d = b.slots;
+    if d <= place {
+        return;
+    }
+    let at = place * 40;
+    let end = at + 32;
+    if rows::knows(addrs, b.held, &blocks[at..end]) {
+        return;
+    }
+    tables::shift::to_front(blocks, d, place);
+}
+
+// Takes row `i` out, if there is one, and frees its fingerprint's block row where no other row has it. The rows then held.
+pub fn drop_row(b: BoxRecord, i: usize, addrs: &mut [u8], blocks: &mut [u8]) -> usize
+    requires { ⌜ (b .held ≤ b .rows) × (length (now addrs) ≡ b .rows * 40) × (length (now blocks) ≡ b .slots * 40) ⌝ }
+    ensures { λ r. ⌜ ((B a : ℕ) (l : List (AddressRow (Fixed 32))) (free : List ℕ) (used : List (BlockRow (Fixed 32))) → Addrs (b .blocks) (b .rows) (b .held) (now (addrs .entry)) l → Blocks (b .slots) (now (blocks .entry)) free used
+        → Distinct eqb (λ x. x .address) l → Distinct (engine 0 .same) (λ u. u .fingerprint) used → i ≡ indexWhere (λ x. eqb a (x .address)) l
+        → (r ≡ length (withoutAddress a l)) × (now (addrs .exit) ≡ addressesOf (b .rows) (withoutAddress a l)) × (now (blocks .exit) ≡ blockBytes (dropped (engine B) (withoutAddress a l) (record { free = free; used = used }) (rowOf a l)))) ⌝ }
+{
+    if b.held <= i {
+        return b.held;
+    }
+    let place = take_row(b, i, addrs, blocks);
+    let n = b.held - 1;
+    let c = BoxRecord {
+        size: b.size,
+        blocks: b.blocks,
+        rows: b.rows,
+        slots: b.slots,
+        held: n,
+    };
+    free_unknown(c, place, addrs, blocks);
+    n
+}
