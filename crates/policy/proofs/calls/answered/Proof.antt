@@ -11,7 +11,7 @@ counted-requires c κs = search needs
 
 -- src/calls.rt:40:1
 returns : tie.Need-returns
-returns c = rw (c .counted .ensures)
+returns c = cc
 
 pub answered-spec : {M : Type 1} → statement M
 answered-spec = tie.close (tie.spec counted-requires returns)
