@@ -60,14 +60,26 @@ pub fn place_of(
     found(b, a, disk, flash, addresses, blocks)
 }
 
-// Block number `k` of `s`, of `size` bytes.
-pub(crate) fn block_of<'a>(s: &'a [u8], k: usize, size: usize) -> &'a [u8]
-    requires { ⌜ k * size + size ≤ length (now s) ⌝ }
-    ensures { λ r. ⌜ now r ≡ part (k * size) size (now (s .entry)) ⌝ }
+// The block in `slot` of the flash, of `size` bytes.
+pub(crate) fn in_slot<'a>(flash: &'a [u8], slot: FlashSlot, size: usize) -> &'a [u8]
+    requires { ⌜ slot .0 * size + size ≤ length (now flash) ⌝ }
+    ensures { λ r. ⌜ now r ≡ part (slot .0 * size) size (now (flash .entry)) ⌝ }
 {
-    let at = k * size;
+    let k = slot.0;
+    let at = k as usize * size;
     let end = at + size;
-    &s[at..end]
+    &flash[at..end]
+}
+
+// The block at `a` of the disk, of `size` bytes.
+pub(crate) fn at_address<'a>(disk: &'a [u8], a: SourceAddress, size: usize) -> &'a [u8]
+    requires { ⌜ a .0 * size + size ≤ length (now disk) ⌝ }
+    ensures { λ r. ⌜ now r ≡ part (a .0 * size) size (now (disk .entry)) ⌝ }
+{
+    let n = a.0;
+    let at = n as usize * size;
+    let end = at + size;
+    &disk[at..end]
 }
 
 // Look's answer: the number of the refusal, or whether the block comes from the cache or from the disk.
@@ -99,13 +111,9 @@ pub fn look_part<'a>(
 ) -> &'a [u8]
     ensures { λ r. ⌜ ((k : Counters) → now r ≡ (call (numbersOf b) (lent b (now (disk .entry)) (now (flash .entry)) (now (addresses .entry)) (now (blocks .entry)) k) (Ask.look (a .0))) .part) ⌝ }
 {
-    let n = a.0;
     match place_of(b, a, disk, flash, addresses, blocks) {
         Place::Refused(_) => &disk[0..0],
-        Place::Flash(s) => {
-            let k = s.0;
-            block_of(flash, k as usize, b.size)
-        }
-        Place::Disk => block_of(disk, n as usize, b.size),
+        Place::Flash(s) => in_slot(flash, s, b.size),
+        Place::Disk => at_address(disk, a, b.size),
     }
 }

@@ -7,6 +7,7 @@ use policy::look::Place;
 use policy::open::Begun;
 use policy::open::Opening;
 use step::BoxRecord;
+use tables::SourceAddress;
 ghost use mathlib.Core.Path.{_≡_};
 ghost use Prim.Native.Nat.{_+_, _*_, _≤_, _<_, _^_};
 ghost use lib.ListN.{length};
@@ -177,9 +178,9 @@ fn opening_number(a: Opening) -> u32
 }
 
 // Writes the place of a look's part into the answer. The number of the refusal, 0 where the look was served.
-pub(crate) fn write_place(answer: &mut [u8], size: usize, address: u32, p: Place) -> u32
-    requires { ⌜ (length (now answer) ≡ 24) × (startOf size address p < 2 ^ 64) ⌝ }
-    ensures { λ r. ⌜ record { number = r; answer = now (answer .exit) } ≡ placeIn size address (now (answer .entry)) p ⌝ }
+pub(crate) fn write_place(answer: &mut [u8], size: usize, address: SourceAddress, p: Place) -> u32
+    requires { ⌜ (length (now answer) ≡ 24) × (startOf size (address .0) p < 2 ^ 64) ⌝ }
+    ensures { λ r. ⌜ record { number = r; answer = now (answer .exit) } ≡ placeIn size (address .0) (now (answer .entry)) p ⌝ }
 {
     match p {
         Place::Refused(k) => k,
@@ -189,7 +190,8 @@ pub(crate) fn write_place(answer: &mut [u8], size: usize, address: u32, p: Place
             0
         }
         Place::Disk => {
-            put_answer(answer, 6, address as usize * size, size);
+            let a = address.0;
+            put_answer(answer, 6, a as usize * size, size);
             0
         }
     }

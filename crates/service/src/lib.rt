@@ -185,8 +185,9 @@ pub extern "C" fn mindavehu_look(
         return 2;
     }
     let b = fields::record_in(state);
-    let p = policy::look::place_of(b, SourceAddress(address), disk, flash, addresses, blocks);
-    fields::write_place(answer, b.size, address, p)
+    let a = SourceAddress(address);
+    let p = policy::look::place_of(b, a, disk, flash, addresses, blocks);
+    fields::write_place(answer, b.size, a, p)
 }
 
 // Opens a box of the numbers in `state`: the tables become fresh, n and the counters 0; disk and flash keep their bytes.

@@ -1,5 +1,6 @@
 // Blocks of dirty rows copied to the disk, and the rows made clean.
 use crate::BoxRecord;
+use tables::FlashSlot;
 ghost use mathlib.Core.Path.{_≡_};
 ghost use mathlib.Core.Bool.{true};
 ghost use mathlib.Core.List.{List};
@@ -12,17 +13,15 @@ ghost use Rattle.step.specs.Rep.{Rep, Lent, LentWith, copiedRow, copiedR
 use crate::rows;
 
 // The slot of the fingerprint `g`, 0 where it is not cached.
-pub fn slot_for(t: &[u8], d: usize, g: &[u8]) -> usize
+pub fn slot_for(t: &[u8], d: usize, g: &[u8]) -> FlashSlot
     requires { ⌜ (length (now t) ≡ d * 40) × (length (now g) ≡ 32) ⌝ }
-    ensures { λ r. ⌜ ((B : ℕ) (free : List ℕ) (used : List (BlockRow (Fixed 32))) (f : Fixed 32) → Blocks d (now (t .entry)) free used → f .0 ≡ now (g .entry) → r ≡ slotOf (engine B) f used) ⌝ }
+    ensures { λ r. ⌜ ((B : ℕ) (free : List ℕ) (used : List (BlockRow (Fixed 32))) (f : Fixed 32) → Blocks d (now (t .entry)) free used → f .0 ≡ now (g .entry) → r .0 ≡ slotOf (engine B) f used) ⌝ }
 {
     let j = rows::place_of(t, d, g);
     if d <= j {
-        return 0;
+        return FlashSlot(0);
     }
-    let s = tables::find::slot_at(t, j);
-    let k = s.0;
-    k as usize
+    tables::find::slot_at(t, j)
 }
 
 // Copies the block of row `i` to its disk address and makes the row clean, if it is dirty. How many blocks that is.
@@ -45,15 +44,16 @@ pub fn flush_row(
     }
     let at = i * 40 + 4;
     let end = at + 32;
-    let k = slot_for(blocks, b.slots, &addrs[at..end]);
+    let slot = slot_for(blocks, b.slots, &addrs[at..end]);
+    let k = slot.0;
     let x = tables::find::address_at(addrs, i);
     let a = x.0;
-    block::copy_block(flash, k, disk, a as usize, b.size);
+    block::copy_block(flash, k as usize, disk, a as usize, b.size);
     tables::put::set_clean(addrs, i);
     1
 }
 
-// The same of row `i` if it also has the fingerprint `g`, whose block is in slot `k`.
+// The same of row `i` if it also has the fingerprint `g`, whose block is in `slot`.
 pub fn clean_row(
     b: BoxRecord,
     i: usize,
@@ -62,13 +62,13 @@ pub fn clean_row(
     addrs: &mut [u8],
     blocks: &[u8],
     g: &[u8],
-    k: usize,
+    slot: FlashSlot,
 ) -> usize
-    requires { ⌜ (i < b .held) × (k < b .slots) × (length (now g) ≡ 32) × (b .held ≤ b .rows) × (length (now addrs) ≡ b .rows * 40) ⌝ }
+    requires { ⌜ (i < b .held) × (slot .0 < b .slots) × (length (now g) ≡ 32) × (b .held ≤ b .rows) × (length (now addrs) ≡ b .rows * 40) ⌝ }
     requires { ⌜ Lent b (now disk) (now flash) (now addrs) (now blocks) ⌝ }
     ensures { λ r. ⌜ r ≤ 1 ⌝ }
     ensures { λ r. ⌜ ((s : Box (Fixed 32) (Fixed (b .size))) → Rep b (now (disk .entry)) (now (flash .entry)) (now (addrs .entry)) (now (blocks .entry)) s
-        → (v : Fixed 32) → v .0 ≡ now (g .entry) → slotOf (engine (b .size)) v (s .used) ≡ k
+        → (v : Fixed 32) → v .0 ≡ now (g .entry) → slotOf (engine (b .size)) v (s .used) ≡ slot .0
         → record { count = r; disk = now (disk .exit); addrs = now (addrs .exit) } ≡ copiedRow b (engine (b .size) .same v) s i) ⌝ }
 {
     if !tables::find::flag_at(addrs, i) {
@@ -77,9 +77,10 @@ pub fn clean_row(
     if !tables::find::fingerprint_is(addrs, i, g) {
         return 0;
     }
+    let k = slot.0;
     let x = tables::find::address_at(addrs, i);
     let a = x.0;
-    block::copy_block(flash, k, disk, a as usize, b.size);
+    block::copy_block(flash, k as usize, disk, a as usize, b.size);
     tables::put::set_clean(addrs, i);
     1
 }
@@ -107,7 +108,7 @@ pub fn flush_rows(
     count
 }
 
-// The same of every held row that has the fingerprint `g`, whose block is in slot `k`.
+// The same of every held row that has the fingerprint `g`, whose block is in `slot`.
 pub fn clean_rows(
     b: BoxRecord,
     disk: &mut [u8],
@@ -115,19 +116,19 @@ pub fn clean_rows(
     addrs: &mut [u8],
     blocks: &[u8],
     g: &[u8],
-    k: usize,
+    slot: FlashSlot,
 ) -> usize
-    requires { ⌜ (k < b .slots) × (length (now g) ≡ 32) × (b .held ≤ b .rows) × (length (now addrs) ≡ b .rows * 40) ⌝ }
-    requires { ⌜ LentWith b (now disk) (now flash) (now addrs) (now blocks) (now g) k ⌝ }
+    requires { ⌜ (slot .0 < b .slots) × (length (now g) ≡ 32) × (b .held ≤ b .rows) × (length (now addrs) ≡ b .rows * 40) ⌝ }
+    requires { ⌜ LentWith b (now disk) (now flash) (now addrs) (now blocks) (now g) (slot .0) ⌝ }
     ensures { λ r. ⌜ r ≤ b .held ⌝ }
     ensures { λ r. ⌜ ((s : Box (Fixed 32) (Fixed (b .size))) → Rep b (now (disk .entry)) (now (flash .entry)) (now (addrs .entry)) (now (blocks .entry)) s
-        → (v : Fixed 32) → v .0 ≡ now (g .entry) → slotOf (engine (b .size)) v (s .used) ≡ k
+        → (v : Fixed 32) → v .0 ≡ now (g .entry) → slotOf (engine (b .size)) v (s .used) ≡ slot .0
         → record { count = r; disk = now (disk .exit); addrs = now (addrs .exit) } ≡ copiedRows b (engine (b .size) .same v) s (b .held)) ⌝ }
 {
     let mut count = 0;
     let mut i = 0;
     while i < b.held {
-        count += clean_row(b, i, disk, flash, addrs, blocks, g, k);
+        count += clean_row(b, i, disk, flash, addrs, blocks, g, slot);
         i += 1;
     }
     count

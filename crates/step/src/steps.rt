@@ -2,6 +2,7 @@
 use crate::BoxRecord;
 use crate::copy;
 use crate::rows;
+use tables::FlashSlot;
 use tables::SourceAddress;
 ghost use mathlib.Core.Path.{_≡_};
 ghost use mathlib.Core.Bool.{Bool, true};
@@ -103,20 +104,20 @@ pub fn step3(b: BoxRecord, place: usize, addrs: &[u8], blocks: &mut [u8])
     }
 }
 
-// Copies the block of the block row at `t`, in slot `k`, to the disk for each dirty row that has its fingerprint, if it is used.
+// Copies the block of the block row at `t`, in `slot`, to the disk for each dirty row that has its fingerprint, if it is used.
 pub fn lose(
     b: BoxRecord,
     t: usize,
-    k: usize,
+    slot: FlashSlot,
     disk: &mut [u8],
     flash: &[u8],
     addrs: &mut [u8],
     blocks: &[u8],
 ) -> usize
-    requires { ⌜ (t < b .slots) × (k < b .slots) × (b .held ≤ b .rows) × (length (now addrs) ≡ b .rows * 40) × (length (now blocks) ≡ b .slots * 40) ⌝ }
-    requires { ⌜ ((s : Box (Fixed 32) (Fixed (b .size))) × Rep b (now disk) (now flash) (now addrs) (now blocks) s × Distinct (engine 0 .same) (λ u. u .fingerprint) (s .used) × Picked (s .free) (s .used) t × (k ≡ pickedTaken (s .free) (s .used) t .slot)) ⌝ }
+    requires { ⌜ (t < b .slots) × (slot .0 < b .slots) × (b .held ≤ b .rows) × (length (now addrs) ≡ b .rows * 40) × (length (now blocks) ≡ b .slots * 40) ⌝ }
+    requires { ⌜ ((s : Box (Fixed 32) (Fixed (b .size))) × Rep b (now disk) (now flash) (now addrs) (now blocks) s × Distinct (engine 0 .same) (λ u. u .fingerprint) (s .used) × Picked (s .free) (s .used) t × (slot .0 ≡ pickedTaken (s .free) (s .used) t .slot)) ⌝ }
     ensures { λ r. ⌜ r ≤ b .held ⌝ }
-    ensures { λ r. ⌜ ((s : Box (Fixed 32) (Fixed (b .size))) → Rep b (now (disk .entry)) (now (flash .entry)) (now (addrs .entry)) (now (blocks .entry)) s → Distinct (engine 0 .same) (λ u. u .fingerprint) (s .used) → Picked (s .free) (s .used) t → k ≡ pickedTaken (s .free) (s .used) t .slot
+    ensures { λ r. ⌜ ((s : Box (Fixed 32) (Fixed (b .size))) → Rep b (now (disk .entry)) (now (flash .entry)) (now (addrs .entry)) (now (blocks .entry)) s → Distinct (engine 0 .same) (λ u. u .fingerprint) (s .used) → Picked (s .free) (s .used) t → slot .0 ≡ pickedTaken (s .free) (s .used) t .slot
         → record { count = r; disk = now (disk .exit); addrs = now (addrs .exit) } ≡ copiedRows b (isLost (engine (b .size)) (pickedTaken (s .free) (s .used) t .lost)) s (b .held)) ⌝ }
 {
     if !tables::find::flag_at(blocks, t) {
@@ -124,25 +125,26 @@ pub fn lose(
     }
     let at = t * 40;
     let end = at + 32;
-    copy::clean_rows(b, disk, flash, addrs, blocks, &blocks[at..end], k)
+    copy::clean_rows(b, disk, flash, addrs, blocks, &blocks[at..end], slot)
 }
 
-// Puts `block` into slot `k`, and `g` into the block row at `t`, which becomes newest.
+// Puts `block` into `slot`, and `g` into the block row at `t`, which becomes newest.
 pub fn fill(
     b: BoxRecord,
     t: usize,
-    k: usize,
+    slot: FlashSlot,
     flash: &mut [u8],
     blocks: &mut [u8],
     g: &[u8],
     block: &[u8],
 )
-    requires { ⌜ (t < b .slots) × (k * b .size + b .size ≤ length (now flash)) × (length (now g) ≡ 32) × (length (now block) ≡ b .size) × (length (now blocks) ≡ b .slots * 40) ⌝ }
-    ensures { λ _. ⌜ ((free : List ℕ) (used : List (BlockRow (Fixed 32))) (fl : List (Fixed (b .size))) (f : Fixed 32) (x : Fixed (b .size)) → Blocks (b .slots) (now (blocks .entry)) free used → Parts (b .size) (b .slots) (now (flash .entry)) fl → Picked free used t → k < b .slots → k ≡ pickedTaken free used t .slot
+    requires { ⌜ (t < b .slots) × (slot .0 * b .size + b .size ≤ length (now flash)) × (length (now g) ≡ 32) × (length (now block) ≡ b .size) × (length (now blocks) ≡ b .slots * 40) ⌝ }
+    ensures { λ _. ⌜ ((free : List ℕ) (used : List (BlockRow (Fixed 32))) (fl : List (Fixed (b .size))) (f : Fixed 32) (x : Fixed (b .size)) → Blocks (b .slots) (now (blocks .entry)) free used → Parts (b .size) (b .slots) (now (flash .entry)) fl → Picked free used t → slot .0 < b .slots → slot .0 ≡ pickedTaken free used t .slot
         → f .0 ≡ now (g .entry) → x .0 ≡ now (block .entry)
-        → (now (flash .exit) ≡ join (set fl k x)) × (now (blocks .exit) ≡ blocksOf (pickedTaken free used t .free) (pickedTaken free used t .used ++ (blockRow f k ∷ [])))) ⌝ }
+        → (now (flash .exit) ≡ join (set fl (slot .0) x)) × (now (blocks .exit) ≡ blocksOf (pickedTaken free used t .free) (pickedTaken free used t .used ++ (blockRow f (slot .0) ∷ [])))) ⌝ }
 {
-    block::put(block, flash, k * b.size);
+    let k = slot.0;
+    block::put(block, flash, k as usize * b.size);
     tables::put::put_block(blocks, b.slots, t, g);
 }
 
@@ -164,11 +166,9 @@ pub fn store(
         ≡ out4 b (stored (engine (b .size)) (s .rows) (s .used) (s .flash) (s .disk) f x 0 (taken (engine (b .size)) (s .rows) (s .free) (s .used)))) ⌝ }
 {
     let t = rows::victim(addrs, b.held, blocks, b.slots);
-    let x = tables::find::slot_at(blocks, t);
-    let n = x.0;
-    let k = n as usize;
-    let count = lose(b, t, k, disk, flash, addrs, blocks);
-    fill(b, t, k, flash, blocks, g, block);
+    let slot = tables::find::slot_at(blocks, t);
+    let count = lose(b, t, slot, disk, flash, addrs, blocks);
+    fill(b, t, slot, flash, blocks, g, block);
     count
 }
 

@@ -25,15 +25,15 @@ in-place c =
     let a = start (c .before) .args in
     subst (PartIn (a .b) (a .flash .now) (a .disk .now) (a .a .0)) (sym (c .place-of .ensures noCounts)) (where-in (a .b) (a .disk .now) (a .flash .now) (a .addresses .now) (a .blocks .now) noCounts (a .a .0) (bytesA (c .before)) (bytesB (c .before)))
 
-block-of-requires : tie.Need-block-of-requires
-block-of-requires c κs =
+in-slot-requires : tie.Need-in-slot-requires
+in-slot-requires c κs =
     let s = c .before in
     let p = s .before .before in
     let a = start (p .before) .args in
     subst (PartIn (a .b) (a .flash .now) (a .disk .now) (a .a .0)) (s .s .given .1) (in-place p)
 
-block-of-requires-2 : tie.Need-block-of-requires-2
-block-of-requires-2 c κs =
+at-address-requires : tie.Need-at-address-requires
+at-address-requires c κs =
     let p = c .before .before in
     let a = start (p .before) .args in
     subst (PartIn (a .b) (a .flash .now) (a .disk .now) (a .a .0)) (c .enum-told2 .given .1) (in-place p)
@@ -54,7 +54,7 @@ returns-2 c k =
     let p = s .before .before in
     let h = p .before in
     let a = start h .args in
-    c .block-of .ensures ∙ ap (partAt (a .b .size) (a .a .0) (a .flash .now) (a .disk .now)) (sym (s .s .given .1) ∙ p .place-of .ensures k) ∙ look-returns (a .b) (a .disk .now) (a .flash .now) (a .addresses .now) (a .blocks .now) k (a .a .0) (bytesA h) (bytesB h)
+    c .in-slot .ensures ∙ ap (partAt (a .b .size) (a .a .0) (a .flash .now) (a .disk .now)) (sym (s .s .given .1) ∙ p .place-of .ensures k) ∙ look-returns (a .b) (a .disk .now) (a .flash .now) (a .addresses .now) (a .blocks .now) k (a .a .0) (bytesA h) (bytesB h)
 
 returns-3 : tie.Need-returns-3
 unfolding partAt
@@ -63,9 +63,9 @@ returns-3 c k =
     let p = e .before .before in
     let h = p .before in
     let a = start h .args in
-    c .block-of2 .ensures ∙ ap (partAt (a .b .size) (a .a .0) (a .flash .now) (a .disk .now)) (sym (e .enum-told2 .given .1) ∙ p .place-of .ensures k) ∙ look-returns (a .b) (a .disk .now) (a .flash .now) (a .addresses .now) (a .blocks .now) k (a .a .0) (bytesA h) (bytesB h)
+    c .at-address .ensures ∙ ap (partAt (a .b .size) (a .a .0) (a .flash .now) (a .disk .now)) (sym (e .enum-told2 .given .1) ∙ p .place-of .ensures k) ∙ look-returns (a .b) (a .disk .now) (a .flash .now) (a .addresses .now) (a .blocks .now) k (a .a .0) (bytesA h) (bytesB h)
 
 pub look-part-spec : {M : Type 1} → statement M
 look-part-spec =
     tie.close
-    (tie.spec (λ c κs. search needs) (λ c. search needs) (λ c. search needs) (λ c. search needs) (λ c. search needs) (λ c. search needs) (λ c. search needs) block-of-requires (λ c. search needs) (λ c. search needs) block-of-requires-2 returns returns-2 returns-3)
+    (tie.spec (λ c κs. search needs) (λ c. search needs) (λ c. search needs) (λ c. search needs) (λ c. search needs) (λ c. search needs) in-slot-requires (λ c. search needs) at-address-requires returns returns-2 returns-3)

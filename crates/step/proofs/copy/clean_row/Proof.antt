@@ -29,7 +29,7 @@ copy-block-requires : tie.Need-copy-block-requires
 copy-block-requires c κs =
     let start = c .before .before .before .before .before .before .before .before .before .before .before .before .before .before in
     let a = start .args in
-    copy-fits (a .b) (a .disk .now) (a .flash .now) (a .addrs .now) (a .blocks .now) (start .pre .1 .0) (start .pre .1 .1) (a .i) (start .pre .0 .0) (c .before .address-at .result .0) (a .k) (c .before .address-at .ensures) (start .pre .0 .1)
+    copy-fits (a .b) (a .disk .now) (a .flash .now) (a .addrs .now) (a .blocks .now) (start .pre .1 .0) (start .pre .1 .1) (a .i) (start .pre .0 .0) (c .before .address-at .result .0) (a .slot .0) (c .before .address-at .ensures) (start .pre .0 .1)
 
 returns-3 : tie.Need-returns-3
 returns-3 c =
@@ -46,7 +46,7 @@ returns-3 c =
           let y = sym (row-fp (a .b) (a .disk .now) (a .flash .now) (a .addrs .now) (a .blocks .now) s h (a .i) (start .pre .0 .0) (a .g .now) v e) ∙ sym (at-fingerprint-is .fingerprint-is .ensures) ∙ not-false _ (at-if2 .if2 .left) in
           rw (c .before .before .set-clean .ensures, at-copy-block .copy-block .ensures)
           (row-copied (a .b) (a .disk .now) (a .flash .now) (a .addrs .now) (a .blocks .now) s h (engine (a .b .size) .same v) (a .i) (start .pre .0 .0) (both-yes _ (engine (a .b .size) .same v (getD (s .rows) (a .i) noRow .fingerprint)) (sym (at-flag-at .flag-at .ensures) ∙ not-false _ (at-if1 .if1 .left)) y)
-          (at-address-at .address-at .result .0) (a .k) (at-address-at .address-at .ensures) (sym k ∙ same-slot (a .b .size) v (getD (s .rows) (a .i) noRow .fingerprint) (s .used) y) (start .pre .0 .1)),
+          (at-address-at .address-at .result .0) (a .slot .0) (at-address-at .address-at .ensures) (sym k ∙ same-slot (a .b .size) v (getD (s .rows) (a .i) noRow .fingerprint) (s .used) y) (start .pre .0 .1)),
     )
 
 pub clean-row-spec : {M : Type 1} → statement M
@@ -60,6 +60,7 @@ clean-row-spec =
     (λ c. search needs)
     returns-2
     (λ c κs. search needs)
+    (λ c. search needs)
     (λ c. search needs)
     copy-block-requires
     (λ c κs. search needs)

@@ -1,5 +1,4 @@
 -- the rows before row i are done: each turn is `part-step`
--- STDIMP
 use mathlib.Core.Path.{_≡_, refl, ap, _∙_}
 use Prim.Native.Nat.{_≤_, _-_}
 use native.Mathlib.Omega.{arith}
@@ -14,11 +13,11 @@ use Rattle.step.proofs.copy.clean_rows.Statement.{statement}
 use Rattle.step.proofs.copy.clean_rows.Tie as tie
 
 abbrev Inv-loop : tie.InvT-loop
-Inv-loop b disk₀ flash addrs₀ blocks g k count₀ i₀ disk addrs count i =
-    (i ≤ b .held) × (count ≤ i) × (length disk ≡ length disk₀) × (length addrs ≡ length addrs₀) × ((s : Box (Fixed 32) (Fixed (b .size))) → Rep b disk₀ flash addrs₀ blocks s → (v : Fixed 32) → v .0 ≡ g → slotOf (engine (b .size)) v (s .used) ≡ k → _≡_ {A = Copied} (record { count = count; disk = disk; addrs = addrs }) (copiedRows b (engine (b .size) .same v) s i))
+Inv-loop b disk₀ flash addrs₀ blocks g slot count₀ i₀ disk addrs count i =
+    (i ≤ b .held) × (count ≤ i) × (length disk ≡ length disk₀) × (length addrs ≡ length addrs₀) × ((s : Box (Fixed 32) (Fixed (b .size))) → Rep b disk₀ flash addrs₀ blocks s → (v : Fixed 32) → v .0 ≡ g → slotOf (engine (b .size)) v (s .used) ≡ slot .0 → _≡_ {A = Copied} (record { count = count; disk = disk; addrs = addrs }) (copiedRows b (engine (b .size) .same v) s i))
 
 abbrev μ-loop : tie.MeasureT-loop
-μ-loop b disk₀ flash addrs₀ blocks g k count₀ i₀ disk addrs count i =
+μ-loop b disk₀ flash addrs₀ blocks g slot count₀ i₀ disk addrs count i =
     b .held - i
 
 loop-holds : tie.Need-loop-holds Inv-loop μ-loop

@@ -26,7 +26,7 @@ copy-block-requires c κs =
     let s = start .pre .1 .0 in
     let h = start .pre .1 .1 in
     let f = getD (s .rows) (a .i) noRow .fingerprint in
-    copy-fits (a .b) (a .disk .now) (a .flash .now) (a .addrs .now) (a .blocks .now) s h (a .i) (start .pre .0 .0) (c .before .address-at .result .0) (at-slot-for .slot-for .result) (c .before .address-at .ensures)
+    copy-fits (a .b) (a .disk .now) (a .flash .now) (a .addrs .now) (a .blocks .now) s h (a .i) (start .pre .0 .0) (c .before .address-at .result .0) (at-slot-for .slot-for .result .0) (c .before .address-at .ensures)
     (rw (at-slot-for .slot-for .ensures 0 (s .free) (s .used) f (h .blocks-are) (sym (fp-part (a .b .blocks) (a .b .rows) (a .b .held) (a .addrs .now) (s .rows) (h .rows-are) (a .i) (start .pre .0 .0) noRow (a .i * 40 + 4 + 32 - (a .i * 40 + 4)) (omega arith))))
     (slotOf-below 0 (a .b .slots) f (s .used) (start .pre .0 .1) (h .blocks-are .used-below)))
 
@@ -45,7 +45,7 @@ returns-2 c =
           let k = at-slot-for .slot-for .ensures (a .b .size) (s .free) (s .used) f (h .blocks-are) (sym (fp-part (a .b .blocks) (a .b .rows) (a .b .held) (a .addrs .now) (s .rows) (h .rows-are) (a .i) (start .pre .0 .0) noRow (a .i * 40 + 4 + 32 - (a .i * 40 + 4)) (omega arith))) in
           rw (c .before .before .set-clean .ensures, at-copy-block .copy-block .ensures)
           (row-copied (a .b) (a .disk .now) (a .flash .now) (a .addrs .now) (a .blocks .now) s h (λ f. true) (a .i) (start .pre .0 .0) (both-yes _ true (sym (at-flag-at .flag-at .ensures) ∙ not-false _ (at-if1 .if1 .left)) refl)
-          (at-address-at .address-at .result .0) (at-slot-for .slot-for .result) (at-address-at .address-at .ensures) k (rw k (slotOf-below (a .b .size) (a .b .slots) f (s .used) (start .pre .0 .1) (h .blocks-are .used-below)))),
+          (at-address-at .address-at .result .0) (at-slot-for .slot-for .result .0) (at-address-at .address-at .ensures) k (rw k (slotOf-below (a .b .size) (a .b .slots) f (s .used) (start .pre .0 .1) (h .blocks-are .used-below)))),
     )
 
 pub flush-row-spec : {M : Type 1} → statement M
@@ -63,6 +63,7 @@ flush-row-spec =
     (λ c. search needs)
     (λ c κs. search needs)
     (λ c κs. search needs)
+    (λ c. search needs)
     (λ c. search needs)
     copy-block-requires
     (λ c κs. search needs)

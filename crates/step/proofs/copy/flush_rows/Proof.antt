@@ -1,5 +1,4 @@
 -- the rows before row i are done: each turn is `part-step`
--- STDIMP
 use mathlib.Core.Path.{_≡_, refl, ap, _∙_}
 use mathlib.Core.Bool.{true}
 use Prim.Native.Nat.{_≤_, _-_}

@@ -20,4 +20,4 @@ returns-2 c =
 
 pub slot-for-spec : {M : Type 1} → statement M
 slot-for-spec =
-    tie.close (tie.spec (λ c κs. search needs) returns (λ c κs. search needs) (λ c. search needs) returns-2)
+    tie.close (tie.spec (λ c κs. search needs) returns (λ c κs. search needs) returns-2)

@@ -69,7 +69,6 @@ store-spec =
     (tie.spec
     victim-requires
     (λ c κs. search needs)
-    (λ c. search needs)
     lose-requires
     fill-requires
     (λ c. search needs)
