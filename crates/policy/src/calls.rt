@@ -100,11 +100,12 @@ pub fn read(
     ensures { λ r. ⌜ told r (now (disk .exit)) (now (flash .exit)) (now (addresses .exit)) (now (blocks .exit)) (Option.some (now (block .exit)))
         ≡ called b (lent b (now (disk .entry)) (now (flash .entry)) (now (addresses .entry)) (now (blocks .entry)) (countersOf c)) (Ask.read (a .0) (now (block .entry))) ⌝ }
 {
-    let number = refusals::of_access(b, a, disk, flash, addresses, blocks, c, block);
+    let mut places = [0u16; 1024];
+    let number = refusals::of_access(b, a, disk, flash, addresses, blocks, c, block, &mut places);
     if number != 0 {
         return refused(number, b, c);
     }
-    let s = serve::serve_read(b, a, disk, flash, addresses, blocks, block);
+    let s = serve::serve_read(b, a, disk, flash, addresses, blocks, block, &mut places);
     answered(b, read_word(s.yes), s, c, 1, one_if(s.yes))
 }
 
@@ -122,11 +123,12 @@ pub fn write_through(
     ensures { λ r. ⌜ told r (now (disk .exit)) (now (flash .exit)) (now (addresses .exit)) (now (blocks .exit)) (Option.some (now (block .entry)))
         ≡ called b (lent b (now (disk .entry)) (now (flash .entry)) (now (addresses .entry)) (now (blocks .entry)) (countersOf c)) (Ask.through (a .0) (now (block .entry))) ⌝ }
 {
-    let number = refusals::of_access(b, a, disk, flash, addresses, blocks, c, block);
+    let mut places = [0u16; 1024];
+    let number = refusals::of_access(b, a, disk, flash, addresses, blocks, c, block, &mut places);
     if number != 0 {
         return refused(number, b, c);
     }
-    let s = serve::serve_through(b, a, disk, flash, addresses, blocks, block);
+    let s = serve::serve_through(b, a, disk, flash, addresses, blocks, block, &mut places);
     answered(b, write_word(s.yes), s, c, 0, 0)
 }
 
@@ -144,11 +146,12 @@ pub fn write_back(
     ensures { λ r. ⌜ told r (now (disk .exit)) (now (flash .exit)) (now (addresses .exit)) (now (blocks .exit)) (Option.some (now (block .entry)))
         ≡ called b (lent b (now (disk .entry)) (now (flash .entry)) (now (addresses .entry)) (now (blocks .entry)) (countersOf c)) (Ask.back (a .0) (now (block .entry))) ⌝ }
 {
-    let number = refusals::of_access(b, a, disk, flash, addresses, blocks, c, block);
+    let mut places = [0u16; 1024];
+    let number = refusals::of_access(b, a, disk, flash, addresses, blocks, c, block, &mut places);
     if number != 0 {
         return refused(number, b, c);
     }
-    let s = serve::serve_back(b, a, disk, flash, addresses, blocks, block);
+    let s = serve::serve_back(b, a, disk, flash, addresses, blocks, block, &mut places);
     answered(b, write_word(s.yes), s, c, 0, 0)
 }
 
@@ -166,7 +169,8 @@ pub fn write_invalidate(
     ensures { λ r. ⌜ told r (now (disk .exit)) (now (flash .entry)) (now (addresses .exit)) (now (blocks .exit)) (Option.some (now (block .entry)))
         ≡ called b (lent b (now (disk .entry)) (now (flash .entry)) (now (addresses .entry)) (now (blocks .entry)) (countersOf c)) (Ask.invalidate (a .0) (now (block .entry))) ⌝ }
 {
-    let number = refusals::of_access(b, a, disk, flash, addresses, blocks, c, block);
+    let mut places = [0u16; 1024];
+    let number = refusals::of_access(b, a, disk, flash, addresses, blocks, c, block, &mut places);
     if number != 0 {
         return refused(number, b, c);
     }

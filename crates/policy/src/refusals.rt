@@ -8,6 +8,7 @@ ghost use lib.ListN.{length};
 ghost use Rattle.tables.specs.Unsound.{elem};
 ghost use Rattle.paper.specs.Cache.{Counters};
 ghost use Rattle.paper.specs.Lent.{Ask, opening, calling, between, unfit, over, refusal};
+ghost use Rattle.step.specs.Steps.{Placed};
 ghost use Rattle.policy.specs.Contract.{numbersOf, countersOf, lent};
 ghost use Rattle.policy.specs.Checks.{sizes, wrongLengths, tablesRefusal, stateRefusal};
 
@@ -98,21 +99,13 @@ pub fn of_opening(b: BoxRecord, disk: &[u8], flash: &[u8], addresses: &[u8], blo
     0
 }
 
-// Refusals 6, 7 and 8, of tables with the box's lengths.
-pub(crate) fn of_tables(b: BoxRecord, addresses: &[u8], blocks: &[u8]) -> u32
-    requires { ⌜ (b .blocks ≤ 65536) × (b .rows ≤ 1024) × (b .slots ≤ 256) × (length (now addresses) ≡ b .rows * 40) × (length (now blocks) ≡ b .slots * 40) ⌝ }
+// Refusals 6, 7 and 8, of tables with the box's lengths. Where none applies, `places` has the place of each held row's block row.
+pub(crate) fn of_tables(b: BoxRecord, addresses: &[u8], blocks: &[u8], places: &mut [u16]) -> u32
+    requires { ⌜ (b .blocks ≤ 65536) × (b .rows ≤ 1024) × (b .slots ≤ 256) × (length (now addresses) ≡ b .rows * 40) × (length (now blocks) ≡ b .slots * 40) × (length (now places) ≡ 1024) ⌝ }
     ensures { λ r. ⌜ r ≡ tablesRefusal b (now (addresses .entry)) (now (blocks .entry)) ⌝ }
+    ensures { λ r. ⌜ (r ≡ 0 → Placed (b .held) (b .slots) (now (addresses .entry)) (now (blocks .entry)) (now (places .exit))) ⌝ }
 {
-    let mut places = [0u16; 1024];
-    tables::sound::tables_refused(
-        addresses,
-        b.rows,
-        b.held,
-        b.blocks,
-        blocks,
-        b.slots,
-        &mut places,
-    )
+    tables::sound::tables_refused(addresses, b.rows, b.held, b.blocks, blocks, b.slots, places)
 }
 
 // Refusal 9: a counter above 2 to the power 63.
@@ -139,12 +132,19 @@ pub(crate) fn address_outside(b: BoxRecord, a: SourceAddress) -> bool
     b.blocks <= n as usize
 }
 
-// Refusals 6, 7, 8 and 9, of tables with the box's lengths.
-pub(crate) fn of_state(b: BoxRecord, addresses: &[u8], blocks: &[u8], c: counters::Counters) -> u32
-    requires { ⌜ (b .blocks ≤ 65536) × (b .rows ≤ 1024) × (b .slots ≤ 256) × (length (now addresses) ≡ b .rows * 40) × (length (now blocks) ≡ b .slots * 40) ⌝ }
+// Refusals 6, 7, 8 and 9, of tables with the box's lengths. Where none applies, `places` has the place of each held row's block row.
+pub(crate) fn of_state(
+    b: BoxRecord,
+    addresses: &[u8],
+    blocks: &[u8],
+    c: counters::Counters,
+    places: &mut [u16],
+) -> u32
+    requires { ⌜ (b .blocks ≤ 65536) × (b .rows ≤ 1024) × (b .slots ≤ 256) × (length (now addresses) ≡ b .rows * 40) × (length (now blocks) ≡ b .slots * 40) × (length (now places) ≡ 1024) ⌝ }
     ensures { λ r. ⌜ r ≡ stateRefusal b (now (addresses .entry)) (now (blocks .entry)) (countersOf c) ⌝ }
+    ensures { λ r. ⌜ (r ≡ 0 → Placed (b .held) (b .slots) (now (addresses .entry)) (now (blocks .entry)) (now (places .exit))) ⌝ }
 {
-    let state = of_tables(b, addresses, blocks);
+    let state = of_tables(b, addresses, blocks, places);
     if state != 0 {
         return state;
     }
@@ -154,7 +154,7 @@ pub(crate) fn of_state(b: BoxRecord, addresses: &[u8], blocks: &[u8], c: counter
     0
 }
 
-// The refusal of a read or a write.
+// The refusal of a read or a write. Where it is 0, `places` has the place of each held row's block row.
 pub fn of_access(
     b: BoxRecord,
     a: SourceAddress,
@@ -164,8 +164,11 @@ pub fn of_access(
     blocks: &[u8],
     c: counters::Counters,
     block: &[u8],
+    places: &mut [u16],
 ) -> u32
+    requires { ⌜ length (now places) ≡ 1024 ⌝ }
     ensures { λ r. ⌜ r ≡ refusal (numbersOf b) (lent b (now (disk .entry)) (now (flash .entry)) (now (addresses .entry)) (now (blocks .entry)) (countersOf c)) (calling (Ask.read (a .0) (now (block .entry)))) ⌝ }
+    ensures { λ r. ⌜ (r ≡ 0 → Placed (b .held) (b .slots) (now (addresses .entry)) (now (blocks .entry)) (now (places .exit))) ⌝ }
 {
     let first = of_opening(b, disk, flash, addresses, blocks);
     if first != 0 {
@@ -177,7 +180,7 @@ pub fn of_access(
     if address_outside(b, a) {
         return 3;
     }
-    of_state(b, addresses, blocks, c)
+    of_state(b, addresses, blocks, c, places)
 }
 
 // The refusal of a look.
@@ -198,7 +201,8 @@ pub fn of_look(
     if address_outside(b, a) {
         return 3;
     }
-    of_tables(b, addresses, blocks)
+    let mut places = [0u16; 1024];
+    of_tables(b, addresses, blocks, &mut places)
 }
 
 // The refusal of a flush.
@@ -216,5 +220,6 @@ pub fn of_flush(
     if first != 0 {
         return first;
     }
-    of_state(b, addresses, blocks, c)
+    let mut places = [0u16; 1024];
+    of_state(b, addresses, blocks, c, &mut places)
 }

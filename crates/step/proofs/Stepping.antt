@@ -70,7 +70,7 @@ after-below P true [] q = q
 after-below P true (r ∷ l) q = q
 after-below P false l q = q
 
-oldest-is : {B : ℕ} (s : Box (Fixed 32) (Fixed B)) (l : List (AddressRow (Fixed 32))) → 0 < length l
+pub oldest-is : {B : ℕ} (s : Box (Fixed 32) (Fixed B)) (l : List (AddressRow (Fixed 32))) → 0 < length l
     → oldestOut (engine B) s l ≡ record { rows = drop 1 l; gone = some (getD l 0 noRow .fingerprint); disk = copied (engine B) (λ f. true) (getD l 0 noRow ∷ []) (s .used) (s .flash) (s .disk); primary = copies (engine B) (λ f. true) (getD l 0 noRow ∷ []) }
 unfolding oldestOut
 oldest-is s [] h = absurd (omega arith)

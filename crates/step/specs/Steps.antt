@@ -5,9 +5,11 @@ use mathlib.Core.List.{List, [], _∷_, _++_}
 use mathlib.Core.Logic.{_⊎_}
 use mathlib.Core.Option.{Option, none, some}
 use Prim.Native.Nat.{ℕ, suc, _+_, _<_}
-use lib.Dec.{ltb}
+use lib.Dec.{eqb, ltb}
 use lib.ListN.{length, getD, set, take, drop}
 use Rattle.step.specs.declared.BoxRecord.{BoxRecord}
+use Rattle.tables.specs.Rows.{rows, rowAt}
+use Rattle.tables.specs.Index.{Places}
 use Rattle.paper.specs.Sound.{Sound}
 use Rattle.paper.specs.Cache.{Request, AddressRow, BlockRow, BlockRows, Box, RowOut, Taken, Stepped, blockRow, known, step1, step3, step4}
 use Rattle.paper.specs.Engine.{Fixed, fit}
@@ -81,6 +83,14 @@ after b t = record { held = length (t .box .rows); left = out4 b t }
 -- the request of a step
 abbrev pub asks : {B : ℕ} → ℕ → Fixed 32 → Fixed B → Bool → Request (Fixed 32) (Fixed B)
 asks a f x w = record { address = a; fingerprint = f; block = x; dirty = w }
+
+-- `places` has the place of the block row of each of the first n address rows
+abbrev pub Placed : (n d : ℕ) → (addrs blocks places : List ℕ) → Type 0
+Placed n d addrs blocks places = Places (rows d blocks) (rows n addrs) (take n places)
+
+-- no block row is free: the first one is used
+abbrev pub full : List ℕ → Bool
+full blocks = eqb (getD (rowAt blocks 0) 36 0) 1
 
 -- lent bytes of a sound box
 abbrev pub Sure : (b : BoxRecord) → Box (Fixed 32) (Fixed (b .size)) → Type 0

@@ -9,15 +9,15 @@ ghost use Prim.Native.Nat.{ℕ, _+_, _*_, _<_, _≤_};
 ghost use lib.ListN.{length, take, drop, getD};
 ghost use lib.Dec.{eqb, ltb};
 ghost use Rattle.tables.specs.Rows.{rowAt, rows};
-ghost use Rattle.tables.specs.Find.{every};
-ghost use Rattle.tables.specs.Index.{unique, Places};
+ghost use Rattle.tables.specs.Find.{every, findFrom, caches};
+ghost use Rattle.tables.specs.Index.{unique, code};
 ghost use Rattle.paper.specs.Cache.{AddressRow, BlockRow, known, someUncached};
 ghost use Rattle.paper.specs.Engine.{Fixed, engine};
 ghost use Rattle.paper.specs.Lent.{bit};
 ghost use Rattle.step.specs.Rep.{noRow};
 ghost use Rattle.paper.specs.Index.{indexWhere};
 ghost use Rattle.paper.specs.Layout.{Addrs, Blocks};
-ghost use Rattle.step.specs.Steps.{victimPlace};
+ghost use Rattle.step.specs.Steps.{victimPlace, Placed, full};
 
 // The index of the row of `a` among `n` held rows.
 pub fn row_of(t: &[u8], n: usize, a: SourceAddress) -> usize
@@ -52,54 +52,51 @@ pub fn place_of(t: &[u8], d: usize, g: &[u8]) -> usize
     }
 }
 
-// Fills `places` with the place of the block row of each of the first `k` held rows, or 256, by an index of the block rows.
-pub fn index_rows(addrs: &[u8], k: usize, blocks: &[u8], d: usize, places: &mut [u16])
-    requires { ⌜ (k * 40 ≤ length (now addrs)) × (length (now blocks) ≡ d * 40) × (d ≤ 256) × (k ≤ length (now places)) ⌝ }
-    requires { ⌜ every unique (rows d (now blocks)) ≡ true ⌝ }
-    ensures { λ _. ⌜ Places (rows d (now (blocks .entry))) (rows k (now (addrs .entry))) (take k (now (places .exit))) ⌝ }
-    ensures { λ _. ⌜ length (now (places .exit)) ≡ length (now (places .entry)) ⌝ }
+// What `places` has for a row of `g`: the place of its block row among `d`, or 256.
+pub fn entry_of(t: &[u8], d: usize, g: &[u8]) -> u16
+    requires { ⌜ (d * 40 ≤ length (now t)) × (length (now g) ≡ 32) × (d ≤ 256) ⌝ }
+    ensures { λ r. ⌜ r ≡ code (findFrom (caches (now (g .entry))) 0 (rows d (now (t .entry)))) ⌝ }
 {
-    let mut heads = [256u16; 16384];
-    tables::index::build(blocks, d, &mut heads);
-    tables::known::places_of_rows(addrs, k, blocks, d, &heads, places);
+    match tables::find::find_cached(t, d, g) {
+        Found::At(i) => i as u16,
+        Found::Nothing => 256,
+    }
 }
 
 // Whether one of the first `k` held rows has a fingerprint that is not cached.
-pub fn uncached(addrs: &[u8], k: usize, blocks: &[u8], d: usize) -> bool
-    requires { ⌜ (k * 40 ≤ length (now addrs)) × (length (now blocks) ≡ d * 40) × (d ≤ 256) × (k ≤ 1024) ⌝ }
-    requires { ⌜ every unique (rows d (now blocks)) ≡ true ⌝ }
+pub fn uncached(addrs: &[u8], k: usize, blocks: &[u8], d: usize, places: &[u16]) -> bool
+    requires { ⌜ (k ≤ length (now places)) × (d ≤ 256) ⌝ }
+    requires { ⌜ Placed k d (now addrs) (now blocks) (now places) ⌝ }
     ensures { λ r. ⌜ ((B P m n : ℕ) (rows : List (AddressRow (Fixed 32))) (free : List ℕ) (used : List (BlockRow (Fixed 32))) → Addrs P m n (now (addrs .entry)) rows → Blocks d (now (blocks .entry)) free used → k ≤ n → r ≡ someUncached (engine B) (take k rows) used) ⌝ }
 {
-    let mut places = [0u16; 1024];
-    index_rows(addrs, k, blocks, d, &mut places);
-    !tables::known::all_cached(addrs, k, blocks, d, &places)
+    !tables::known::all_cached(addrs, k, blocks, d, places)
 }
 
 // The place of the first of `d` used block rows whose fingerprint none of `n` held rows has.
-pub fn unknown_place(addrs: &[u8], n: usize, blocks: &[u8], d: usize) -> usize
-    requires { ⌜ (n * 40 ≤ length (now addrs)) × (length (now blocks) ≡ d * 40) × (d ≤ 256) × (n ≤ 1024) ⌝ }
+pub fn unknown_place(addrs: &[u8], n: usize, blocks: &[u8], d: usize, places: &[u16]) -> usize
+    requires { ⌜ (length (now blocks) ≡ d * 40) × (d ≤ 256) × (n ≤ length (now places)) ⌝ }
     requires { ⌜ every unique (rows d (now blocks)) ≡ true ⌝ }
+    requires { ⌜ Placed n d (now addrs) (now blocks) (now places) ⌝ }
     ensures { λ r. ⌜ ((B P m : ℕ) (rows : List (AddressRow (Fixed 32))) (used : List (BlockRow (Fixed 32))) → Addrs P m n (now (addrs .entry)) rows → Blocks d (now (blocks .entry)) [] used → r ≡ indexWhere (λ u. not (known (engine B) (u .fingerprint) rows)) used) ⌝ }
 {
-    let mut places = [0u16; 1024];
-    index_rows(addrs, n, blocks, d, &mut places);
-    match tables::known::oldest_unknown(addrs, n, blocks, d, &places) {
+    match tables::known::oldest_unknown(addrs, n, blocks, d, places) {
         Found::At(j) => j,
         Found::Nothing => d,
     }
 }
 
 // The place of the block row that step 4 takes.
-pub fn victim(addrs: &[u8], n: usize, blocks: &[u8], d: usize) -> usize
-    requires { ⌜ (n * 40 ≤ length (now addrs)) × (length (now blocks) ≡ d * 40) × (0 < d) × (d ≤ 256) × (n ≤ 1024) ⌝ }
+pub fn victim(addrs: &[u8], n: usize, blocks: &[u8], d: usize, places: &[u16]) -> usize
+    requires { ⌜ (length (now blocks) ≡ d * 40) × (0 < d) × (d ≤ 256) × (n ≤ length (now places)) ⌝ }
     requires { ⌜ every unique (rows d (now blocks)) ≡ true ⌝ }
+    requires { ⌜ (full (now blocks) ≡ true → Placed n d (now addrs) (now blocks) (now places)) ⌝ }
     ensures { λ r. ⌜ r < d ⌝ }
     ensures { λ r. ⌜ ((B P m : ℕ) (rows : List (AddressRow (Fixed 32))) (free : List ℕ) (used : List (BlockRow (Fixed 32))) → Addrs P m n (now (addrs .entry)) rows → Blocks d (now (blocks .entry)) free used → r ≡ victimPlace B rows free used) ⌝ }
 {
     if !tables::find::flag_at(blocks, 0) {
         return 0;
     }
-    let j = unknown_place(addrs, n, blocks, d);
+    let j = unknown_place(addrs, n, blocks, d, places);
     if j < d {
         return j;
     }

@@ -12,7 +12,7 @@ ghost use mathlib.Core.Option.{Option};
 ghost use Rattle.paper.specs.Cache.{Box, Call, serve, rowWithBlock};
 ghost use Rattle.paper.specs.Engine.{Fixed, engine};
 ghost use Rattle.step.specs.Rep.{Rep};
-ghost use Rattle.step.specs.Steps.{Sure};
+ghost use Rattle.step.specs.Steps.{Placed, Sure};
 ghost use Rattle.step.specs.Calls.{leaves, HitAt};
 
 // What a served call tells: whether its word is the first of its two, the rows held, and its flash and primary writes.
@@ -32,9 +32,11 @@ pub fn serve_back(
     addrs: &mut [u8],
     blocks: &mut [u8],
     block: &[u8],
+    places: &mut [u16],
 ) -> Served
-    requires { ⌜ (0 < b .rows) × (0 < b .slots) × (b .held ≤ b .rows) × (length (now addrs) ≡ b .rows * 40) × (length (now blocks) ≡ b .slots * 40) × (length (now block) ≡ b .size) × (a .0 < b .blocks) × (b .rows ≤ 1024) ⌝ }
+    requires { ⌜ (0 < b .rows) × (0 < b .slots) × (b .held ≤ b .rows) × (length (now addrs) ≡ b .rows * 40) × (length (now blocks) ≡ b .slots * 40) × (length (now block) ≡ b .size) × (a .0 < b .blocks) × (b .rows ≤ 1024) × (length (now places) ≡ 1024) ⌝ }
     requires { ⌜ ((s : Box (Fixed 32) (Fixed (b .size))) × Rep b (now disk) (now flash) (now addrs) (now blocks) s × Sure b s) ⌝ }
+    requires { ⌜ Placed (b .held) (b .slots) (now addrs) (now blocks) (now places) ⌝ }
     ensures { λ r. ⌜ (r .flashed ≤ 1) × (r .primary ≤ 2 + b .rows) ⌝ }
     ensures { λ r. ⌜ ((s : Box (Fixed 32) (Fixed (b .size))) (x : Fixed (b .size)) → Rep b (now (disk .entry)) (now (flash .entry)) (now (addrs .entry)) (now (blocks .entry)) s → Sure b s → x .0 ≡ now (block .entry)
         → record { yes = r .yes; held = r .held; left = (record { flashed = r .flashed; primary = r .primary; disk = now (disk .exit); flash = now (flash .exit); addrs = now (addrs .exit); blocks = now (blocks .exit) }); block = now (block .entry) }
@@ -42,7 +44,7 @@ pub fn serve_back(
 {
     let g = hash::sha256(block);
     let j = rows::place_of(blocks, b.slots, &g);
-    let d = steps::step(b, a, 1, disk, flash, addrs, blocks, &g, block);
+    let d = steps::step(b, a, 1, disk, flash, addrs, blocks, &g, block, places);
     Served {
         yes: j < b.slots,
         held: d.held,
@@ -84,9 +86,11 @@ pub fn serve_through(
     addrs: &mut [u8],
     blocks: &mut [u8],
     block: &[u8],
+    places: &mut [u16],
 ) -> Served
-    requires { ⌜ (0 < b .rows) × (0 < b .slots) × (b .held ≤ b .rows) × (length (now addrs) ≡ b .rows * 40) × (length (now blocks) ≡ b .slots * 40) × (length (now block) ≡ b .size) × (a .0 < b .blocks) × (b .rows ≤ 1024) × (length (now disk) ≡ b .blocks * b .size) ⌝ }
+    requires { ⌜ (0 < b .rows) × (0 < b .slots) × (b .held ≤ b .rows) × (length (now addrs) ≡ b .rows * 40) × (length (now blocks) ≡ b .slots * 40) × (length (now block) ≡ b .size) × (a .0 < b .blocks) × (b .rows ≤ 1024) × (length (now disk) ≡ b .blocks * b .size) × (length (now places) ≡ 1024) ⌝ }
     requires { ⌜ ((s : Box (Fixed 32) (Fixed (b .size))) × Rep b (now disk) (now flash) (now addrs) (now blocks) s × Sure b s) ⌝ }
+    requires { ⌜ Placed (b .held) (b .slots) (now addrs) (now blocks) (now places) ⌝ }
     ensures { λ r. ⌜ (r .flashed ≤ 1) × (r .primary ≤ 2 + b .rows) ⌝ }
     ensures { λ r. ⌜ ((s : Box (Fixed 32) (Fixed (b .size))) (x : Fixed (b .size)) → Rep b (now (disk .entry)) (now (flash .entry)) (now (addrs .entry)) (now (blocks .entry)) s → Sure b s → x .0 ≡ now (block .entry)
         → record { yes = r .yes; held = r .held; left = (record { flashed = r .flashed; primary = r .primary; disk = now (disk .exit); flash = now (flash .exit); addrs = now (addrs .exit); blocks = now (blocks .exit) }); block = now (block .entry) }
@@ -96,7 +100,7 @@ pub fn serve_through(
     let j = rows::place_of(blocks, b.slots, &g);
     let n = a.0;
     block::copy_block(block, 0, disk, n as usize, b.size);
-    let d = steps::step(b, a, 0, disk, flash, addrs, blocks, &g, block);
+    let d = steps::step(b, a, 0, disk, flash, addrs, blocks, &g, block, places);
     Served {
         yes: j < b.slots,
         held: d.held,
@@ -146,9 +150,11 @@ pub fn read_hit(
     addrs: &mut [u8],
     blocks: &mut [u8],
     block: &mut [u8],
+    places: &mut [u16],
 ) -> Served
-    requires { ⌜ (0 < b .rows) × (0 < b .slots) × (b .held ≤ b .rows) × (length (now addrs) ≡ b .rows * 40) × (length (now blocks) ≡ b .slots * 40) × (length (now block) ≡ b .size) × (a .0 < b .blocks) × (b .rows ≤ 1024) × (i < b .held) × (j < b .slots) ⌝ }
+    requires { ⌜ (0 < b .rows) × (0 < b .slots) × (b .held ≤ b .rows) × (length (now addrs) ≡ b .rows * 40) × (length (now blocks) ≡ b .slots * 40) × (length (now block) ≡ b .size) × (a .0 < b .blocks) × (b .rows ≤ 1024) × (i < b .held) × (j < b .slots) × (length (now places) ≡ 1024) ⌝ }
     requires { ⌜ ((s : Box (Fixed 32) (Fixed (b .size))) × Rep b (now disk) (now flash) (now addrs) (now blocks) s × Sure b s × HitAt b s (a .0) i j) ⌝ }
+    requires { ⌜ Placed (b .held) (b .slots) (now addrs) (now blocks) (now places) ⌝ }
     ensures { λ r. ⌜ (r .flashed ≤ 1) × (r .primary ≤ 2 + b .rows) ⌝ }
     ensures { λ r. ⌜ ((s : Box (Fixed 32) (Fixed (b .size))) (lent : List ℕ) → Rep b (now (disk .entry)) (now (flash .entry)) (now (addrs .entry)) (now (blocks .entry)) s → Sure b s → HitAt b s (a .0) i j
         → record { yes = r .yes; held = r .held; left = (record { flashed = r .flashed; primary = r .primary; disk = now (disk .exit); flash = now (flash .exit); addrs = now (addrs .exit); blocks = now (blocks .exit) }); block = now (block .exit) }
@@ -159,7 +165,7 @@ pub fn read_hit(
     let x = tables::find::slot_at(blocks, j);
     let k = x.0;
     block::copy_block(flash, k as usize, block, 0, b.size);
-    let d = steps::step(b, a, dirty, disk, flash, addrs, blocks, &g, block);
+    let d = steps::step(b, a, dirty, disk, flash, addrs, blocks, &g, block, places);
     Served {
         yes: true,
         held: d.held,
@@ -177,9 +183,11 @@ pub fn read_miss(
     addrs: &mut [u8],
     blocks: &mut [u8],
     block: &mut [u8],
+    places: &mut [u16],
 ) -> Served
-    requires { ⌜ (0 < b .rows) × (0 < b .slots) × (b .held ≤ b .rows) × (length (now addrs) ≡ b .rows * 40) × (length (now blocks) ≡ b .slots * 40) × (length (now block) ≡ b .size) × (a .0 < b .blocks) × (b .rows ≤ 1024) ⌝ }
+    requires { ⌜ (0 < b .rows) × (0 < b .slots) × (b .held ≤ b .rows) × (length (now addrs) ≡ b .rows * 40) × (length (now blocks) ≡ b .slots * 40) × (length (now block) ≡ b .size) × (a .0 < b .blocks) × (b .rows ≤ 1024) × (length (now places) ≡ 1024) ⌝ }
     requires { ⌜ ((s : Box (Fixed 32) (Fixed (b .size))) × Rep b (now disk) (now flash) (now addrs) (now blocks) s × Sure b s) ⌝ }
+    requires { ⌜ Placed (b .held) (b .slots) (now addrs) (now blocks) (now places) ⌝ }
     ensures { λ r. ⌜ (r .flashed ≤ 1) × (r .primary ≤ 2 + b .rows) ⌝ }
     ensures { λ r. ⌜ ((s : Box (Fixed 32) (Fixed (b .size))) (lent : List ℕ) → Rep b (now (disk .entry)) (now (flash .entry)) (now (addrs .entry)) (now (blocks .entry)) s → Sure b s → rowWithBlock (engine (b .size)) s (a .0) ≡ Option.none
         → record { yes = r .yes; held = r .held; left = (record { flashed = r .flashed; primary = r .primary; disk = now (disk .exit); flash = now (flash .exit); addrs = now (addrs .exit); blocks = now (blocks .exit) }); block = now (block .exit) }
@@ -188,7 +196,7 @@ pub fn read_miss(
     let n = a.0;
     block::copy_block(disk, n as usize, block, 0, b.size);
     let g = hash::sha256(block);
-    let d = steps::step(b, a, 0, disk, flash, addrs, blocks, &g, block);
+    let d = steps::step(b, a, 0, disk, flash, addrs, blocks, &g, block, places);
     Served {
         yes: false,
         held: d.held,
@@ -206,9 +214,11 @@ pub fn serve_read(
     addrs: &mut [u8],
     blocks: &mut [u8],
     block: &mut [u8],
+    places: &mut [u16],
 ) -> Served
-    requires { ⌜ (0 < b .rows) × (0 < b .slots) × (b .held ≤ b .rows) × (length (now addrs) ≡ b .rows * 40) × (length (now blocks) ≡ b .slots * 40) × (length (now block) ≡ b .size) × (a .0 < b .blocks) × (b .rows ≤ 1024) ⌝ }
+    requires { ⌜ (0 < b .rows) × (0 < b .slots) × (b .held ≤ b .rows) × (length (now addrs) ≡ b .rows * 40) × (length (now blocks) ≡ b .slots * 40) × (length (now block) ≡ b .size) × (a .0 < b .blocks) × (b .rows ≤ 1024) × (length (now places) ≡ 1024) ⌝ }
     requires { ⌜ ((s : Box (Fixed 32) (Fixed (b .size))) × Rep b (now disk) (now flash) (now addrs) (now blocks) s × Sure b s) ⌝ }
+    requires { ⌜ Placed (b .held) (b .slots) (now addrs) (now blocks) (now places) ⌝ }
     ensures { λ r. ⌜ (r .flashed ≤ 1) × (r .primary ≤ 2 + b .rows) ⌝ }
     ensures { λ r. ⌜ ((s : Box (Fixed 32) (Fixed (b .size))) (lent : List ℕ) → Rep b (now (disk .entry)) (now (flash .entry)) (now (addrs .entry)) (now (blocks .entry)) s → Sure b s
         → record { yes = r .yes; held = r .held; left = (record { flashed = r .flashed; primary = r .primary; disk = now (disk .exit); flash = now (flash .exit); addrs = now (addrs .exit); blocks = now (blocks .exit) }); block = now (block .exit) }
@@ -217,7 +227,7 @@ pub fn serve_read(
     let i = rows::row_of(addrs, b.held, a);
     let j = rows::place_of_row(b, i, addrs, blocks);
     if j < b.slots {
-        return read_hit(b, a, i, j, disk, flash, addrs, blocks, block);
+        return read_hit(b, a, i, j, disk, flash, addrs, blocks, block, places);
     }
-    read_miss(b, a, disk, flash, addrs, blocks, block)
+    read_miss(b, a, disk, flash, addrs, blocks, block, places)
 }

@@ -4,6 +4,7 @@ use mathlib.Core.Bool.{Bool, true, false, cond}
 use mathlib.Core.Option.{some}
 use Prim.Native.Nat.{ℕ, _≤_}
 use native.Mathlib.Omega.{arith}
+use lib.ListN.{length-replicate}
 use borrow.Author.Needs.{needs}
 use Rattle.paper.specs.Cache.{Call, hit, miss, serve}
 use Rattle.paper.specs.Engine.{engine}
@@ -15,22 +16,26 @@ use Rattle.policy.specs.CallLaws.{all-bytes, sure, rep, sizes, block-fit
 use Rattle.policy.proofs.calls.read.Statement.{statement}
 use Rattle.policy.proofs.calls.read.Tie as tie
 
+of-access-requires : tie.Need-of-access-requires
+of-access-requires c κs = length-replicate {A = ℕ} 1024 0
+
 -- the refusal is 0
-zero : (c : tie.Else1) → (let a = c .before .before .before .before .before .before .before .before .before .before .before .before .args in refusal (numbersOf (a .b)) (lent (a .b) (a .disk .now) (a .flash .now) (a .addresses .now) (a .blocks .now) (countersOf (a .c))) (calling (Ask.read (a .a .0) (a .block .now))) ≡ 0)
-zero c = sym (c .before .of-access .ensures) ∙ c .if1 .left
+zero : (c : tie.Else1) → (let a = c .before .before .before .before .before .before .before .before .before .before .before .before .before .before .args in refusal (numbersOf (a .b)) (lent (a .b) (a .disk .now) (a .flash .now) (a .addresses .now) (a .blocks .now) (countersOf (a .c))) (calling (Ask.read (a .a .0) (a .block .now))) ≡ 0)
+zero c = sym (c .before .before .of-access .ensures .0) ∙ c .if1 .left
 
 returns : tie.Need-returns
 returns c =
-    let x = c .before .before in
-    let a = x .before .before .before .before .before .before .before .before .before .before .before .args in
+    let x = c .before .before .before in
+    let a = x .before .before .before .before .before .before .before .before .before .before .before .before .args in
     ap (λ r. told r (a .disk .now) (a .flash .now) (a .addresses .now) (a .blocks .now) (some (a .block .now))) (c .refused .ensures)
-    ∙ keep (a .b) (a .disk .now) (a .flash .now) (a .addresses .now) (a .blocks .now) (a .c) (Ask.read (a .a .0) (a .block .now)) (x .of-access .result) (x .of-access .ensures) (c .before .if1 .taken)
+    ∙ keep (a .b) (a .disk .now) (a .flash .now) (a .addresses .now) (a .blocks .now) (a .c) (Ask.read (a .a .0) (a .block .now)) (x .of-access .result) (x .of-access .ensures .0) (c .before .if1 .taken)
 
 serve-read-requires : tie.Need-serve-read-requires
 serve-read-requires c κs =
-    let e = c .before .before .before .before .before in
-    let s = e .before .before .before .before .before .before .before .before in
+    let e = c .before .before .before .before .before .before in
+    let s = e .before .before .before .before .before .before .before .before .before .before in
     let a = s .before .before .before .before .args in
+    let w = e .before .before in
     let z = zero e in
     let x = all-bytes (a .addresses .now) (λ i. omega (arith, s .before .slice-known3 .given i)) in
     let y = all-bytes (a .blocks .now) (λ i. omega (arith, s .slice-known4 .given i)) in
@@ -46,28 +51,32 @@ serve-read-requires c κs =
         block-fits (a .b) (a .disk .now) (a .flash .now) (a .addresses .now) (a .blocks .now) k q z (a .block .now) refl,
         address-fits (a .b) (a .disk .now) (a .flash .now) (a .addresses .now) (a .blocks .now) k q z (a .a .0) refl,
         l .5,
+        w .of-access .kept .1 .1 .1 .1 .1 .1 .1 .1 .0 ∙ length-replicate {A = ℕ} 1024 0,
       ),
       (
-        boxIn (numbersOf (a .b)) (lent (a .b) (a .disk .now) (a .flash .now) (a .addresses .now) (a .blocks .now) k),
-        rep (a .b) (a .disk .now) (a .flash .now) (a .addresses .now) (a .blocks .now) k q z x y,
-        sure (a .b) (a .disk .now) (a .flash .now) (a .addresses .now) (a .blocks .now) k q z,
+        (
+          boxIn (numbersOf (a .b)) (lent (a .b) (a .disk .now) (a .flash .now) (a .addresses .now) (a .blocks .now) k),
+          rep (a .b) (a .disk .now) (a .flash .now) (a .addresses .now) (a .blocks .now) k q z x y,
+          sure (a .b) (a .disk .now) (a .flash .now) (a .addresses .now) (a .blocks .now) k q z,
+        ),
+        w .of-access .ensures .1 (e .if1 .left),
       ),
     )
 
 answered-requires : tie.Need-answered-requires
 answered-requires c κs =
-    let r = c .before .before .before .before .before .before .before .before .before .before .before .before in
-    let e = r .before .before .before .before .before .before in
-    let a = e .before .before .before .before .before .before .before .before .before .before .before .before .args in
+    let r = c .before .before .before .before .before .before .before .before .before .before .before .before .before in
+    let e = r .before .before .before .before .before .before .before in
+    let a = e .before .before .before .before .before .before .before .before .before .before .before .before .before .before .args in
     let o = served-finds (numbersOf (a .b)) (lent (a .b) (a .disk .now) (a .flash .now) (a .addresses .now) (a .blocks .now) (countersOf (a .c))) (Ask.read (a .a .0) (a .block .now)) (zero e) in
     fitting (a .c) (a .b .rows) 1 (c .one-if .result) (r .serve-read .result .flashed) (r .serve-read .result .primary) (o .counters) (o .fits .m-most) (omega arith) (one-le (r .serve-read .result .yes) (c .one-if .result) (c .one-if .ensures)) (r .serve-read .ensures .0 .0) (r .serve-read .ensures .0 .1)
 
 returns-2 : tie.Need-returns-2
 unfolding callOf
 returns-2 c =
-    let r = c .before .before .before .before .before .before .before .before .before .before .before .before .before in
-    let e = r .before .before .before .before .before .before in
-    let s = e .before .before .before .before .before .before .before .before in
+    let r = c .before .before .before .before .before .before .before .before .before .before .before .before .before .before in
+    let e = r .before .before .before .before .before .before .before in
+    let s = e .before .before .before .before .before .before .before .before .before .before in
     let a = s .before .before .before .before .args in
     let z = zero e in
     let x = all-bytes (a .addresses .now) (λ i. omega (arith, s .before .slice-known3 .given i)) in
@@ -94,7 +103,8 @@ pub read-spec : {M : Type 1} → statement M
 read-spec =
     tie.close
     (tie.spec
-    (λ c κs. search needs)
+    (λ c. search needs)
+    of-access-requires
     (λ c κs. search needs)
     (λ c. search needs)
     (λ c. search needs)
@@ -102,6 +112,7 @@ read-spec =
     (λ c. search needs)
     (λ c. search needs)
     returns
+    (λ c. search needs)
     serve-read-requires
     (λ c κs. search needs)
     (λ c κs. search needs)

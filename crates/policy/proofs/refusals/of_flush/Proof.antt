@@ -1,5 +1,7 @@
 -- What the opening's check gives, then the tables and the counters; a flush has no 3. Assumes nothing.
 use mathlib.Core.Path.{sym, _∙_}
+use Prim.Native.Nat.{ℕ}
+use lib.ListN.{length-replicate}
 use borrow.Author.Needs.{needs}
 use Rattle.paper.specs.Lent.{Ask}
 use Rattle.policy.specs.Contract.{numbersOf, countersOf, lent}
@@ -24,14 +26,15 @@ returns c =
 
 of-state-requires : tie.Need-of-state-requires
 of-state-requires c κs =
-    let o = opens c in
-    (o .most .blocks, o .most .rows, o .most .slots, o .lengths .addresses, o .lengths .blocks)
+    let o = opens (c .before) in
+    (o .most .blocks, o .most .rows, o .most .slots, o .lengths .addresses, o .lengths .blocks, length-replicate {A = ℕ} 1024 0)
 
 returns-2 : tie.Need-returns-2
 returns-2 c =
-    let e = c .before in
+    let t = c .before in
+    let e = t .before .before in
     let a = start e .args in
-    c .of-state .ensures ∙ flush-rest (a .b) (a .disk .now) (a .flash .now) (a .addresses .now) (a .blocks .now) (countersOf (a .c)) (opens e)
+    t .of-state .ensures .0 ∙ flush-rest (a .b) (a .disk .now) (a .flash .now) (a .addresses .now) (a .blocks .now) (countersOf (a .c)) (opens e)
 
 pub of-flush-spec : {M : Type 1} → statement M
-of-flush-spec = tie.close (tie.spec (λ c κs. search needs) returns of-state-requires returns-2)
+of-flush-spec = tie.close (tie.spec (λ c κs. search needs) returns (λ c. search needs) of-state-requires returns-2)

@@ -20,32 +20,32 @@ use Rattle.step.proofs.serve.read_hit.Tie as tie
 
 copy-block-requires : tie.Need-copy-block-requires
 copy-block-requires c κs =
-    let start = c .before .before .before .before .before .before .before .before .before .before .before .before .before in
+    let start = c .before .before .before .before .before .before .before .before .before .before .before .before .before .before in
     let a = start .args in
     let p = start .pre .0 in
-    let q = start .pre .1 in
+    let q = start .pre .1 .0 in
     (rw (parts-length (a .b .size) (a .b .slots) (a .flash .now) (q .0 .flash) (q .1 .flash-is)) (block-ends (c .before .before .slot-at .result .0) (a .b .slots) (a .b .size) (rw (slot-some (a .b .size) (a .b .slots) (a .blocks .now) (q .0 .free) (q .0 .used) (getD (q .0 .rows) (a .i) noRow .fingerprint) (q .1 .blocks-are) (a .j) (q .3 .place) (q .3 .is-cached) (c .before .before .slot-at .result .0) (c .before .before .slot-at .ensures)) (slotOf-below (a .b .size) (a .b .slots) (getD (q .0 .rows) (a .i) noRow .fingerprint) (q .0 .used) (p .1) (q .1 .blocks-are .used-below)))), omega (arith, p .5))
 
 step-requires : tie.Need-step-requires
 step-requires c κs =
-    let at-copy-block = c .before .before .before .before .before .before .before .before in
+    let at-copy-block = c .before .before .before .before .before .before .before .before .before in
     let at-dirty-at = at-copy-block .before .before .before .before .before in
     let at-fp-at = at-dirty-at .before .before in
-    let start = at-fp-at .before .before .before .before .before .before .before in
+    let start = at-fp-at .before .before .before .before .before .before .before .before in
     let a = start .args in
-    let q = start .pre .1 in
+    let q = start .pre .1 .0 in
     let p = start .pre .0 in
     let lb : length (at-copy-block .copy-block .last .1 .1 .0) ≡ a .b .size = at-copy-block .copy-block .kept .1 .1 .0 ∙ p .5 in
-    ((p .0, p .1, p .2, p .3, p .4, at-fp-at .fp-at .ensures .0, lb, p .6, p .7), (q .0, getD (q .0 .rows) (a .i) noRow .dirty, q .1, q .2, (at-dirty-at .dirty-at .ensures ∙ ap bit (dirty-is (a .b .blocks) (a .b .rows) (a .b .held) (a .addrs .now) (q .0 .rows) (q .1 .rows-are) (a .i) (start .pre .0 .8) noRow))))
+    ((p .0, p .1, p .2, p .3, p .4, at-fp-at .fp-at .ensures .0, lb, p .6, p .7, p .10), ((q .0, getD (q .0 .rows) (a .i) noRow .dirty, q .1, q .2, (at-dirty-at .dirty-at .ensures ∙ ap bit (dirty-is (a .b .blocks) (a .b .rows) (a .b .held) (a .addrs .now) (q .0 .rows) (q .1 .rows-are) (a .i) (start .pre .0 .8) noRow))), start .pre .1 .1))
 
 returns : tie.Need-returns
 returns c =
-    let at-step = c .before .before .before .before .before .before .before .before in
-    let at-copy-block = at-step .before .before .before .before .before .before .before .before .before in
+    let at-step = c .before .before .before .before .before .before .before .before .before .before in
+    let at-copy-block = at-step .before .before .before .before .before .before .before .before .before .before in
     let at-slot-at = at-copy-block .before .before .before in
     let at-dirty-at = at-slot-at .before .before in
     let at-fp-at = at-dirty-at .before .before in
-    let start = at-fp-at .before .before .before .before .before .before .before in
+    let start = at-fp-at .before .before .before .before .before .before .before .before in
     let a = start .args in
     let p = start .pre .0 in
     let w = at-step .step in (
@@ -72,6 +72,7 @@ read-hit-spec =
     copy-block-requires
     (λ c. search needs)
     step-requires
+    (λ c. search needs)
     (λ c. search needs)
     (λ c. search needs)
     (λ c. search needs)

@@ -18,25 +18,29 @@ use Rattle.step.proofs.serve.read_miss.Tie as tie
 
 copy-block-requires : tie.Need-copy-block-requires
 copy-block-requires c κs =
-    let start = c .before .before .before .before .before .before .before in
+    let start = c .before .before .before .before .before .before .before .before in
     let a = start .args in
     let p = start .pre .0 in
-    let q = start .pre .1 in
+    let q = start .pre .1 .0 in
     (rw (parts-length (a .b .size) (a .b .blocks) (a .disk .now) (q .0 .disk) (q .1 .disk-is)) (block-ends (a .a .0) (a .b .blocks) (a .b .size) (p .6)), omega (arith, p .5))
 
 step-requires : tie.Need-step-requires
 step-requires c κs =
-    let start = c .before .before .before .before .before .before .before .before .before .before .before .before .before .before .before .before .before .before in
-    let a = start .args in
-    let q = start .pre .1 in
-    (search needs, (q .0, false, q .1, q .2, refl))
+    let at-sha256 = c .before .before .before .before .before .before .before in
+    let at-copy-block = at-sha256 .before .before .before .before in
+    let start = at-copy-block .before .before .before .before .before .before .before .before .before in
+    let p = start .pre .0 in
+    let q = start .pre .1 .0 in
+    let g = at-sha256 .sha256 .ok in
+    let lb = at-copy-block .copy-block .kept .1 .1 .0 ∙ p .5 in
+    ((p .0, p .1, p .2, p .3, p .4, search needs, lb, p .6, p .7, p .8), ((q .0, false, q .1, q .2, refl), start .pre .1 .1))
 
 returns : tie.Need-returns
 returns c =
-    let at-step = c .before .before .before .before .before .before .before .before in
-    let at-sha256 = at-step .before .before .before .before .before .before .before in
+    let at-step = c .before .before .before .before .before .before .before .before .before .before in
+    let at-sha256 = at-step .before .before .before .before .before .before .before .before in
     let at-copy-block = at-sha256 .before .before .before .before in
-    let start = at-copy-block .before .before .before .before .before .before .before .before in
+    let start = at-copy-block .before .before .before .before .before .before .before .before .before in
     let a = start .args in
     let p = start .pre .0 in
     let w = at-step .step in (
@@ -60,6 +64,7 @@ read-miss-spec =
     (λ c κs. search needs)
     (λ c. search needs)
     step-requires
+    (λ c. search needs)
     (λ c. search needs)
     (λ c. search needs)
     (λ c. search needs)

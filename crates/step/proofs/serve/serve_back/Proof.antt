@@ -16,16 +16,16 @@ use Rattle.step.proofs.serve.serve_back.Tie as tie
 
 step-requires : tie.Need-step-requires
 step-requires c κs =
-    let start = c .before .before .before .before .before .before .before .before .before .before .before .before .before .before in
-    let q = start .pre .1 in
-    (search needs, (q .0, true, q .1, q .2, refl))
+    let start = c .before .before .before .before .before .before .before .before .before .before .before .before .before .before .before .before in
+    let q = start .pre .1 .0 in
+    (search needs, ((q .0, true, q .1, q .2, refl), start .pre .1 .1))
 
 returns : tie.Need-returns
 returns c =
-    let at-step = c .before .before .before .before .before .before .before .before .before in
-    let at-place-of = at-step .before .before .before .before .before .before in
+    let at-step = c .before .before .before .before .before .before .before .before .before .before .before in
+    let at-place-of = at-step .before .before .before .before .before .before .before in
     let at-sha256 = at-place-of .before .before .before in
-    let start = at-sha256 .before .before .before .before .before .before in
+    let start = at-sha256 .before .before .before .before .before .before .before in
     let a = start .args in
     let p = at-place-of .place-of in
     let w = at-step .step in (
@@ -47,6 +47,7 @@ serve-back-spec =
     (λ c κs. search needs)
     (λ c. search needs)
     step-requires
+    (λ c. search needs)
     (λ c. search needs)
     (λ c. search needs)
     (λ c. search needs)

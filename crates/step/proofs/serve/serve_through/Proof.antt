@@ -19,7 +19,7 @@ use Rattle.step.proofs.serve.serve_through.Tie as tie
 
 copy-block-requires : tie.Need-copy-block-requires
 copy-block-requires c κs =
-    let start = c .before .before .before .before .before .before .before .before .before .before in
+    let start = c .before .before .before .before .before .before .before .before .before .before .before in
     let a = start .args in
     let p = start .pre .0 in
     (omega (arith, p .5), rw (p .8) (block-ends (a .a .0) (a .b .blocks) (a .b .size) (p .6)))
@@ -27,27 +27,27 @@ copy-block-requires c κs =
 step-requires : tie.Need-step-requires
 step-requires c κs = (
   search needs,
-  let at-copy-block = c .before .before .before .before .before .before .before in
-      let start = at-copy-block .before .before .before .before .before .before .before .before .before .before .before in
+  let at-copy-block = c .before .before .before .before .before .before .before .before in
+      let start = at-copy-block .before .before .before .before .before .before .before .before .before .before .before .before in
       let a = start .args in
-      let q = start .pre .1 in
+      let q = start .pre .1 .0 in
       let x : Fixed (a .b .size) = (a .block .now, start .pre .0 .5) in
-      (onDisk (engine (a .b .size)) (q .0) (a .a .0) x, false, rep-onDisk (a .b) (a .disk .now) (a .flash .now) (a .addrs .now) (a .blocks .now) (q .0) (q .1) (a .a .0) (start .pre .0 .6) x _ (at-copy-block .copy-block .ensures ∙ ap (λ (y : List ℕ). splice (a .a .0 * a .b .size) y (a .disk .now)) (part-all (a .b .size) (a .block .now) (start .pre .0 .5) ∙ refl)), sound-onDisk (engine (a .b .size)) (a .b .rows) (a .b .slots) (a .b .blocks) (q .0) (a .a .0) x (q .2), refl),
+      ((onDisk (engine (a .b .size)) (q .0) (a .a .0) x, false, rep-onDisk (a .b) (a .disk .now) (a .flash .now) (a .addrs .now) (a .blocks .now) (q .0) (q .1) (a .a .0) (start .pre .0 .6) x _ (at-copy-block .copy-block .ensures ∙ ap (λ (y : List ℕ). splice (a .a .0 * a .b .size) y (a .disk .now)) (part-all (a .b .size) (a .block .now) (start .pre .0 .5) ∙ refl)), sound-onDisk (engine (a .b .size)) (a .b .rows) (a .b .slots) (a .b .blocks) (q .0) (a .a .0) x (q .2), refl), start .pre .1 .1),
 )
 
-add-t20 : tie.Need-add-t20
-add-t20 c =
-    let at-step = c .before .before .before .before .before .before .before .before .before .before in
-    let start = at-step .before .before .before .before .before .before .before .before .before .before .before .before .before .before .before .before .before .before .before in
+add-t21 : tie.Need-add-t21
+add-t21 c =
+    let at-step = c .before .before .before .before .before .before .before .before .before .before .before .before in
+    let start = at-step .before .before .before .before .before .before .before .before .before .before .before .before .before .before .before .before .before .before .before .before .before in
     omega (arith, at-step .step .ensures .0 .1, start .pre .0 .7)
 
 returns : tie.Need-returns
 returns c =
-    let at-step = c .before .before .before .before .before .before .before .before .before .before in
-    let at-copy-block = at-step .before .before .before .before .before .before .before .before in
+    let at-step = c .before .before .before .before .before .before .before .before .before .before .before .before in
+    let at-copy-block = at-step .before .before .before .before .before .before .before .before .before in
     let at-place-of = at-copy-block .before .before in
     let at-sha256 = at-place-of .before .before .before in
-    let start = at-sha256 .before .before .before .before .before .before in
+    let start = at-sha256 .before .before .before .before .before .before .before in
     let a = start .args in
     let p = at-place-of .place-of in
     let w = at-step .step in (
@@ -73,7 +73,8 @@ serve-through-spec =
     copy-block-requires
     (λ c. search needs)
     step-requires
-    add-t20
+    add-t21
+    (λ c. search needs)
     (λ c. search needs)
     (λ c. search needs)
     (λ c. search needs)

@@ -1,8 +1,13 @@
 -- By the three conditions of the step, in the order of the code. Assumes nothing.
-use mathlib.Core.Path.{sym, _∙_}
+use mathlib.Core.Path.{refl, sym, ap, _∙_}
 use Prim.Native.Nat.{_+_, _*_, _-_}
 use native.Mathlib.Omega.{arith}
 use lib.ListN.{take}
+use Rattle.tables.specs.Rows.{rows}
+use Rattle.tables.specs.PlaceLaws.{places-first}
+use Rattle.paper.specs.KeyedLaws.{clash}
+use Rattle.step.specs.Steps.{full}
+use Rattle.step.proofs.Placing.{front-free}
 use Rattle.step.proofs.Stepping.{gone-out, gone-known, gone-cached, gone-freed}
 use borrow.Author.Needs.{needs}
 use Rattle.step.proofs.steps.step3.Statement.{statement}
@@ -10,14 +15,20 @@ use Rattle.step.proofs.steps.step3.Tie as tie
 
 returns : tie.Need-returns
 returns c =
-    let a = c .before .before .before .args in
-    λ B l free used gone h hb ds e. gone-out B (a .b .slots) (a .blocks .now) (take (a .b .held - 1) l) l free used hb (a .place) gone e (c .if1 .taken)
+    let a = c .before .before .before .before .args in
+    ((λ B l free used gone h hb ds e. gone-out B (a .b .slots) (a .blocks .now) (take (a .b .held - 1) l) l free used hb (a .place) gone e (c .if1 .taken)), λ f. refl)
 
 returns-2 : tie.Need-returns-2
 returns-2 c =
     let at-if1 = c .before .before .before .before in
-    let a = at-if1 .before .before .before .args in
-    λ B l free used gone h hb ds e. gone-known B (a .b .slots) (a .blocks .now) (take (a .b .held - 1) l) l free used hb (a .place) (c .before .knows .result) (a .place * 40 + 32 - a .place * 40) (omega arith) (λ q. c .before .knows .ensures (a .b .blocks) (a .b .rows) l q h) (omega (arith, at-if1 .if1 .left)) gone e (c .if2 .taken)
+    let a = at-if1 .before .before .before .before .args in
+    ((λ B l free used gone h hb ds e. gone-known B (a .b .slots) (a .blocks .now) (take (a .b .held - 1) l) l free used hb (a .place) (c .before .knows .result) (a .place * 40 + 32 - a .place * 40) (omega arith) (λ q. c .before .knows .ensures (a .b .blocks) (a .b .rows) l q h) (omega (arith, at-if1 .if1 .left)) gone e (c .if2 .taken)), λ f. refl)
+
+uncached-requires : tie.Need-uncached-requires
+uncached-requires c κs =
+    let start = c .before .before .before .before .before .before .before .before .before .before in
+    let a = start .args in
+    (search needs, places-first (rows (a .b .slots) (a .blocks .now)) _ (a .b .held) (a .addrs .now) (a .places .now) (omega arith) (start .pre .1))
 
 returns-3 : tie.Need-returns-3
 returns-3 c =
@@ -26,17 +37,22 @@ returns-3 c =
     let at-if2 = at-uncached .before .before .before in
     let at-knows = at-if2 .before in
     let at-if1 = at-knows .before .before .before in
-    let a = at-if1 .before .before .before .args in
-    λ B l free used gone h hb ds e. c .before .before .to-front .ensures
-    ∙ gone-freed B (a .b .slots) (a .blocks .now) (take (a .b .held - 1) l) l free used hb (a .place) (at-knows .knows .result) (a .place * 40 + 32 - a .place * 40) (omega arith) (λ q. at-knows .knows .ensures (a .b .blocks) (a .b .rows) l q h) (omega (arith, at-if1 .if1 .left)) gone e (at-if2 .if2 .left) ds
-    (sym (at-uncached .uncached .ensures B (a .b .blocks) (a .b .rows) (a .b .held) l free used h hb (omega arith)) ∙ at-if3 .if3 .taken)
+    let start = at-if1 .before .before .before .before in
+    let a = start .args in (
+      (λ B l free used gone h hb ds e. c .before .before .to-front .ensures
+          ∙ gone-freed B (a .b .slots) (a .blocks .now) (take (a .b .held - 1) l) l free used hb (a .place) (at-knows .knows .result) (a .place * 40 + 32 - a .place * 40) (omega arith) (λ q. at-knows .knows .ensures (a .b .blocks) (a .b .rows) l q h) (omega (arith, at-if1 .if1 .left)) gone e (at-if2 .if2 .left) ds
+          (sym (at-uncached .uncached .ensures B (a .b .blocks) (a .b .rows) (a .b .held) l free used h hb (omega arith)) ∙ at-if3 .if3 .taken)),
+      λ f. clash (ap full (sym (c .before .before .to-front .ensures)) ∙ f) (front-free (a .b .slots) (a .place) (a .blocks .now) (start .pre .0 .3) (omega (arith, at-if1 .if1 .left))),
+    )
 
 returns-4 : tie.Need-returns-4
 returns-4 c =
-    let start = c .before .before .before .before .before .before .before .before .before .before .before in
-    let a = start .args in
-    λ B l free used gone h hb ds e. gone-cached B (a .b .slots) (a .blocks .now) (take (a .b .held - 1) l) l free used hb (a .place) gone
-    (sym (c .before .uncached .ensures B (a .b .blocks) (a .b .rows) (a .b .held) l free used h hb (omega arith)) ∙ c .if3 .left)
+    let start = c .before .before .before .before .before .before .before .before .before .before .before .before in
+    let a = start .args in (
+      (λ B l free used gone h hb ds e. gone-cached B (a .b .slots) (a .blocks .now) (take (a .b .held - 1) l) l free used hb (a .place) gone
+          (sym (c .before .uncached .ensures B (a .b .blocks) (a .b .rows) (a .b .held) l free used h hb (omega arith)) ∙ c .if3 .left)),
+      λ f. refl,
+    )
 
 pub step3-spec : {M : Type 1} → statement M
 step3-spec =
@@ -52,7 +68,7 @@ step3-spec =
     (λ c. search needs)
     returns-2
     (λ c. search needs)
-    (λ c κs. search needs)
+    uncached-requires
     (λ c κs. search needs)
     (λ c. search needs)
     returns-3

@@ -10,7 +10,7 @@ returns : tie.Need-returns
 returns c =
     let at-if1 = c .before .before .before .before in
     let at-place-of = at-if1 .before .before in
-    let start = at-place-of .before .before .before .before .before .before .before .before in
+    let start = at-place-of .before .before .before .before .before .before .before .before .before in
     let a = start .args in
     let p = at-place-of .place-of in
     ((omega arith, omega arith), λ s f x h ds ef ex. step4-hit (a .b) (a .disk .now) (a .flash .now) (a .addrs .now) (a .blocks .now) s h f x (p .result) (p .ensures (s .free) (s .used) f (h .blocks-are) ef) ds (at-if1 .if1 .taken) _ (c .before .before .to-newest .ensures))
@@ -20,7 +20,7 @@ returns-2 c =
     let at-store = c .before .before .before .before .before .before .before .before in
     let at-if1 = at-store .before .before .before .before .before in
     let at-place-of = at-if1 .before .before in
-    let start = at-place-of .before .before .before .before .before .before .before .before in
+    let start = at-place-of .before .before .before .before .before .before .before .before .before in
     let a = start .args in
     let p = at-place-of .place-of in
     let w = at-store .store in

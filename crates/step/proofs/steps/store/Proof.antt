@@ -9,17 +9,17 @@ use Rattle.step.proofs.steps.store.Tie as tie
 
 victim-requires : tie.Need-victim-requires
 victim-requires c κs =
-    let s = c .before .before .before .before .before .before .before .before in
-    let q = s .pre .1 in
-    (search needs, unique-is (s .args .b .slots) (s .args .blocks .now) (q .0 .free) (q .0 .used) (q .1 .blocks-are) (q .2))
+    let s = c .before .before .before .before .before .before .before .before .before in
+    let q = s .pre .1 .0 in
+    (search needs, (unique-is (s .args .b .slots) (s .args .blocks .now) (q .0 .free) (q .0 .used) (q .1 .blocks-are) (q .2), s .pre .1 .1))
 
 lose-requires : tie.Need-lose-requires
 lose-requires c κs =
     let at-slot-at = c .before .before .before .before in
     let at-victim = at-slot-at .before .before in
-    let start = at-victim .before .before .before .before .before .before .before .before .before in
+    let start = at-victim .before .before .before .before .before .before .before .before .before .before in
     let a = start .args in
-    let q = start .pre .1 in
+    let q = start .pre .1 .0 in
     let v = at-victim .victim in
     let w = at-slot-at .slot-at in
     let et = v .ensures .1 (a .b .size) (a .b .blocks) (a .b .rows) (q .0 .rows) (q .0 .free) (q .0 .used) (q .1 .rows-are) (q .1 .blocks-are) in
@@ -32,9 +32,9 @@ fill-requires : tie.Need-fill-requires
 fill-requires c κs =
     let at-slot-at = c .before .before .before .before .before .before .before .before .before .before .before in
     let at-victim = at-slot-at .before .before in
-    let start = at-victim .before .before .before .before .before .before .before .before .before in
+    let start = at-victim .before .before .before .before .before .before .before .before .before .before in
     let a = start .args in
-    let q = start .pre .1 in
+    let q = start .pre .1 .0 in
     let v = at-victim .victim in
     let w = at-slot-at .slot-at in
     let et = v .ensures .1 (a .b .size) (a .b .blocks) (a .b .rows) (q .0 .rows) (q .0 .free) (q .0 .used) (q .1 .rows-are) (q .1 .blocks-are) in
@@ -47,7 +47,7 @@ returns c =
     let at-lose = at-fill .before .before .before .before .before .before .before in
     let at-slot-at = at-lose .before .before .before .before .before in
     let at-victim = at-slot-at .before .before in
-    let start = at-victim .before .before .before .before .before .before .before .before .before in
+    let start = at-victim .before .before .before .before .before .before .before .before .before .before in
     let a = start .args in
     let v = at-victim .victim in
     let w = at-slot-at .slot-at in
