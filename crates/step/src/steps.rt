@@ -265,7 +265,7 @@ pub fn step(
     requires { ⌜ (0 < b .rows) × (0 < b .slots) × (b .held ≤ b .rows) × (length (now addrs) ≡ b .rows * 40) × (length (now blocks) ≡ b .slots * 40) × (length (now g) ≡ 32) × (length (now block) ≡ b .size) × (a .0 < b .blocks) × (b .rows ≤ 1024) × (length (now places) ≡ 1024) ⌝ }
     requires { ⌜ ((s : Box (Fixed 32) (Fixed (b .size))) × (w : Bool) × Rep b (now disk) (now flash) (now addrs) (now blocks) s × Sure b s × (dirty ≡ bit w)) ⌝ }
     requires { ⌜ Placed (b .held) (b .slots) (now addrs) (now blocks) (now places) ⌝ }
-    ensures { λ r. ⌜ (r .flashed ≤ 1) × (r .primary ≤ 1 + b .rows) ⌝ }
+    ensures { λ r. ⌜ (r .flashed ≤ 1) × (r .primary ≤ 1 + b .rows) × (length (now (places .exit)) ≡ 1024) ⌝ }
     ensures { λ r. ⌜ ((s : Box (Fixed 32) (Fixed (b .size))) (f : Fixed 32) (x : Fixed (b .size)) (w : Bool) → Rep b (now (disk .entry)) (now (flash .entry)) (now (addrs .entry)) (now (blocks .entry)) s → Sure b s → f .0 ≡ now (g .entry) → x .0 ≡ now (block .entry) → dirty ≡ bit w
         → record { held = r .held; left = (record { flashed = r .flashed; primary = r .primary; disk = now (disk .exit); flash = now (flash .exit); addrs = now (addrs .exit); blocks = now (blocks .exit) }) }
         ≡ after b (step (engine (b .size)) (b .rows) s (asks (a .0) f x w))) ⌝ }

@@ -49,7 +49,7 @@ returns c =
     let a = start .args in
     let p = start .pre .0 in
     let w = at-step .step in (
-      (w .ensures .0 .0, omega (arith, w .ensures .0 .1)),
+      (w .ensures .0 .0, omega (arith, w .ensures .0 .1), w .ensures .0 .2),
       λ s lent h sd q.
           let f = getD (s .rows) (a .i) noRow .fingerprint in
           let x = blockOf (engine (a .b .size)) f (s .used) (s .flash) in

@@ -44,7 +44,7 @@ returns c =
     let a = start .args in
     let p = start .pre .0 in
     let w = at-step .step in (
-      (w .ensures .0 .0, omega (arith, w .ensures .0 .1)),
+      (w .ensures .0 .0, omega (arith, w .ensures .0 .1), w .ensures .0 .2),
       λ s lent h sd q.
           let x = getD (s .disk) (a .a .0) (engine (a .b .size) .blank) in
           let f = engine (a .b .size) .hash x in

@@ -29,7 +29,7 @@ returns c =
     let a = start .args in
     let p = at-place-of .place-of in
     let w = at-step .step in (
-      (w .ensures .0 .0, omega (arith, w .ensures .0 .1)),
+      (w .ensures .0 .0, omega (arith, w .ensures .0 .1), w .ensures .0 .2),
       λ s x h sd ex.
           let f = engine (a .b .size) .hash x in
           let ef = ap sha256 ex ∙ sym (at-sha256 .sha256 .ensures) in

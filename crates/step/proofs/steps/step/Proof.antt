@@ -134,7 +134,7 @@ returns c =
     let m1 = p .0 in
     let d1 = p .1 in
     let la = p .7 in (
-      (at-step4 .step4 .ensures .0 .0, omega (arith, at-step4 .step4 .ensures .0 .1, at-step1 .step1 .ensures .0 .0, at-step1 .step1 .ensures .0 .1)),
+      (at-step4 .step4 .ensures .0 .0, omega (arith, at-step4 .step4 .ensures .0 .1, at-step1 .step1 .ensures .0 .0, at-step1 .step1 .ensures .0 .1), at-hold .hold .kept .1 .1 .1 .1 .1 .1 .1 .0 ∙ at-step1 .step1 .kept .1 .1 .1 .1 .1 .1 .0 ∙ p .9),
       λ s f x w h sd ef ex ed.
           let st = at-step1 .step1 in
           let pu = at-hold .hold in
