@@ -8,14 +8,13 @@ use step::serve;
 use step::serve::Served;
 use tables::SourceAddress;
 ghost use mathlib.Core.Path.{_≡_};
-ghost use mathlib.Core.Bool.{Bool, cond};
-ghost use mathlib.Core.List.{List, []};
+ghost use mathlib.Core.Bool.{cond};
 ghost use mathlib.Core.Option.{Option};
-ghost use Prim.Native.Nat.{ℕ, _+_, _<_, _≤_, _^_};
+ghost use Prim.Native.Nat.{_+_, _<_, _^_};
 ghost use Rattle.paper.specs.Cache.{hit, miss, sameBlock, newBlock};
 ghost use Rattle.paper.specs.Lent.{Ask};
 ghost use Rattle.counters.specs.Added.{added};
-ghost use Rattle.policy.specs.Contract.{Told, told, called, lent, countersOf, wordOf};
+ghost use Rattle.policy.specs.Contract.{told, called, lent, countersOf, wordOf};
 ghost use Rattle.policy.specs.declared.Answer.the-variants.{Refused, Answered};
 
 // What a call gives back: its answer, the box record and the counters.

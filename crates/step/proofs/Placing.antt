@@ -2,13 +2,13 @@
 use mathlib.Core.Path.{_≡_, sym, ap, _∙_}
 use mathlib.Core.Bool.{Bool, true, false}
 use mathlib.Core.List.{List, [], _∷_, _++_, map}
-use Prim.Native.Nat.{ℕ, suc, _≤_, _<_, _*_, _-_}
+use Prim.Native.Nat.{ℕ, _≤_, _<_, _*_, _-_}
 use native.Mathlib.Omega.{arith}
 use lib.Dec.{eqb}
 use lib.ListN.{length, getD, take}
 use lib.Seq.{take-at}
 use borrow.Author.Tests.{eq-eqb, ne-eqb}
-use Rattle.tables.specs.Rows.{rowAt, rows, flat, removeAt, freed}
+use Rattle.tables.specs.Rows.{rows, flat, removeAt, freed}
 use Rattle.tables.specs.Records as R
 use Rattle.tables.specs.Find.{findFrom, caches}
 use Rattle.tables.specs.Index.{code, placeIn, Places}
@@ -74,7 +74,6 @@ module _ (P m n : ℕ) (t : List ℕ) (l : List (AddressRow (Fixed 32))) (h : Ad
 pub front-free : (d i : ℕ) (t : List ℕ) → length t ≡ d * 40 → i < d → full (flat (freed (getD (rows d t) i []) ∷ removeAt (rows d t) i)) ≡ false
 unfolding flat
 front-free d i t l b =
-    let r = getD (rows d t) i [] in
     let w : length (getD (rows d t) i []) ≡ 40 = ap length (rows-at d t i b) ∙ length-part t (i * 40) 40 (omega arith) in
     ap (λ (x : List ℕ). eqb (getD x 36 0) 1) (take-at (freed (getD (rows d t) i [])) (flat (removeAt (rows d t) i)) 40 (length-freed (getD (rows d t) i []) w))
     ∙ ap (λ (x : R.BlockRow). eqb (x .used) 1) (block-freed (getD (rows d t) i []) w)

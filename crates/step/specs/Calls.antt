@@ -1,12 +1,12 @@
 -- What the calls leave in lent bytes: the paper's calls, written down.
 use mathlib.Core.Path.{_≡_}
 use mathlib.Core.Bool.{Bool, true, false}
-use mathlib.Core.List.{List, [], _∷_, _++_}
+use mathlib.Core.List.{List}
 use mathlib.Core.Option.{Option, none, some}
 use Prim.Native.Nat.{ℕ}
 use lib.ListN.{length}
 use Rattle.step.specs.declared.BoxRecord.{BoxRecord}
-use Rattle.paper.specs.Cache.{Box, Call, Outcome, Stepped, Word, hit, miss, sameBlock, newBlock, fromCache, fromDisk, done, serve}
+use Rattle.paper.specs.Cache.{Box, Outcome, Word, hit, miss, sameBlock, newBlock, fromCache, fromDisk, done}
 use Rattle.paper.specs.Engine.{Fixed}
 use Rattle.paper.specs.Engine.{engine}
 use Prim.Native.Nat.{_+_, _<_}

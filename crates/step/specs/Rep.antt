@@ -1,16 +1,15 @@
 -- When lent bytes are those of a paper box, and what the parts of a step leave in them.
 use mathlib.Core.Path.{_≡_}
-use mathlib.Core.Bool.{Bool, true, false, _&&_, cond}
-use mathlib.Core.List.{List, [], _∷_, _++_}
-use mathlib.Core.Option.{Option, none, some}
+use mathlib.Core.Bool.{Bool, false, _&&_, cond}
+use mathlib.Core.List.{List, [], _++_}
+use mathlib.Core.Option.{none, some}
 use Prim.Native.Nat.{ℕ, _+_}
-use lib.ListN.{length, getD, set, take, drop}
+use lib.ListN.{getD, set, take, drop}
 use Rattle.step.specs.declared.BoxRecord.{BoxRecord}
-use Rattle.paper.specs.Cache.{AddressRow, BlockRow, Box, RowOut, newest, slotOf, blockOf, copied, copies, cleaned, step1}
+use Rattle.paper.specs.Cache.{AddressRow, Box, newest, slotOf, blockOf, copied, copies, cleaned}
 use Rattle.paper.specs.Engine.{Fixed, fit}
 use Rattle.paper.specs.Lent.{join}
-use Rattle.paper.specs.Index.{indexWhere}
-use Rattle.paper.specs.Layout.{Addrs, Blocks, Parts, addressesOf, blocksOf}
+use Rattle.paper.specs.Layout.{Addrs, Blocks, Parts, addressesOf}
 use Rattle.paper.specs.Engine.{engine}
 
 pub record Rep (b : BoxRecord) (disk flash addrs blocks : List ℕ) (s : Box (Fixed 32) (Fixed (b .size))) : Type 0 where

@@ -1,17 +1,16 @@
 -- What the steps leave in lent bytes: the paper's steps, written down.
 use mathlib.Core.Path.{_≡_}
-use mathlib.Core.Bool.{Bool, true, false, not, _&&_, cond}
+use mathlib.Core.Bool.{Bool, not, cond}
 use mathlib.Core.List.{List, [], _∷_, _++_}
-use mathlib.Core.Logic.{_⊎_}
 use mathlib.Core.Option.{Option, none, some}
 use Prim.Native.Nat.{ℕ, suc, _+_, _<_}
 use lib.Dec.{eqb, ltb}
-use lib.ListN.{length, getD, set, take, drop}
+use lib.ListN.{length, getD, take, drop}
 use Rattle.step.specs.declared.BoxRecord.{BoxRecord}
 use Rattle.tables.specs.Rows.{rows, rowAt}
 use Rattle.tables.specs.Index.{Places}
 use Rattle.paper.specs.Sound.{Sound}
-use Rattle.paper.specs.Cache.{Request, AddressRow, BlockRow, BlockRows, Box, RowOut, Taken, Stepped, blockRow, known, step1, step3, step4}
+use Rattle.paper.specs.Cache.{Request, AddressRow, BlockRow, BlockRows, Box, RowOut, Taken, Stepped, blockRow, known}
 use Rattle.paper.specs.Engine.{Fixed, fit}
 use Rattle.paper.specs.Lent.{join}
 use Rattle.paper.specs.Index.{indexWhere}

@@ -1,17 +1,16 @@
+-- The counters are those counted; the rest is as written. Assumes nothing.
+use mathlib.Core.Path.{ap}
 use borrow.Author.Needs.{needs}
+use Rattle.counters.specs.declared.Counters.{Counters}
+use Rattle.policy.specs.declared.Answer.the-variants.{Answered}
+use Rattle.policy.specs.declared.calls.Outcome.{Outcome}
 use Rattle.policy.proofs.calls.answered.Statement.{statement}
 use Rattle.policy.proofs.calls.answered.Tie as tie
-use Rattle.policy.proofs.calls.answered.Reads as reads
-use Rattle.policy.proofs.calls.answered.Lts as lts
-use Rattle.counters.proofs.counted.Reads as counted-reads
 
--- src/calls.rt:44:9
-counted-requires : tie.Need-counted-requires
-counted-requires c κs = search needs
-
--- src/calls.rt:40:1
 returns : tie.Need-returns
-returns c = cc
+returns c =
+    let a = c .before .args in
+    ap {B = Outcome} (λ (k : Counters). record { answer = Answered (a .w) (a .s .flashed) (a .s .primary); box_record = (record { size = a .b .size; blocks = a .b .blocks; rows = a .b .rows; slots = a .b .slots; held = a .s .held }); counters = k }) (c .counted .ensures)
 
 pub answered-spec : {M : Type 1} → statement M
-answered-spec = tie.close (tie.spec counted-requires returns)
+answered-spec = tie.close (tie.spec (λ c κs. search needs) returns)

@@ -1,8 +1,7 @@
 -- Where the refusal is 0 the lent bytes are those of a sound box, and what the steps leave is the paper's call. Assumes nothing.
 use mathlib.Core.Path.{_≡_, refl, sym, ap, _∙_}
-use mathlib.Core.Bool.{Bool, true, false, cond}
 use mathlib.Core.Option.{some}
-use Prim.Native.Nat.{ℕ, _≤_}
+use Prim.Native.Nat.{ℕ}
 use native.Mathlib.Omega.{arith}
 use lib.ListN.{length-replicate}
 use borrow.Author.Needs.{needs}
@@ -10,7 +9,6 @@ use Rattle.paper.specs.Cache.{Call, hit, miss, serve}
 use Rattle.paper.specs.Engine.{engine}
 use Rattle.paper.specs.Lent.{Ask, calling, refusal, callOf, boxIn}
 use Rattle.paper.specs.CallLaws.{served-finds}
-use Rattle.step.specs.Calls.{Leaves, leaves}
 use Rattle.policy.specs.Contract.{numbersOf, countersOf, lent, told}
 use Rattle.policy.specs.CallLaws.{all-bytes, sure, rep, sizes, block-fits, address-fits, finish, keep, fitting, read-says, said-is, hit-counted, read-block, one-le, yes-of, block-of}
 use Rattle.policy.proofs.calls.read.Statement.{statement}
