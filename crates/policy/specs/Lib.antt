@@ -3,5 +3,6 @@ pub mod Contract
 pub mod Checks
 pub mod Look
 -- promises: what the calls find in lent bytes, and what a look finds there
+pub mod Sizes
 pub mod CallLaws
 pub mod LookLaws

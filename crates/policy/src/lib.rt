@@ -4,6 +4,8 @@ pub mod look;
 pub mod open;
 mod refusals;
 
+pub use refusals::numbers_unfit;
+
 // The word of an answer.
 pub enum Word {
     Hit,

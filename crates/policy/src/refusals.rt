@@ -48,7 +48,7 @@ pub(crate) fn within(x: usize, most: usize) -> bool
 }
 
 // Refusal 1: a number of the box outside its set.
-pub(crate) fn numbers_unfit(b: BoxRecord) -> bool
+pub fn numbers_unfit(b: BoxRecord) -> bool
     ensures { λ r. ⌜ r ≡ unfit (numbersOf b) ⌝ }
 {
     if !block_size(b.size) {

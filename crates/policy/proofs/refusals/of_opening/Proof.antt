@@ -3,7 +3,8 @@ use mathlib.Core.Path.{sym, _∙_}
 use borrow.Author.Needs.{needs}
 use Rattle.paper.specs.RefusalLaws.{exactly-opening}
 use Rattle.policy.specs.Contract.{numbersOf, lent}
-use Rattle.policy.proofs.Refusing.{most, wrong-is}
+use Rattle.policy.specs.Sizes.{most}
+use Rattle.policy.proofs.Refusing.{wrong-is}
 use Rattle.policy.proofs.refusals.of_opening.Statement.{statement}
 use Rattle.policy.proofs.refusals.of_opening.Tie as tie
 

@@ -1,0 +1,36 @@
+-- Each test in turn is one of the definition. Assumes nothing.
+use mathlib.Core.Path.{refl, sym, _∙_}
+use borrow.Author.Tests.{not-true, not-false}
+use Rattle.replay.specs.Memory.{fits}
+use borrow.Author.Needs.{needs}
+use Rattle.replay.proofs.feed.fit.Statement.{statement}
+use Rattle.replay.proofs.feed.fit.Tie as tie
+use Rattle.replay.proofs.feed.fit.Reads as reads
+use Rattle.replay.proofs.feed.fit.Lts as lts
+use Rattle.replay.proofs.checks.lengths_fit.Reads as lengths-fit-reads
+use Rattle.replay.proofs.checks.numbers_fit.Reads as numbers-fit-reads
+
+-- src/feed.rt:65:9
+returns : tie.Need-returns
+unfolding fits
+returns c = rw (sym (c .before .lengths-fit .ensures) ∙ not-true _ (c .if1 .taken)) refl
+
+-- src/feed.rt:69:9
+returns-2 : tie.Need-returns-2
+unfolding fits
+returns-2 c = rw (sym (c .before .before .before .before .lengths-fit .ensures) ∙ not-false _ (c .before .before .before .if1 .left), sym (c .before .numbers-fit .ensures) ∙ not-true _ (c .if2 .taken)) refl
+
+-- src/feed.rt:46:1
+returns-3 : tie.Need-returns-3
+unfolding fits
+returns-3 c = rw (sym (c .before .before .before .before .before .lengths-fit .ensures) ∙ not-false _ (c .before .before .before .before .if1 .left), sym (c .before .before .numbers-fit .ensures) ∙ not-false _ (c .before .if2 .left)) refl
+
+pub fit-spec : {M : Type 1} → statement M
+fit-spec =
+    tie.close
+    (tie.spec
+    (λ c κs. search needs)
+    returns
+    (λ c κs. search needs)
+    returns-2
+    returns-3)

@@ -1,0 +1,156 @@
+-- After each turn some input has been fed; the buffers keep their lengths, and the turns fall. Assumes nothing.
+use mathlib.Core.Path.{_≡_, refl, ap, _∙_}
+use mathlib.Core.List.{List, [], _++_}
+use Prim.Native.Nat.{ℕ, _-_, _<_}
+use native.Mathlib.Omega.{arith}
+use lib.ListN.{length}
+use Rattle.replay.specs.Memory.{memory}
+use Rattle.replay_cli.specs.Chunks.{first, fedFirst}
+use Rattle.replay_cli.proofs.Joined.{joined}
+use Rattle.replay_cli.proofs.all.Statement.{statement}
+use Rattle.replay_cli.proofs.all.Tie as tie
+use Rattle.replay_cli.proofs.all.Reads as reads
+use Rattle.replay_cli.proofs.all.Lts as lts
+use Rattle.replay.proofs.feed.begin.Reads as begin-reads
+use Rattle.replay_cli.proofs.turn.Reads as turn-reads
+
+abbrev Inv-loop : tie.InvT-loop
+Inv-loop chunk₀ line₀ disk₀ flash₀ addresses₀ blocks₀ out₀ s₀ more₀ turns₀ chunk line disk flash addresses blocks out s more turns =
+    (length chunk ≡ length chunk₀) × (length line ≡ length line₀) × (length disk ≡ length disk₀) × (length flash ≡ length flash₀) × (length addresses ≡ length addresses₀) × (length blocks ≡ length blocks₀) × (length out ≡ length out₀)
+    × ((bytes : List ℕ) × (memory s line disk flash addresses blocks out ≡ fedFirst bytes (length bytes) (memory first line₀ disk₀ flash₀ addresses₀ blocks₀ out₀)))
+
+abbrev μ-loop : tie.MeasureT-loop
+μ-loop chunk₀ line₀ disk₀ flash₀ addresses₀ blocks₀ out₀ s₀ more₀ turns₀ chunk line disk flash addresses blocks out s more turns =
+    turns
+
+-- src/main.rt:133:9
+begin-requires : tie.Need-begin-requires Inv-loop μ-loop
+begin-requires c κs = tt
+
+-- src/main.rt:136:5
+loop-holds : tie.Need-loop-holds Inv-loop μ-loop
+loop-holds c =
+    let a = c .before .before .before .before .before .before .before .before .args in
+    (refl, refl, refl, refl, refl, refl, refl, ([], ap (λ s. memory s (a .line .now) (a .disk .now) (a .flash .now) (a .addresses .now) (a .blocks .now) (a .out .now)) (c .begin .ensures)))
+
+-- src/main.rt:137:9
+sub-turns : tie.Need-sub-turns Inv-loop μ-loop
+sub-turns c = omega arith
+
+-- src/main.rt:138:13
+turn-requires : tie.Need-turn-requires Inv-loop μ-loop
+turn-requires c κs = tt
+
+below : (c : tie.After-s Inv-loop μ-loop) → 0 < c .before .before .before .before .before .before .before .before .before .before .before .before .before .before .before .before .before .before .before .before .before .before .before .before .before .loop .turns
+below c = omega arith
+
+fewer : (n : ℕ) → 0 < n → n - 1 < n
+fewer n h = omega arith
+
+-- src/main.rt:136:5
+loop-less : tie.Need-loop-less Inv-loop μ-loop
+loop-less c = fewer (c .before .before .before .before .before .before .before .before .before .before .before .before .before .before .before .before .before .before .before .before .before .before .before .before .before .loop .turns) (below c)
+
+-- src/main.rt:136:5
+loop-again : tie.Need-loop-again Inv-loop μ-loop
+loop-again c = 
+    let i = c .before .before .before .before .before .before .before .before .before .before .before .before .before .before .before .before .before .before .before .before .before .before .before .before .before .loop .inv in
+    let f = c .before .before .before .before .before .before .before .before .before .before .before .before .before .before .before .turn in
+    let l = f .kept .1 in
+    let e = f .ensures in
+    let b = i .7 in
+    (l .0 ∙ i .0, l .1 .0 ∙ i .1, l .1 .1 .0 ∙ i .2, l .1 .1 .1 .0 ∙ i .3, l .1 .1 .1 .1 .0 ∙ i .4, l .1 .1 .1 .1 .1 .0 ∙ i .5, l .1 .1 .1 .1 .1 .1 .0 ∙ i .6,
+     (b .0 ++ e .0, e .1 ∙ ap (fedFirst (e .0) (length (e .0))) (b .1) ∙ joined (b .0) (e .0) _))
+
+-- src/main.rt:121:1
+same-length : tie.Need-same-length Inv-loop μ-loop
+same-length c = c .before .before .loop .inv .0
+
+-- src/main.rt:121:1
+same-length-2 : tie.Need-same-length-2 Inv-loop μ-loop
+same-length-2 c = c .before .before .loop .inv .1
+
+-- src/main.rt:121:1
+same-length-3 : tie.Need-same-length-3 Inv-loop μ-loop
+same-length-3 c = c .before .before .loop .inv .2
+
+-- src/main.rt:121:1
+same-length-4 : tie.Need-same-length-4 Inv-loop μ-loop
+same-length-4 c = c .before .before .loop .inv .3
+
+-- src/main.rt:121:1
+same-length-5 : tie.Need-same-length-5 Inv-loop μ-loop
+same-length-5 c = c .before .before .loop .inv .4
+
+-- src/main.rt:121:1
+same-length-6 : tie.Need-same-length-6 Inv-loop μ-loop
+same-length-6 c = c .before .before .loop .inv .5
+
+-- src/main.rt:121:1
+same-length-7 : tie.Need-same-length-7 Inv-loop μ-loop
+same-length-7 c = c .before .before .loop .inv .6
+
+-- src/main.rt:121:1
+returns : tie.Need-returns Inv-loop μ-loop
+returns c = c .before .before .loop .inv .7
+
+-- src/main.rt:121:1
+same-length-8 : tie.Need-same-length-8 Inv-loop μ-loop
+same-length-8 c = c .before .loop .inv .0
+
+-- src/main.rt:121:1
+same-length-9 : tie.Need-same-length-9 Inv-loop μ-loop
+same-length-9 c = c .before .loop .inv .1
+
+-- src/main.rt:121:1
+same-length-10 : tie.Need-same-length-10 Inv-loop μ-loop
+same-length-10 c = c .before .loop .inv .2
+
+-- src/main.rt:121:1
+same-length-11 : tie.Need-same-length-11 Inv-loop μ-loop
+same-length-11 c = c .before .loop .inv .3
+
+-- src/main.rt:121:1
+same-length-12 : tie.Need-same-length-12 Inv-loop μ-loop
+same-length-12 c = c .before .loop .inv .4
+
+-- src/main.rt:121:1
+same-length-13 : tie.Need-same-length-13 Inv-loop μ-loop
+same-length-13 c = c .before .loop .inv .5
+
+-- src/main.rt:121:1
+same-length-14 : tie.Need-same-length-14 Inv-loop μ-loop
+same-length-14 c = c .before .loop .inv .6
+
+-- src/main.rt:121:1
+returns-2 : tie.Need-returns-2 Inv-loop μ-loop
+returns-2 c = c .before .loop .inv .7
+
+pub all-spec : {M : Type 1} → statement M
+all-spec =
+    tie.close
+    (tie.spec
+    Inv-loop
+    μ-loop
+    begin-requires
+    loop-holds
+    sub-turns
+    turn-requires
+    loop-less
+    loop-again
+    same-length
+    same-length-2
+    same-length-3
+    same-length-4
+    same-length-5
+    same-length-6
+    same-length-7
+    returns
+    same-length-8
+    same-length-9
+    same-length-10
+    same-length-11
+    same-length-12
+    same-length-13
+    same-length-14
+    returns-2)
