@@ -314,6 +314,22 @@ fn table(shape: Shape) -> [Option<[f64; 4]>; SCENARIOS.len()] {
     })
 }
 
+/// How the time of a call grows with m at the most blocks and with d at the most addresses: mixed calls and hits. `bench/plot` makes a picture of
+/// these lines.
+fn growth() {
+    let shapes = (4..=10).map(|k| (1 << k, 256)).chain((2..=7).map(|k| (1024, 1 << k)));
+    println!("\nNanoseconds of one call against m and d, B = 4096, P = 4096, full tables:");
+    println!("        {:>6}{:>6}  {:12}{:>12}{:>12}{:>12}{:>12}", "m", "d", "", ENGINES[0], ENGINES[1], ENGINES[2], ENGINES[3]);
+    for (m, d) in shapes {
+        let full = full(Shape { b: 4096, p: 4096, m, d });
+        let mut copies = Copies { copies: vec![full.lent.clone(); ENGINES.len()], full: &full };
+        for scenario in [0, 1] {
+            let (times, _) = best(&mut copies, &steps(scenario, &full).unwrap());
+            println!("growth  {m:>6}{d:>6}  {:12}{:>12.0}{:>12.0}{:>12.0}{:>12.0}", SCENARIOS[scenario], times[0], times[1], times[2], times[3]);
+        }
+    }
+}
+
 const LEAST_OF_MAPS: f64 = 0.8;
 const LEAST_OF_PAIRS: f64 = 5.0;
 const MOST_GROWTH: f64 = 2.4;
@@ -339,6 +355,7 @@ fn main() {
             println!("{name:24}{:>12.2}", large[0] / half[0]);
         }
     }
+    growth();
     println!("\nAsked for, at m = 1,024 and d = 256:");
     let mut missed = false;
     for scenario in [0, 1] {

@@ -1,4 +1,6 @@
-//! What the tests share: numbers that look random and are the same in every run.
+//! What the tests share: numbers that look random and are the same in every run, and how far a long run is.
+use std::io::Write;
+use std::time::{Duration, Instant};
 
 /// SplitMix64, started at a seed that a test prints.
 pub struct Random(pub u64);
@@ -19,6 +21,33 @@ impl Random {
 
     pub fn bytes(&mut self, length: usize) -> Vec<u8> {
         (0..length).map(|_| self.number() as u8).collect()
+    }
+}
+
+/// Shows how far a long run is, every ten seconds.
+pub struct Progress {
+    name: &'static str,
+    total: usize,
+    start: Instant,
+    shown: Instant,
+}
+
+impl Progress {
+    pub fn new(name: &'static str, total: usize) -> Progress {
+        Progress { name, total, start: Instant::now(), shown: Instant::now() }
+    }
+
+    pub fn at(&mut self, done: usize) {
+        if self.shown.elapsed() >= Duration::from_secs(10) {
+            self.shown = Instant::now();
+            let seconds = self.start.elapsed().as_secs_f64();
+            // Written past the test runner, which keeps what print! writes until the end.
+            let _ = writeln!(std::io::stderr(), "{}: {done} of {} after {seconds:.0} s", self.name, self.total);
+        }
+    }
+
+    pub fn seconds(&self) -> f64 {
+        self.start.elapsed().as_secs_f64()
     }
 }
 

@@ -1,6 +1,5 @@
 //! How much a test runs, and what it shows while it does.
-use std::io::Write;
-use std::time::{Duration, Instant};
+pub use common::Progress;
 
 /// The calls of the gate's random lists. MINDAVEHU_CALLS asks for another number of them, and every other count changes with it.
 pub const GATE: usize = 240_000;
@@ -20,31 +19,4 @@ pub fn count(gate: usize) -> usize {
 /// The seed of a test; MINDAVEHU_SEED is added, so that a longer run can have lists of its own.
 pub fn seed(of_test: u64) -> u64 {
     of_test + 1_000 * variable("MINDAVEHU_SEED").unwrap_or(0) as u64
-}
-
-/// Shows how far a long run is, every ten seconds.
-pub struct Progress {
-    name: &'static str,
-    total: usize,
-    start: Instant,
-    shown: Instant,
-}
-
-impl Progress {
-    pub fn new(name: &'static str, total: usize) -> Progress {
-        Progress { name, total, start: Instant::now(), shown: Instant::now() }
-    }
-
-    pub fn at(&mut self, done: usize) {
-        if self.shown.elapsed() >= Duration::from_secs(10) {
-            self.shown = Instant::now();
-            let seconds = self.start.elapsed().as_secs_f64();
-            // Written past the test runner, which keeps what print! writes until the end.
-            let _ = writeln!(std::io::stderr(), "{}: {done} of {} after {seconds:.0} s", self.name, self.total);
-        }
-    }
-
-    pub fn seconds(&self) -> f64 {
-        self.start.elapsed().as_secs_f64()
-    }
 }

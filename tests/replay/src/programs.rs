@@ -1,0 +1,114 @@
+//! The built programs: the proved replay, and the trainer's program of the states, which is compiled here through the header.
+use std::io::{ErrorKind, Write};
+use std::path::{Path, PathBuf};
+use std::process::{Command, Stdio};
+use std::sync::OnceLock;
+use std::time::Duration;
+
+pub fn root() -> PathBuf {
+    Path::new(env!("CARGO_MANIFEST_DIR")).join("../..").canonicalize().unwrap()
+}
+
+/// A program that reads standard input and writes standard output.
+pub struct Program {
+    path: PathBuf,
+    words: Vec<&'static str>,
+}
+
+/// How an input is written: at once, or in pieces of so many bytes with a pause after each, as far as the pauses last.
+#[derive(Clone, Copy)]
+pub enum Writing {
+    Whole,
+    Pieces(usize),
+}
+
+const MOST_PAUSES: usize = 12;
+
+impl Program {
+    /// The proved program, which `rt check replay_cli` puts into target/bin/ of the repository.
+    pub fn replay() -> Program {
+        let path = root().join("target/bin/replay_cli");
+        assert!(path.exists(), "target/bin/replay_cli is missing: `rt check replay_cli` builds it");
+        Program { path, words: vec![] }
+    }
+
+    /// The program of the states, with the compiler's options and its own.
+    pub fn states(build: &'static Build, words: &[&'static str]) -> Program {
+        Program { path: build.path().to_owned(), words: words.to_vec() }
+    }
+
+    /// The script that makes a page of the states' output.
+    pub fn page(title: &'static str) -> Program {
+        Program { path: root().join("trainer/page.py"), words: vec![title] }
+    }
+
+    /// Starts the program, gives it the input and takes its output. It must end well and say nothing on standard error.
+    pub fn run(&self, input: &[u8], writing: Writing) -> Vec<u8> {
+        let mut child = Command::new(&self.path).args(&self.words).stdin(Stdio::piped()).stdout(Stdio::piped()).stderr(Stdio::piped()).spawn().unwrap();
+        let stdin = child.stdin.take().unwrap();
+        let done = std::thread::scope(|scope| {
+            scope.spawn(|| write(stdin, input, writing));
+            child.wait_with_output().unwrap()
+        });
+        let said = String::from_utf8_lossy(&done.stderr);
+        assert!(done.status.success() && said.is_empty(), "{} ended with {} and said: {said}", self.path.display(), done.status);
+        done.stdout
+    }
+}
+
+/// Writes an input and closes the pipe. A program that has ended at a refused box line reads no further.
+fn write(mut stdin: impl Write, input: &[u8], writing: Writing) {
+    let size = match writing {
+        Writing::Whole => input.len().max(1),
+        Writing::Pieces(size) => size,
+    };
+    for (k, piece) in input.chunks(size).enumerate() {
+        match stdin.write_all(piece) {
+            Err(error) if error.kind() == ErrorKind::BrokenPipe => return,
+            done => done.unwrap(),
+        }
+        if k < MOST_PAUSES && size < input.len() {
+            std::thread::sleep(Duration::from_micros(300));
+        }
+    }
+}
+
+/// A build of trainer/states.c, made once in each test program.
+pub struct Build {
+    name: &'static str,
+    flags: &'static [&'static str],
+    path: OnceLock<PathBuf>,
+}
+
+pub static PLAIN: Build = Build { name: "states", flags: &[], path: OnceLock::new() };
+pub static SANITIZED: Build = Build { name: "states-sanitized", flags: &["-fsanitize=address,undefined", "-fno-sanitize-recover=all"], path: OnceLock::new() };
+
+impl Build {
+    fn gcc(&self, source: &Path, more: &[&Path], output: &Path) -> (bool, String) {
+        let mut command = Command::new("gcc");
+        command.args(["-O1", "-g", "-Wall", "-Wextra", "-Werror"]).args(self.flags).arg("-I").arg(root().join("include")).arg(source).args(more);
+        let done = command.arg("-o").arg(output).output().expect("gcc is missing");
+        (done.status.success(), String::from_utf8_lossy(&done.stderr).into_owned())
+    }
+
+    /// Whether programs with these flags can be linked on this machine.
+    pub fn links(&self) -> bool {
+        let folder = root().join("target/tests");
+        let source = folder.join(format!("{}-empty.c", self.name));
+        std::fs::write(&source, "int main(void) { return 0; }\n").unwrap();
+        let output = source.with_extension("");
+        let linked = self.gcc(&source, &[], &output).0;
+        let _ = (std::fs::remove_file(&source), std::fs::remove_file(&output));
+        linked
+    }
+
+    fn path(&self) -> &Path {
+        self.path.get_or_init(|| {
+            let output = root().join("target/tests").join(self.name);
+            let library = root().join("target/staticlib/libservice.a");
+            let (built, said) = self.gcc(&root().join("trainer/states.c"), &[&library], &output);
+            assert!(built, "trainer/states.c does not compile:\n{said}");
+            output
+        })
+    }
+}

@@ -1,0 +1,61 @@
+//! The script ./replay, on programs that are built.
+use replay::programs::root;
+use std::fs::File;
+use std::process::{Command, Output, Stdio};
+
+/// Runs ./replay with these words in the folder lessons/, with a file of it on standard input or nothing.
+fn script(words: &[&str], input: Option<&str>) -> Output {
+    let lessons = root().join("lessons");
+    let stdin = input.map_or(Stdio::null(), |name| File::open(lessons.join(name)).unwrap().into());
+    Command::new(root().join("replay")).args(words).current_dir(lessons).stdin(stdin).output().unwrap()
+}
+
+/// What it writes where all is well.
+fn written(words: &[&str], input: Option<&str>) -> String {
+    let done = script(words, input);
+    assert!(done.status.success(), "{words:?}: {}", String::from_utf8_lossy(&done.stderr));
+    String::from_utf8(done.stdout).unwrap()
+}
+
+fn stored(name: &str) -> String {
+    std::fs::read_to_string(root().join(name)).unwrap()
+}
+
+#[test]
+fn a_list() {
+    let expected = stored("lessons/week.expected");
+    assert_eq!(written(&["week.txt"], None), expected);
+    assert_eq!(written(&[], Some("week.txt")), expected);
+    assert_eq!(written(&["--", "week.txt"], None), expected);
+    assert_eq!(written(&["/dev/stdin"], Some("refused-3.txt")), stored("lessons/refused-3.expected"));
+    println!("./replay FILE and ./replay < FILE");
+}
+
+#[test]
+fn states_and_page() {
+    let states = written(&["--states", "week.txt"], None);
+    assert_eq!(states, replay::states::states(stored("lessons/week.txt").as_bytes(), false));
+    assert_eq!(written(&["--states"], Some("week.txt")), states);
+    assert_eq!(written(&["--page", "week.txt"], None), stored("docs/week.html"));
+    assert!(written(&["--page"], Some("week.txt")).contains("<h1>A list of requests, line by line</h1>"));
+    println!("./replay --states and --page, of a file and of standard input");
+}
+
+/// Nothing on standard output, the words on standard error, and the status.
+#[test]
+fn what_cannot_be_done() {
+    let cases: [(&[&str], i32, &str); 5] = [
+        (&["no-such-list.txt"], 1, "there is no file no-such-list.txt"),
+        (&["--states", "no-such-list.txt"], 1, "there is no file no-such-list.txt"),
+        (&["."], 1, ". is a folder, not a list of requests"),
+        (&["--stats", "week.txt"], 2, "unknown option --stats"),
+        (&["week.txt", "refused-3.txt"], 2, "more than one file is named"),
+    ];
+    for (words, status, message) in cases {
+        let done = script(words, None);
+        let said = String::from_utf8_lossy(&done.stderr);
+        assert!(done.status.code() == Some(status) && done.stdout.is_empty() && said.contains(message), "{words:?}: {} {said}", done.status);
+    }
+    assert!(written(&["--help"], None).contains("./replay --page FILE"));
+    println!("{} ways of asking for what cannot be done, and --help", cases.len());
+}

@@ -1,0 +1,320 @@
+/* Replays a list of requests from standard input on the proved engine, as the replay program does, and prints after each line of its output the
+ * state of the box:
+ *
+ *     3 B 3 same 0 0
+ *         1:1 2:2 3:1*; blocks 2 1
+ *
+ * The lines of the replay start in the first column, all others four columns further in. A state is written as document 01 writes E1 to E8:
+ * each held address with its content, oldest use first (`none` where no address is held), then the rows of the block table, the free ones first
+ * as `-`, then the contents of the used ones, oldest use first. A content is the number of the byte that fills its block, in decimal.
+ * The mark `*` after a content says that the address is dirty: its block is newer in flash than on disk.
+ *
+ * With --full, lines for a picture are added: `box B P m d` and the first state before the first call, `asked` with the text of each later line
+ * of the list before its answer, and after each state
+ *     slots   the flash slot of each row of the block table, in the order of the rows
+ *     flash   the first byte of each slot
+ *     disk    the first byte of each disk block
+ *
+ * Exit status: 0 when the list was read to its end, refusals included; 1 when reading or writing failed; 2 for an unknown option. */
+#include <errno.h>
+#include <stdio.h>
+#include <stdlib.h>
+#include <string.h>
+#include "mindavehu.h"
+
+/* What document 01 allows in a replay: P at most 256, P x B and d x B at most 16,384, lines of at most 32 bytes. */
+#define MOST_BYTES 16384
+#define MOST_P 256
+#define MOST_B 4096
+#define MOST_M 1024
+#define MOST_D 256
+#define MOST_LINE 32
+
+/* Refusals of the replay's own, beside those of the header. */
+#define NOT_THE_FORM 4
+#define TOO_LARGE 5
+
+#define FINGERPRINT 32
+
+static uint8_t state[MINDAVEHU_STATE], answer[MINDAVEHU_ANSWER];
+static uint8_t disk[MOST_BYTES], flash[MOST_BYTES], block[MOST_B];
+static uint8_t addresses[MOST_M * MINDAVEHU_ROW], blocks[MOST_D * MINDAVEHU_ROW];
+static size_t B, P, m, d;
+static int full;
+
+/* A line of the list: its bytes, as far as there is room for them, and its whole length. */
+struct line {
+    unsigned char bytes[MOST_LINE];
+    size_t length;
+};
+
+/* A call: its letter, its address as it is printed, and the byte that a written block is filled with. */
+struct call {
+    char letter;
+    int has_address;
+    uint32_t address, content;
+};
+
+#define TABLES addresses, m *MINDAVEHU_ROW, blocks, d *MINDAVEHU_ROW
+#define MEMORY disk, P *B, flash, d *B, TABLES
+#define STATE state, sizeof state
+#define ANSWER answer, sizeof answer
+
+/* ---- The list: lines and their form. */
+
+/* Reads the next line. Gives 0 where none begins. */
+static int next_line(struct line *line)
+{
+    int byte = getchar();
+    line->length = 0;
+    if (byte == EOF)
+        return 0;
+    for (; byte != EOF && byte != '\n'; byte = getchar()) {
+        if (line->length < MOST_LINE)
+            line->bytes[line->length] = (unsigned char)byte;
+        if (line->length <= MOST_LINE)
+            line->length++;
+    }
+    return 1;
+}
+
+/* Each of these takes what it names from `at` on and moves `at` behind it, or gives 0. */
+static int take_text(const struct line *line, size_t *at, const char *text)
+{
+    size_t length = strlen(text);
+    if (line->length - *at < length || memcmp(line->bytes + *at, text, length) != 0)
+        return 0;
+    *at += length;
+    return 1;
+}
+
+static int take_decimal(const struct line *line, size_t *at, uint32_t *value)
+{
+    size_t digits = 0;
+    *value = 0;
+    for (; *at + digits < line->length; digits++) {
+        unsigned char byte = line->bytes[*at + digits];
+        if (byte < '0' || byte > '9' || digits == 5)
+            break;
+        *value = *value * 10 + (byte - '0');
+    }
+    if (digits == 0 || (digits > 1 && line->bytes[*at] == '0'))
+        return 0;
+    *at += digits;
+    return 1;
+}
+
+static int take_hexadecimal(const struct line *line, size_t *at, uint32_t *value)
+{
+    static const char digits[] = "0123456789ABCDEF";
+    *value = 0;
+    for (int k = 0; k < 2; k++, (*at)++) {
+        const char *found = *at < line->length && line->bytes[*at] ? strchr(digits, line->bytes[*at]) : NULL;
+        if (!found)
+            return 0;
+        *value = *value * 16 + (uint32_t)(found - digits);
+    }
+    return 1;
+}
+
+/* Whether the line is `box B P m d`. */
+static int is_box(const struct line *line, uint32_t numbers[4])
+{
+    size_t at = 0;
+    if (line->length > MOST_LINE || !take_text(line, &at, "box"))
+        return 0;
+    for (int k = 0; k < 4; k++)
+        if (!take_text(line, &at, " ") || !take_decimal(line, &at, &numbers[k]))
+            return 0;
+    return at == line->length;
+}
+
+/* Whether the line is that of a call. */
+static int is_call(const struct line *line, struct call *call)
+{
+    size_t at = 1;
+    memset(call, 0, sizeof *call);
+    if (line->length == 0 || line->length > MOST_LINE || !line->bytes[0] || !strchr("RLFTBI", line->bytes[0]))
+        return 0;
+    call->letter = (char)line->bytes[0];
+    call->has_address = call->letter != 'F';
+    if (call->has_address && !(take_text(line, &at, " ") && take_decimal(line, &at, &call->address)))
+        return 0;
+    if (strchr("TBI", call->letter) && !(take_text(line, &at, " ") && take_hexadecimal(line, &at, &call->content)))
+        return 0;
+    return at == line->length;
+}
+
+/* ---- The engine. */
+
+/* Opens the box of these numbers over a disk whose block k is filled with byte k. Gives the number of a refusal, or 0. */
+static uint32_t open_box(const uint32_t numbers[4])
+{
+    static const size_t fields[4] = {MINDAVEHU_B, MINDAVEHU_P, MINDAVEHU_M, MINDAVEHU_D};
+    for (int k = 0; k < 4; k++)
+        mindavehu_put(state, fields[k], numbers[k]);
+    B = numbers[0], P = numbers[1], m = numbers[2], d = numbers[3];
+    if (P <= MOST_P && P * B <= MOST_BYTES && d * B <= MOST_BYTES && m <= MOST_M && d <= MOST_D) {
+        for (size_t k = 0; k < P; k++)
+            memset(disk + k * B, (int)k, B);
+        return mindavehu_open(STATE, MEMORY);
+    }
+    /* More than there is memory for. Opened with no memory at all, the engine tells numbers outside their sets from a length that isn't right. */
+    uint32_t refusal = mindavehu_open(STATE, disk, 0, flash, 0, addresses, 0, blocks, 0);
+    return refusal == MINDAVEHU_OUTSIDE ? refusal : TOO_LARGE;
+}
+
+static uint32_t carry_out(const struct call *call)
+{
+    uint32_t a = call->address;
+    memset(block, (int)call->content, B);
+    switch (call->letter) {
+    case 'R':
+        return mindavehu_read(STATE, a, MEMORY, block, B, ANSWER);
+    case 'T':
+        return mindavehu_write_through(STATE, a, MEMORY, block, B, ANSWER);
+    case 'B':
+        return mindavehu_write_back(STATE, a, MEMORY, block, B, ANSWER);
+    case 'I':
+        return mindavehu_write_invalidate(STATE, a, MEMORY, block, B, ANSWER);
+    case 'L':
+        return mindavehu_look(STATE, a, MEMORY, ANSWER);
+    default:
+        return mindavehu_flush(STATE, MEMORY, ANSWER);
+    }
+}
+
+/* ---- The state, from the tables as document 01 lays them out. */
+
+static uint32_t number_at(const uint8_t *bytes)
+{
+    return bytes[0] | (uint32_t)bytes[1] << 8 | (uint32_t)bytes[2] << 16 | (uint32_t)bytes[3] << 24;
+}
+
+/* A block row: fingerprint, slot, used byte. */
+static const uint8_t *block_row(size_t k) { return blocks + k * MINDAVEHU_ROW; }
+static size_t slot_of(const uint8_t *row) { return number_at(row + FINGERPRINT); }
+static int is_used(const uint8_t *row) { return row[FINGERPRINT + 4] == 1; }
+
+/* An address row: address, fingerprint, dirty byte. The content of an address whose block is cached is in flash; that of another is on disk, as
+ * every dirty address has its block. */
+static unsigned content_of(const uint8_t *row)
+{
+    for (size_t k = 0; k < d; k++)
+        if (is_used(block_row(k)) && memcmp(block_row(k), row + 4, FINGERPRINT) == 0)
+            return flash[slot_of(block_row(k)) * B];
+    return disk[number_at(row) * B];
+}
+
+static void print_state(void)
+{
+    size_t held = mindavehu_get(state, MINDAVEHU_N);
+    printf("    ");
+    for (size_t k = 0; k < held; k++) {
+        const uint8_t *row = addresses + k * MINDAVEHU_ROW;
+        printf("%s%u:%u%s", k ? " " : "", number_at(row), content_of(row), row[4 + FINGERPRINT] ? "*" : "");
+    }
+    printf("%s; blocks", held ? "" : "none");
+    for (size_t k = 0; k < d; k++) {
+        if (is_used(block_row(k)))
+            printf(" %u", flash[slot_of(block_row(k)) * B]);
+        else
+            printf(" -");
+    }
+    printf("\n");
+    if (!full)
+        return;
+    printf("    slots");
+    for (size_t k = 0; k < d; k++)
+        printf(" %zu", slot_of(block_row(k)));
+    printf("\n    flash");
+    for (size_t k = 0; k < d; k++)
+        printf(" %u", flash[k * B]);
+    printf("\n    disk");
+    for (size_t k = 0; k < P; k++)
+        printf(" %u", disk[k * B]);
+    printf("\n");
+}
+
+/* The text of a line of the list, as far as there is room for it; a byte that isn't a printed character is shown as `?`. */
+static void print_asked(const struct line *line)
+{
+    printf("    asked ");
+    for (size_t k = 0; k < line->length && k < MOST_LINE; k++)
+        putchar(line->bytes[k] >= ' ' && line->bytes[k] <= '~' ? line->bytes[k] : '?');
+    printf("%s\n", line->length > MOST_LINE ? "..." : "");
+}
+
+/* ---- The output of the replay. */
+
+static void print_answer(uint64_t number, const struct call *call)
+{
+    static const char *const words[] = {"", "hit", "miss", "same", "new", "cache", "disk", "done"};
+    uint64_t flash_writes = mindavehu_get(answer, MINDAVEHU_ANSWER_FLASH), primary_writes = mindavehu_get(answer, MINDAVEHU_ANSWER_PRIMARY);
+    if (call->letter == 'L')
+        flash_writes = primary_writes = 0;
+    printf("%llu %c ", (unsigned long long)number, call->letter);
+    if (call->has_address)
+        printf("%u", call->address);
+    else
+        printf("-");
+    printf(" %s %llu %llu\n", words[mindavehu_get(answer, MINDAVEHU_WORD)], (unsigned long long)flash_writes, (unsigned long long)primary_writes);
+}
+
+static void print_counters(void)
+{
+    printf("reads %llu hits %llu flash %llu primary %llu\n", (unsigned long long)mindavehu_get(state, MINDAVEHU_READS),
+           (unsigned long long)mindavehu_get(state, MINDAVEHU_HITS), (unsigned long long)mindavehu_get(state, MINDAVEHU_FLASH_WRITES),
+           (unsigned long long)mindavehu_get(state, MINDAVEHU_PRIMARY_WRITES));
+}
+
+static void replay(void)
+{
+    struct line line;
+    struct call call;
+    uint32_t numbers[4];
+    if (!next_line(&line) && ferror(stdin))
+        return;
+    uint32_t refusal = is_box(&line, numbers) ? open_box(numbers) : NOT_THE_FORM;
+    if (refusal) {
+        printf("0 refused %u\n", refusal);
+        return;
+    }
+    if (full) {
+        printf("    box %zu %zu %zu %zu\n", B, P, m, d);
+        print_state();
+    }
+    for (uint64_t number = 1; next_line(&line); number++) {
+        if (full)
+            print_asked(&line);
+        refusal = is_call(&line, &call) ? carry_out(&call) : NOT_THE_FORM;
+        if (refusal)
+            printf("%llu refused %u\n", (unsigned long long)number, refusal);
+        else
+            print_answer(number, &call);
+        print_state();
+    }
+    if (ferror(stdin))
+        return;
+    print_counters();
+    print_state();
+}
+
+int main(int count, char **words)
+{
+    full = count == 2 && strcmp(words[1], "--full") == 0;
+    if (count > 1 && !full) {
+        fprintf(stderr, "states: unknown option %s; the only one is --full\n", words[1]);
+        return 2;
+    }
+    replay();
+    if (ferror(stdin)) {
+        fprintf(stderr, "states: the list cannot be read: %s\n", strerror(errno));
+        return 1;
+    }
+    if (fflush(stdout) != 0 || ferror(stdout)) {
+        fprintf(stderr, "states: the output cannot be written: %s\n", strerror(errno));
+        return 1;
+    }
+    return 0;
+}
