@@ -50,8 +50,8 @@ splice-first n d = ap (λ k. take n d ++ drop k d) (zero-add (length (take n d))
   where
     back : (n : ℕ) (d : List ℕ) → take n d ++ drop (min n (length d)) d ≡ d
     back n d = by-test (leb n (length d))
-      (λ y. ap (λ k. take n d ++ drop k d) (min-eq-left (leb-true n (length d) y)) ∙ take-append-drop n d)
-      (λ y. let h : length d ≤ n = omega (arith, leb-false n (length d) y) in
+        (λ y. ap (λ k. take n d ++ drop k d) (min-eq-left (leb-true n (length d) y)) ∙ take-append-drop n d)
+        (λ y. let h : length d ≤ n = omega (arith, leb-false n (length d) y) in
         ap₂ (λ l k. l ++ drop k d) (take-all n d h) (min-eq-right h) ∙ ap (λ l. d ++ l) (drop-length d) ∙ append-nil d)
 
 -- what the buffers hold, written over them

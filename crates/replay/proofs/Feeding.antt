@@ -12,12 +12,12 @@ use borrow.Author.Tests.{eq-eqb, ne-eqb, lt-ltb, le-ltb}
 use Rattle.block.specs.Blocks.{splice}
 use Rattle.lines.specs.Lines.{parsed}
 use Rattle.policy.specs.Contract.{countersOf}
-use Rattle.replay.specs.Put.{Put}
-use Rattle.replay.specs.Replay.{countersText}
+use Rattle.answers.specs.Put.{Put}
+use Rattle.answers.specs.Replay.{countersText}
 use Rattle.replay.specs.Bytewise.{State, Printed, quiet, keep, firstLine, laterLine, endLine, byteIn, lastLine, atEnd}
 use Rattle.replay.specs.Memory.{Buffers, Held, Memory, After, over, stateIn, stored}
 use Rattle.replay.specs.declared.Session.{Session}
-use Rattle.replay.proofs.Splices.{splice-next}
+use Rattle.answers.specs.PutLaws.{splice-next}
 use Rattle.replay.proofs.Boxing.{splice-first, over-same}
 
 -- a session that keeps k bytes
@@ -27,7 +27,7 @@ keeping s k = record { stage = s .stage; kept = k; number = s .number; box_recor
 -- a memory with other kept bytes, written over its line
 kept-is : (M : Memory) (k : ℕ) (l line : List ℕ) → k ≡ length l → line ≡ splice 0 l (M .line)
     → record { memory = record { session = keeping (M .session) k; line = line; buffers = M .buffers; out = M .out }; filled = 0 }
-      ≡ stored M (quiet (record { stage = M .session .stage; kept = l; number = M .session .number; numbers = (stateIn M) .numbers; lent = (stateIn M) .lent }))
+    ≡ stored M (quiet (record { stage = M .session .stage; kept = l; number = M .session .number; numbers = (stateIn M) .numbers; lent = (stateIn M) .lent }))
 unfolding stored stateIn splice
 kept-is M k l line e i =
     let made : ℕ → List ℕ → Buffers → After = λ k n B. record { memory = record { session = keeping (M .session) k; line = n; buffers = B; out = M .out }; filled = 0 } in
@@ -98,5 +98,5 @@ end-is M f s n out e i p =
     ap {B = After} (λ x. record { memory = record { session = x; line = f .memory .line; buffers = f .memory .buffers; out = out }; filled = n }) i
     ∙ ap {B = After} (λ (h : After). record { memory = record { session = h .memory .session; line = h .memory .line; buffers = h .memory .buffers; out = out }; filled = n }) e
     ∙ ap₂ {C = After} (λ u v. record { memory = record { session = g .memory .session; line = g .memory .line; buffers = g .memory .buffers; out = u }; filled = v })
-        (q .1 ∙ ap (λ k. splice k tail (splice 0 (o .text) (M .out))) (sym (zero-add (length (o .text)))) ∙ splice-next 0 (o .text) tail (M .out) (omega arith))
-        (q .0 ∙ sym (length-append (o .text) tail))
+    (q .1 ∙ ap (λ k. splice k tail (splice 0 (o .text) (M .out))) (sym (zero-add (length (o .text)))) ∙ splice-next 0 (o .text) tail (M .out) (omega arith))
+    (q .0 ∙ sym (length-append (o .text) tail))

@@ -1,9 +1,3 @@
-pub mod Digits
-pub mod Splices
-pub mod Doing
-pub mod Filling
-pub mod Starting
 pub mod Boxing
 pub mod Lining
-pub mod Checking
 pub mod Feeding

@@ -12,19 +12,20 @@ use Rattle.paper.specs.Cache.{Counters}
 use Rattle.paper.specs.Lent.{Numbers, Lent, refused}
 use Rattle.step.specs.declared.BoxRecord.{BoxRecord}
 use Rattle.policy.specs.Contract.{numbersOf, countersOf}
-use Rattle.replay.specs.Put.{Put}
-use Rattle.replay.specs.Replay.{boxRefusal, boxNumbers, started, answerText}
+use Rattle.answers.specs.Put.{Put}
+use Rattle.answers.specs.Replay.{boxRefusal, boxNumbers, started, answerText}
 use Rattle.replay.specs.Bytewise.{State, firstLine}
-use Rattle.replay.specs.Memory.{Buffers, Held, held, over, Memory, After, recordOf, codeCounters, stored}
+use Rattle.answers.specs.Done.{recordOf}
+use Rattle.replay.specs.Memory.{Buffers, Held, held, over, Memory, After, codeCounters, stored}
 
 pub line-done : (M : Memory) (stage number : ℕ) (x : BoxRecord) (k : Code.Counters) (N : Numbers) (t : Lent) (text : List ℕ) (B : Buffers) (out : List ℕ) (r : ℕ)
     → numbersOf x ≡ N → held (x .held) (countersOf k) B ≡ over t (M .buffers) → Put 0 text (M .out) r out
     → record { memory = record { session = record { stage = stage; kept = 0; number = number; box_record = x; counters = k }; line = M .line; buffers = B; out = out }; filled = r }
-      ≡ stored M (record { state = record { stage = stage; kept = []; number = number; numbers = N; lent = t }; text = text })
+    ≡ stored M (record { state = record { stage = stage; kept = []; number = number; numbers = N; lent = t }; text = text })
 unfolding stored over splice
 line-done M stage number x k N t text B out r n h p =
     let made : Numbers → ℕ → Counters → Buffers → List ℕ → ℕ → After =
-        λ N n q B o f. record { memory = record { session = record { stage = stage; kept = 0; number = number; box_record = recordOf N n; counters = codeCounters q }; line = M .line; buffers = B; out = o }; filled = f } in
+    λ N n q B o f. record { memory = record { session = record { stage = stage; kept = 0; number = number; box_record = recordOf N n; counters = codeCounters q }; line = M .line; buffers = B; out = o }; filled = f } in
     ap (λ y. made y (x .held) (countersOf k) B out r) n
     ∙ ap (λ (y : Held). made N (y .n) (y .counters) (y .buffers) out r) h
     ∙ ap₂ (made N (t .n) (t .counters) ((over t (M .buffers)) .buffers)) (p .1) (p .0 ∙ zero-add (length text))

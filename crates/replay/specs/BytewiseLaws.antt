@@ -12,7 +12,7 @@ use borrow.Author.Tests.{ltb-true, ltb-false}
 use Rattle.paper.specs.KeyedLaws.{by-test}
 use Rattle.paper.specs.Lent.{Numbers, Lent, refused}
 use Rattle.lines.specs.Lines.{onto, linesIn, lines, parsed}
-use Rattle.replay.specs.Replay.{boxRefusal, boxNumbers, started, asked, doing, answerText, next, laterLines, allLines, replay}
+use Rattle.answers.specs.Replay.{boxRefusal, boxNumbers, started, asked, doing, answerText, next, laterLines, allLines, replay}
 use Rattle.replay.specs.Bytewise.{State, firstLine, laterLine, endLine, keep, byteIn, lastLine, atEnd, rest}
 
 -- ---- the bytes kept of a line
@@ -21,12 +21,12 @@ kept-more : (p : List ℕ) (x : ℕ) → cond (ltb (length (take 33 p)) 33) (tak
 kept-more p x =
     by-test (ltb (length p) 33)
     (λ e.
-      let h : length p < 33 = ltb-true (length p) 33 e in
-      let s : length (p ++ (x ∷ [])) ≤ 33 = rw length-append (omega arith) in
-      rw (take-all 33 p (omega arith), e, take-all 33 (p ++ (x ∷ [])) s))
+    let h : length p < 33 = ltb-true (length p) 33 e in
+    let s : length (p ++ (x ∷ [])) ≤ 33 = rw length-append (omega arith) in
+    rw (take-all 33 p (omega arith), e, take-all 33 (p ++ (x ∷ [])) s))
     (λ e.
-      let h : 33 ≤ length p = ltb-false (length p) 33 e in
-      rw (length-take-le 33 p h, take-append-le 33 p (x ∷ []) h))
+    let h : 33 ≤ length p = ltb-false (length p) 33 e in
+    rw (length-take-le 33 p h, take-append-le 33 p (x ∷ []) h))
 
 -- a line that is too long shows it in 33 bytes
 parsed-kept : (p : List ℕ) → parsed (take 33 p) ≡ parsed p
@@ -34,11 +34,11 @@ unfolding parsed
 parsed-kept p =
     by-test (ltb 32 (length p))
     (λ e.
-      let h : 33 ≤ length p = ltb-true 32 (length p) e in
-      rw (length-take-le 33 p h, e))
+    let h : 33 ≤ length p = ltb-true 32 (length p) e in
+    rw (length-take-le 33 p h, e))
     (λ e.
-      let h : length p ≤ 32 = ltb-false 32 (length p) e in
-      rw (take-all 33 p (omega arith)))
+    let h : length p ≤ 32 = ltb-false 32 (length p) e in
+    rw (take-all 33 p (omega arith)))
 
 -- ---- lines of which the first bytes are given apart
 
@@ -106,9 +106,9 @@ first p k N t (x ∷ l) =
     let c = parsed p in
     by-test (eqb x 10)
     (λ e. rw (e, parsed-kept p, before-line p [] (linesIn l), append-nil p)
-      (by-test (eqb (boxRefusal c) 0)
-      (λ f. rw f (later [] 1 (boxNumbers c) (started (boxNumbers c)) l))
-      (λ f. rw (f, silent [] k N t l) (append-nil (answerText 0 c (refused (boxRefusal c)))))))
+    (by-test (eqb (boxRefusal c) 0)
+    (λ f. rw f (later [] 1 (boxNumbers c) (started (boxNumbers c)) l))
+    (λ f. rw (f, silent [] k N t l) (append-nil (answerText 0 c (refused (boxRefusal c)))))))
     (λ e. rw (e, kept-more p x, ← onto-lines x l, ← before-more p x (lines l)) (first (p ++ (x ∷ [])) k N t l))
 
 pub rest-replays : (s : State) (input : List ℕ) → s .stage ≡ 0 → s .kept ≡ [] → rest s input ≡ replay input

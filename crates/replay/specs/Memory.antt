@@ -8,18 +8,13 @@ use lib.ListN.{length, take}
 use Rattle.block.specs.Blocks.{splice}
 use Rattle.counters.specs.declared.Counters as Code
 use Rattle.step.specs.declared.BoxRecord.{BoxRecord}
-use Rattle.policy.specs.Contract.{numbersOf, countersOf, lent, answerOf}
-use Rattle.policy.specs.declared.calls.Outcome.{Outcome}
+use Rattle.policy.specs.Contract.{numbersOf, countersOf, lent}
 use Rattle.paper.specs.Cache.{Counters}
-use Rattle.paper.specs.Lent.{Numbers, Lent}
-use Rattle.replay.specs.Replay.{Done}
+use Rattle.paper.specs.Lent.{Lent}
+use Rattle.answers.specs.Done.{recordOf}
 use Rattle.replay.specs.Bytewise.{State, Printed, byteIn, atEnd}
 use Rattle.replay.specs.declared.Session.{Session}
 use Rattle.replay.specs.declared.Fed.{Fed}
-
--- what a call of the code answers, and what is lent after it
-abbrev pub doneOf : Outcome → (disk flash addresses blocks : List ℕ) → Done
-doneOf r disk flash addresses blocks = record { answer = answerOf (r .answer); lent = lent (r .box_record) disk flash addresses blocks (countersOf (r .counters)) }
 
 -- ---- the buffers of the box
 
@@ -87,16 +82,14 @@ stateIn M =
     let s = M .session in
     record { stage = s .stage; kept = take (s .kept) (M .line); number = s .number; numbers = numbersOf (s .box_record); lent = within (s .box_record) (M .buffers) (countersOf (s .counters)) }
 
--- what is printed, and the state after it, written over the buffers' first bytes
-abbrev pub recordOf : Numbers → ℕ → BoxRecord
-recordOf N n = record { size = N .B; blocks = N .P; rows = N .m; slots = N .d; held = n }
-
+-- a state as the code has it
 abbrev pub codeCounters : Counters → Code.Counters
 codeCounters k = record { reads = k .reads; hits = k .hits; flash = k .flashWrites; primary = k .primaryWrites }
 
 abbrev pub sessionOf : State → Session
 sessionOf s = record { stage = s .stage; kept = length (s .kept); number = s .number; box_record = recordOf (s .numbers) (s .lent .n); counters = codeCounters (s .lent .counters) }
 
+-- what is printed, and the state after it, written over the buffers' first bytes
 pub record After : Type 0 where
   pub memory : Memory
   pub filled : ℕ

@@ -27,10 +27,11 @@ use Rattle.policy.specs.Sizes.{most}
 use Rattle.lines.specs.Lines.{parsed}
 use Rattle.lines.specs.declared.Command.{Command}
 use Rattle.lines.specs.declared.Command.the-variants.{Box, Read, Look, Flush, Through, Back, Invalidate, Unformed}
-use Rattle.replay.specs.Replay.{large, boxRefusal, boxNumbers, startDisk, started, asked, doing, askText, wordText, countsText, answerText}
-use Rattle.replay.specs.DecimalLaws.{decimal-length}
+use Rattle.answers.specs.Replay.{large, boxRefusal, boxNumbers, startDisk, started, asked, doing, askText, wordText, countsText, answerText}
+use Rattle.answers.specs.DecimalLaws.{decimal-length}
 use Rattle.replay.specs.Bytewise.{State, Printed, firstLine, laterLine, endLine, keep, byteIn, atEnd}
-use Rattle.replay.specs.Memory.{Memory, Sized, Holds, recordOf, lengthsFit, numbersFit, fits, over, stateIn, stored, fed, ended}
+use Rattle.answers.specs.Done.{recordOf}
+use Rattle.replay.specs.Memory.{Memory, Sized, Holds, lengthsFit, numbersFit, fits, over, stateIn, stored, fed, ended}
 
 -- ---- a text put at the start of a buffer
 
@@ -115,9 +116,17 @@ opened-fits (Box B P m d) e =
     let u = none-holds (unfit N) 1 (large N) (omega arith) e in
     let v = (none-holds (ltb 256 P || ltb 16384 (P * B) || ltb 16384 (d * B)) 5 0 (omega arith) (u .1)) .0 in
     let w = or-false-left (ltb 256 P || ltb 16384 (P * B)) (ltb 16384 (d * B)) v in
-    let n = most (recordOf N 0) (u .0) in
-    (u .0, (n .size, ltb-false 256 P (or-false-left (ltb 256 P) (ltb 16384 (P * B)) w), n .rows, n .slots, ltb-false 16384 (P * B) (or-false-right (ltb 256 P) (ltb 16384 (P * B)) w),
-     ltb-false 16384 (d * B) (or-false-right (ltb 256 P || ltb 16384 (P * B)) (ltb 16384 (d * B)) v)))
+    let n = most (recordOf N 0) (u .0) in (
+      u .0,
+      (
+        n .size,
+        ltb-false 256 P (or-false-left (ltb 256 P) (ltb 16384 (P * B)) w),
+        n .rows,
+        n .slots,
+        ltb-false 16384 (P * B) (or-false-right (ltb 256 P) (ltb 16384 (P * B)) w),
+        ltb-false 16384 (d * B) (or-false-right (ltb 256 P || ltb 16384 (P * B)) (ltb 16384 (d * B)) v),
+      ),
+    )
 opened-fits (Read a) e = absurd (omega arith)
 opened-fits (Look a) e = absurd (omega arith)
 opened-fits Flush e = absurd (omega arith)
@@ -205,13 +214,19 @@ fitting M h =
     let k = leb (M .session .kept) 33 in
     let x = six-tests (eqb l 33) (eqb d 16384) (eqb f 16384) (eqb a 40960) (eqb t 10240) (eqb o 256) (and-left L n (and-left (L && n) k h)) in
     let y = six-tests (leb (b .size) 4096) (leb (b .blocks) 256) (leb (b .rows) 1024) (leb (b .slots) 256) (leb (b .blocks * b .size) 16384) (leb (b .slots * b .size) 16384)
-        (and-right L n (and-left (L && n) k h)) in
+    (and-right L n (and-left (L && n) k h)) in
     record {
       line = eqb-true l 33 (x .0);
       sized = (eqb-true d 16384 (x .1), eqb-true f 16384 (x .2), eqb-true a 40960 (x .3), eqb-true t 10240 (x .4));
       out = eqb-true o 256 (x .5);
-      holds = (leb-true (b .size) 4096 (y .0), leb-true (b .blocks) 256 (y .1), leb-true (b .rows) 1024 (y .2), leb-true (b .slots) 256 (y .3),
-               leb-true (b .blocks * b .size) 16384 (y .4), leb-true (b .slots * b .size) 16384 (y .5));
+      holds = (
+        leb-true (b .size) 4096 (y .0),
+        leb-true (b .blocks) 256 (y .1),
+        leb-true (b .rows) 1024 (y .2),
+        leb-true (b .slots) 256 (y .3),
+        leb-true (b .blocks * b .size) 16384 (y .4),
+        leb-true (b .slots * b .size) 16384 (y .5),
+      );
       kept = leb-true (M .session .kept) 33 (and-right (L && n) k h);
     }
 
@@ -221,8 +236,21 @@ fitting-fits M h =
     let s = h .sized in
     let n = h .holds in
     let b = M .session .box_record in
-    rw (h .line, s .0, s .1, s .2, s .3, h .out, le-leb (b .size) 4096 (n .0), le-leb (b .blocks) 256 (n .1), le-leb (b .rows) 1024 (n .2), le-leb (b .slots) 256 (n .3),
-        le-leb (b .blocks * b .size) 16384 (n .4), le-leb (b .slots * b .size) 16384 (n .5), le-leb (M .session .kept) 33 (h .kept))
+    rw (
+      h .line,
+      s .0,
+      s .1,
+      s .2,
+      s .3,
+      h .out,
+      le-leb (b .size) 4096 (n .0),
+      le-leb (b .blocks) 256 (n .1),
+      le-leb (b .rows) 1024 (n .2),
+      le-leb (b .slots) 256 (n .3),
+      le-leb (b .blocks * b .size) 16384 (n .4),
+      le-leb (b .slots * b .size) 16384 (n .5),
+      le-leb (M .session .kept) 33 (h .kept),
+    )
 
 -- ---- the way into memory and back
 
@@ -250,8 +278,13 @@ stored-back M o h =
     let t = s .lent in
     let N = s .numbers in
     let l = h .lengths in
-    rw (take-splice (length (s .kept)) (s .kept) (M .line) refl, take-splice (N .P * N .B) (t .disk) (M .buffers .disk) (l .disk), take-splice (N .d * N .B) (t .flash) (M .buffers .flash) (l .flash),
-        take-splice (N .m * 40) (t .addresses) (M .buffers .addresses) (l .addresses), take-splice (N .d * 40) (t .blocks) (M .buffers .blocks) (l .blocks))
+    rw (
+      take-splice (length (s .kept)) (s .kept) (M .line) refl,
+      take-splice (N .P * N .B) (t .disk) (M .buffers .disk) (l .disk),
+      take-splice (N .d * N .B) (t .flash) (M .buffers .flash) (l .flash),
+      take-splice (N .m * 40) (t .addresses) (M .buffers .addresses) (l .addresses),
+      take-splice (N .d * 40) (t .blocks) (M .buffers .blocks) (l .blocks),
+    )
 
 stored-fits : (M : Memory) (o : Printed) → fits M ≡ true → Small o → fits ((stored M o) .memory) ≡ true
 unfolding stored over
@@ -264,8 +297,12 @@ stored-fits M o h q =
     fitting-fits ((stored M o) .memory)
     (record {
       line = length-splice 0 (o .state .kept) (M .line) (omega arith) ∙ g .line;
-      sized = (length-splice 0 (t .disk) (B .disk) (omega arith) ∙ z .0, length-splice 0 (t .flash) (B .flash) (omega arith) ∙ z .1,
-               length-splice 0 (t .addresses) (B .addresses) (omega arith) ∙ z .2, length-splice 0 (t .blocks) (B .blocks) (omega arith) ∙ z .3);
+      sized = (
+        length-splice 0 (t .disk) (B .disk) (omega arith) ∙ z .0,
+        length-splice 0 (t .flash) (B .flash) (omega arith) ∙ z .1,
+        length-splice 0 (t .addresses) (B .addresses) (omega arith) ∙ z .2,
+        length-splice 0 (t .blocks) (B .blocks) (omega arith) ∙ z .3,
+      );
       out = length-splice 0 (o .text) (M .out) (omega arith) ∙ g .out;
       holds = f .holds;
       kept = f .kept;

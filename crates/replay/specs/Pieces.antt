@@ -4,7 +4,7 @@ use mathlib.Core.Bool.{true}
 use mathlib.Core.List.{List, [], _∷_, _++_}
 use Prim.Native.Nat.{ℕ}
 use lib.ListN.{take}
-use Rattle.replay.specs.Replay.{replay}
+use Rattle.answers.specs.Replay.{replay}
 use Rattle.replay.specs.Bytewise.{rest}
 use Rattle.replay.specs.BytewiseLaws.{rest-replays}
 use Rattle.replay.specs.Memory.{Memory, After, fits, stateIn, fed, ended}

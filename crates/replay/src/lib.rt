@@ -1,10 +1,7 @@
 // Replay: a list of calls as text, byte by byte, and what each line prints.
-mod call;
 mod checks;
 pub mod feed;
 mod line;
-mod print;
-mod start;
 
 use counters::Counters;
 use step::BoxRecord;

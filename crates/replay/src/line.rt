@@ -1,10 +1,10 @@
 // What a line does, in the buffers that hold the box in their first bytes.
 use crate::Fed;
 use crate::Session;
-use crate::call;
-use crate::checks;
-use crate::print;
-use crate::start;
+use answers::boxes;
+use answers::call;
+use answers::print;
+use answers::start;
 use counters::Counters;
 use lines::Command;
 use policy::Answer;
@@ -18,7 +18,7 @@ ghost use Prim.Native.Nat.{ℕ, _≤_};
 ghost use lib.ListN.{length};
 ghost use Rattle.paper.specs.Lent.{unfit};
 ghost use Rattle.policy.specs.Contract.{numbersOf, countersOf, answerOf};
-ghost use Rattle.replay.specs.Replay.{started, asked, doing};
+ghost use Rattle.answers.specs.Replay.{started, asked, doing};
 ghost use Rattle.replay.specs.Bytewise.{firstLine, laterLine};
 ghost use Rattle.replay.specs.Memory.{buffers, within, held, over, memory, Sized, Holds, stateIn, stored, afterOf};
 
@@ -98,7 +98,7 @@ pub fn first(
     ensures { λ r. ⌜ ((line : List ℕ) → afterOf r line (now (disk .exit)) (now (flash .exit)) (now (addresses .exit)) (now (blocks .exit)) (now (out .exit))
         ≡ stored (memory s line (now (disk .entry)) (now (flash .entry)) (now (addresses .entry)) (now (blocks .entry)) (now (out .entry))) (firstLine (stateIn (memory s line (now (disk .entry)) (now (flash .entry)) (now (addresses .entry)) (now (blocks .entry)) (now (out .entry)))) c)) ⌝ }
 {
-    let number = checks::box_refusal(c);
+    let number = boxes::box_refusal(c);
     if number != 0 {
         let filled = print::answer(out, 0, 0, c, Answer::Refused(number));
         let b = s.box_record;
@@ -114,7 +114,7 @@ pub fn first(
             filled: filled,
         };
     }
-    let x = open_box(checks::box_of(c), disk, flash, addresses, blocks);
+    let x = open_box(boxes::box_of(c), disk, flash, addresses, blocks);
     let b = x.box_record;
     let k = x.counters;
     Fed {

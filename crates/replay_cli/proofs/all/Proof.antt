@@ -53,14 +53,21 @@ loop-less c = fewer (c .before .before .before .before .before .before .before .
 
 -- src/main.rt:136:5
 loop-again : tie.Need-loop-again Inv-loop μ-loop
-loop-again c = 
+loop-again c =
     let i = c .before .before .before .before .before .before .before .before .before .before .before .before .before .before .before .before .before .before .before .before .before .before .before .before .before .loop .inv in
     let f = c .before .before .before .before .before .before .before .before .before .before .before .before .before .before .before .turn in
     let l = f .kept .1 in
     let e = f .ensures in
-    let b = i .7 in
-    (l .0 ∙ i .0, l .1 .0 ∙ i .1, l .1 .1 .0 ∙ i .2, l .1 .1 .1 .0 ∙ i .3, l .1 .1 .1 .1 .0 ∙ i .4, l .1 .1 .1 .1 .1 .0 ∙ i .5, l .1 .1 .1 .1 .1 .1 .0 ∙ i .6,
-     (b .0 ++ e .0, e .1 ∙ ap (fedFirst (e .0) (length (e .0))) (b .1) ∙ joined (b .0) (e .0) _))
+    let b = i .7 in (
+      l .0 ∙ i .0,
+      l .1 .0 ∙ i .1,
+      l .1 .1 .0 ∙ i .2,
+      l .1 .1 .1 .0 ∙ i .3,
+      l .1 .1 .1 .1 .0 ∙ i .4,
+      l .1 .1 .1 .1 .1 .0 ∙ i .5,
+      l .1 .1 .1 .1 .1 .1 .0 ∙ i .6,
+      (b .0 ++ e .0, e .1 ∙ ap (fedFirst (e .0) (length (e .0))) (b .1) ∙ joined (b .0) (e .0) _),
+    )
 
 -- src/main.rt:121:1
 same-length : tie.Need-same-length Inv-loop μ-loop

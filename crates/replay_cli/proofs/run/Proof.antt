@@ -57,14 +57,21 @@ loop-less c = less (length (c .before .before .before .before .before .before .b
 
 -- src/main.rt:53:5
 loop-again : tie.Need-loop-again Inv-loop μ-loop
-loop-again c = 
+loop-again c =
     let i = c .before .before .before .before .before .before .before .before .before .before .before .before .before .before .before .before .before .before .before .before .before .loop .inv in
     let k = c .before .before .before .before .before .before .before .before .before .before .before .before .before .before .before .before .before .before .before .before .before .loop .i in
     let a = c .before .before .before .before .before .before .before .before .before .before .before .before .before .before .before .before .before .before .before .before .before .before .before .before .before .before .before .before .before .args in
     let f = c .before .before .before .before .before .before .before .before .before .before .before .before .step in
-    let l = f .kept .1 .1 in
-    (sure (length (a .chunk .now)) k (below c), l .0 ∙ i .1, l .1 .0 ∙ i .2, l .1 .1 .0 ∙ i .3, l .1 .1 .1 .0 ∙ i .4, l .1 .1 .1 .1 .0 ∙ i .5, l .1 .1 .1 .1 .1 .0 ∙ i .6,
-     f .ensures ∙ ap (λ M. (fed (getD (a .chunk .now) k 0) M) .memory) (i .7) ∙ ap (λ n. fedFirst (a .chunk .now) n (memory (a .s) (a .line .now) (a .disk .now) (a .flash .now) (a .addresses .now) (a .blocks .now) (a .out .now))) (sym (next k)))
+    let l = f .kept .1 .1 in (
+      sure (length (a .chunk .now)) k (below c),
+      l .0 ∙ i .1,
+      l .1 .0 ∙ i .2,
+      l .1 .1 .0 ∙ i .3,
+      l .1 .1 .1 .0 ∙ i .4,
+      l .1 .1 .1 .1 .0 ∙ i .5,
+      l .1 .1 .1 .1 .1 .0 ∙ i .6,
+      f .ensures ∙ ap (λ M. (fed (getD (a .chunk .now) k 0) M) .memory) (i .7) ∙ ap (λ n. fedFirst (a .chunk .now) n (memory (a .s) (a .line .now) (a .disk .now) (a .flash .now) (a .addresses .now) (a .blocks .now) (a .out .now))) (sym (next k)),
+    )
 
 -- src/main.rt:38:1
 same-length : tie.Need-same-length Inv-loop μ-loop

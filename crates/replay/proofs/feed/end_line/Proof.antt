@@ -17,32 +17,28 @@ use Rattle.lines.proofs.parse.parse.Reads as parse-reads
 use Rattle.replay.proofs.line.first.Reads as first-reads
 use Rattle.replay.proofs.line.later.Reads as later-reads
 
--- src/feed.rt:94:9
 returns : tie.Need-returns
 unfolding stateIn
-returns c = 
+returns c =
     let a = c .before .before .before .before .before .before .before .before .before .before .before .before .before .before .before .before .before .before .before .before .before .before .before .before .before .before .args in
     let M = memory (a .s) (a .line .now) (a .disk .now) (a .flash .now) (a .addresses .now) (a .blocks .now) (a .out .now) in
     let e = c .before .before .before .before .before .before .before .before .before .before .before .before .before .before .before .before .before .before .parse .ensures ∙ ap (λ k. parsed (take k (a .line .now))) (sub-zero (a .s .kept)) in
     (c .before .before .before .before .before .before .before .before .before .before .first .ensures .0, c .before .before .before .before .before .before .before .before .before .before .first .ensures .1 (a .line .now) ∙ ap (λ c. stored M (firstLine (stateIn M) c)) e ∙ ap (stored M) (end-first (stateIn M) (c .before .before .before .before .before .before .before .before .before .before .before .before .before .before .before .before .if1 .taken)))
 
--- src/feed.rt:97:9
 later-requires : tie.Need-later-requires
 later-requires c κs = (c .before .before .before .before .before .before .before .before .before .before .before .before .before .before .before .before .before .pre .0, (c .before .before .before .before .before .before .before .before .before .before .before .before .before .before .before .before .before .pre .1 .0, c .before .before .before .before .before .before .before .before .before .before .before .before .before .before .before .before .before .pre .1 .1 .0))
 
--- src/feed.rt:97:9
 returns-2 : tie.Need-returns-2
 unfolding stateIn
-returns-2 c = 
+returns-2 c =
     let a = c .before .before .before .before .before .before .before .before .before .before .before .before .before .before .before .before .before .before .before .before .before .before .before .before .before .before .before .before .args in
     let M = memory (a .s) (a .line .now) (a .disk .now) (a .flash .now) (a .addresses .now) (a .blocks .now) (a .out .now) in
     let e = c .before .before .before .before .before .before .before .before .before .before .before .before .before .before .before .before .before .before .before .before .parse .ensures ∙ ap (λ k. parsed (take k (a .line .now))) (sub-zero (a .s .kept)) in
     (c .before .before .before .before .before .before .before .before .before .before .later .ensures .0, c .before .before .before .before .before .before .before .before .before .before .later .ensures .1 (a .line .now) ∙ ap (λ c. stored M (laterLine (stateIn M) c)) e ∙ ap (stored M) (end-later (stateIn M) (c .before .before .before .before .before .before .before .before .before .before .before .before .before .before .before .before .before .before .if1 .left) (c .before .before .before .before .before .before .before .before .before .before .before .before .before .before .before .before .if2 .taken)))
 
--- src/feed.rt:75:1
 returns-3 : tie.Need-returns-3
 unfolding stateIn
-returns-3 c = 
+returns-3 c =
     let a = c .before .before .before .before .before .before .before .before .before .before .before .before .args in
     let M = memory (a .s) (a .line .now) (a .disk .now) (a .flash .now) (a .addresses .now) (a .blocks .now) (a .out .now) in
     (omega arith, quiet-same M (subst (λ n. a .s .kept ≤ n) (sym (c .before .before .before .before .before .before .before .before .before .before .before .before .pre .1 .1 .1)) (c .before .before .before .before .before .before .before .before .before .before .before .before .pre .1 .1 .2)) ∙ ap (stored M) (end-over (stateIn M) (c .before .before .if1 .left) (c .if2 .left)))

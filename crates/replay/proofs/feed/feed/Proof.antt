@@ -14,34 +14,29 @@ use Rattle.replay.proofs.feed.end_line.Reads as end-line-reads
 use Rattle.replay.proofs.feed.fit.Reads as fit-reads
 use Rattle.replay.proofs.feed.keep_byte.Reads as keep-byte-reads
 
--- src/feed.rt:135:9
 returns : tie.Need-returns
 unfolding fed
 returns c = rw (sym (c .before .fit .ensures) ∙ not-true _ (c .if1 .taken)) refl
 
--- src/feed.rt:141:9
 end-line-requires : tie.Need-end-line-requires
-end-line-requires c κs = 
+end-line-requires c κs =
     let a = c .before .before .before .before .before .before .before .before .before .before .before .before .before .before .before .before .before .before .before .before .before .args in
     let g = fitting (memory (a .s) (a .line .now) (a .disk .now) (a .flash .now) (a .addresses .now) (a .blocks .now) (a .out .now)) (sym (c .before .before .before .before .before .before .before .before .fit .ensures) ∙ not-false _ (c .before .before .before .before .before .before .before .if1 .left)) in
     (g .holds, (g .sized, (g .out, g .line, g .kept)))
 
--- src/feed.rt:141:9
 returns-2 : tie.Need-returns-2
 unfolding fed byteIn
 returns-2 c = rw (sym (c .before .before .before .before .before .before .before .before .before .before .before .before .before .before .before .before .before .before .before .fit .ensures) ∙ not-false _ (c .before .before .before .before .before .before .before .before .before .before .before .before .before .before .before .before .before .before .if1 .left), eq-eqb _ _ (c .before .before .before .before .before .before .before .before .before .before .before .before .before .before .before .before .before .if2 .taken)) (c .before .before .before .before .before .before .before .before .before .before .end-line .ensures .1)
 
--- src/feed.rt:143:9
 keep-byte-requires : tie.Need-keep-byte-requires
-keep-byte-requires c κs = 
+keep-byte-requires c κs =
     let a = c .before .before .before .before .before .before .before .before .before .before .before .before .before .before .before .before .args in
     let g = fitting (memory (a .s) (a .line .now) (a .disk .now) (a .flash .now) (a .addresses .now) (a .blocks .now) (a .out .now)) (sym (c .before .before .before .fit .ensures) ∙ not-false _ (c .before .before .if1 .left)) in
     (g .line, g .kept)
 
--- src/feed.rt:121:1
 returns-3 : tie.Need-returns-3
 unfolding fed byteIn
-returns-3 c = 
+returns-3 c =
     let a = c .before .before .before .before .before .before .before .before .before .before .before .before .before .before .before .before .before .before .before .args in
     rw (sym (c .before .before .before .before .before .before .fit .ensures) ∙ not-false _ (c .before .before .before .before .before .if1 .left), ne-eqb _ _ (c .before .before .before .before .if2 .left)) (c .before .before .keep-byte .ensures (a .disk .now) (a .flash .now) (a .addresses .now) (a .blocks .now) (a .out .now))
 

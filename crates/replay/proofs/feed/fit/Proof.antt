@@ -10,17 +10,14 @@ use Rattle.replay.proofs.feed.fit.Lts as lts
 use Rattle.replay.proofs.checks.lengths_fit.Reads as lengths-fit-reads
 use Rattle.replay.proofs.checks.numbers_fit.Reads as numbers-fit-reads
 
--- src/feed.rt:65:9
 returns : tie.Need-returns
 unfolding fits
 returns c = rw (sym (c .before .lengths-fit .ensures) ∙ not-true _ (c .if1 .taken)) refl
 
--- src/feed.rt:69:9
 returns-2 : tie.Need-returns-2
 unfolding fits
 returns-2 c = rw (sym (c .before .before .before .before .lengths-fit .ensures) ∙ not-false _ (c .before .before .before .if1 .left), sym (c .before .numbers-fit .ensures) ∙ not-true _ (c .if2 .taken)) refl
 
--- src/feed.rt:46:1
 returns-3 : tie.Need-returns-3
 unfolding fits
 returns-3 c = rw (sym (c .before .before .before .before .before .lengths-fit .ensures) ∙ not-false _ (c .before .before .before .before .if1 .left), sym (c .before .before .numbers-fit .ensures) ∙ not-false _ (c .before .if2 .left)) refl

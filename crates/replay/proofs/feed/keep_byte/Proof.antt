@@ -8,11 +8,9 @@ use Rattle.replay.proofs.feed.keep_byte.Tie as tie
 use Rattle.replay.proofs.feed.keep_byte.Reads as reads
 use Rattle.replay.proofs.feed.keep_byte.Lts as lts
 
--- src/feed.rt:106:1
 returns : tie.Need-returns
 returns c = λ d f b e o. kept-more (memory (c .before .args .s) (c .before .args .line .now) d f b e o) (c .before .args .x) (c .before .pre .0) (c .if1 .taken)
 
--- src/feed.rt:106:1
 returns-2 : tie.Need-returns-2
 returns-2 c = λ d f b e o. kept-full (memory (c .before .args .s) (c .before .args .line .now) d f b e o) (c .before .args .x) (c .before .pre .0) (c .if1 .left) (c .before .pre .1)
 

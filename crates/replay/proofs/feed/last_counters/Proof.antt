@@ -1,19 +1,17 @@
 -- By the stage. Assumes nothing.
 use mathlib.Core.Path.{refl}
 use borrow.Author.Tests.{eq-eqb, ne-eqb}
-use Rattle.replay.proofs.Splices.{put-none}
+use Rattle.answers.specs.PutLaws.{put-none}
 use borrow.Author.Needs.{needs}
 use Rattle.replay.proofs.feed.last_counters.Statement.{statement}
 use Rattle.replay.proofs.feed.last_counters.Tie as tie
 use Rattle.replay.proofs.feed.last_counters.Reads as reads
 use Rattle.replay.proofs.feed.last_counters.Lts as lts
-use Rattle.replay.proofs.print.counters.Reads as counters-reads
+use Rattle.answers.proofs.print.counters.Reads as counters-reads
 
--- src/feed.rt:186:9
 returns : tie.Need-returns
 returns c = rw (ne-eqb _ _ (c .if1 .taken)) (refl, put-none (c .before .before .before .before .args .f .filled) (c .before .before .before .before .args .out .now))
 
--- src/feed.rt:179:1
 returns-2 : tie.Need-returns-2
 returns-2 c = rw (eq-eqb _ _ (c .before .before .before .before .before .if1 .left)) (refl, c .before .before .counters .ensures .1)
 

@@ -12,7 +12,6 @@ use Rattle.replay.proofs.feed.last_line.Reads as reads
 use Rattle.replay.proofs.feed.last_line.Lts as lts
 use Rattle.replay.proofs.feed.end_line.Reads as end-line-reads
 
--- src/feed.rt:168:9
 returns : tie.Need-returns
 unfolding stateIn
 returns c =
@@ -20,7 +19,6 @@ returns c =
     let M = memory (a .s) (a .line .now) (a .disk .now) (a .flash .now) (a .addresses .now) (a .blocks .now) (a .out .now) in
     (c .before .before .before .before .before .before .before .before .before .before .end-line .ensures .0, c .before .before .before .before .before .before .before .before .before .before .end-line .ensures .1 ∙ ap (stored M) (last-first (stateIn M) (c .before .before .before .before .before .before .before .before .before .before .before .before .before .before .before .before .if1 .taken)))
 
--- src/feed.rt:171:9
 returns-2 : tie.Need-returns-2
 unfolding stateIn
 returns-2 c =
@@ -29,7 +27,6 @@ returns-2 c =
     let k = subst (λ n. a .s .kept ≤ n) (sym (c .before .before .before .before .before .before .before .before .before .before .pre .1 .1 .1)) (c .before .before .before .before .before .before .before .before .before .before .pre .1 .1 .2) in
     (omega arith, quiet-same M k ∙ ap (stored M) (last-none (stateIn M) (c .before .before .if1 .left) (length-take-le (a .s .kept) (a .line .now) k ∙ c .if2 .taken)))
 
--- src/feed.rt:151:1
 returns-3 : tie.Need-returns-3
 unfolding stateIn
 returns-3 c =

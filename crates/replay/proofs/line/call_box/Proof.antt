@@ -2,15 +2,14 @@
 use mathlib.Core.Path.{ap, _∙_}
 use borrow.Author.Needs.{needs}
 use Rattle.policy.specs.Contract.{numbersOf, countersOf}
-use Rattle.replay.specs.Replay.{Done, asked, doing}
+use Rattle.answers.specs.Replay.{Done, asked, doing}
 use Rattle.replay.proofs.Boxing.{within-is, put-back}
 use Rattle.replay.proofs.line.call_box.Statement.{statement}
 use Rattle.replay.proofs.line.call_box.Tie as tie
 use Rattle.replay.proofs.line.call_box.Reads as reads
 use Rattle.replay.proofs.line.call_box.Lts as lts
-use Rattle.replay.proofs.call.call.Reads as call-reads
+use Rattle.answers.proofs.call.call.Reads as call-reads
 
--- src/line.rt:54:1
 returns : tie.Need-returns
 returns c =
     let s = c .before .before .before .before .before .before .before .before .before .before .before .before .before .before .before .before .before .before .before .before .before in
@@ -19,11 +18,14 @@ returns c =
     let d = r .last .1 .1 in
     let k = r .kept .1 .1 in
     let w = within-is (a .b) (countersOf (a .k)) (a .disk .now) (a .flash .now) (a .addresses .now) (a .blocks .now) in
-    let e = r .ensures .1 ∙ ap (λ l. doing (numbersOf (a .b)) l (asked (a .b .size) (a .c))) w in
-    (r .ensures .0,
-     (ap (λ (x : Done). x .answer) e,
-      put-back (a .b) (r .result .box_record) (countersOf (r .result .counters)) _ (a .disk .now) (a .flash .now) (a .addresses .now) (a .blocks .now)
-       (d .0) (d .1 .0) (d .1 .1 .0) (d .1 .1 .1 .0) (s .pre .0) (s .pre .1) (k .0) (k .1 .0) (k .1 .1 .0) (k .1 .1 .1 .0) (ap (λ (x : Done). x .lent) e)))
+    let e = r .ensures .1 ∙ ap (λ l. doing (numbersOf (a .b)) l (asked (a .b .size) (a .c))) w in (
+      r .ensures .0,
+      (
+        ap (λ (x : Done). x .answer) e,
+        put-back (a .b) (r .result .box_record) (countersOf (r .result .counters)) _ (a .disk .now) (a .flash .now) (a .addresses .now) (a .blocks .now)
+            (d .0) (d .1 .0) (d .1 .1 .0) (d .1 .1 .1 .0) (s .pre .0) (s .pre .1) (k .0) (k .1 .0) (k .1 .1 .0) (k .1 .1 .1 .0) (ap (λ (x : Done). x .lent) e),
+      ),
+    )
 
 pub call-box-spec : {M : Type 1} → statement M
 call-box-spec =

@@ -6,7 +6,7 @@ use borrow.Author.Needs.{needs}
 use Rattle.block.specs.Blocks.{splice}
 use Rattle.paper.specs.Lent.{unfit}
 use Rattle.policy.specs.Contract.{numbersOf, countersOf}
-use Rattle.replay.specs.Replay.{boxNumbers, started}
+use Rattle.answers.specs.Replay.{boxNumbers, started}
 use Rattle.replay.specs.Memory.{memory, over, stateIn, stored, Holds}
 use Rattle.replay.specs.MemoryLaws.{opened-fits}
 use Rattle.replay.proofs.Boxing.{over-same}
@@ -15,24 +15,23 @@ use Rattle.replay.proofs.line.first.Statement.{statement}
 use Rattle.replay.proofs.line.first.Tie as tie
 use Rattle.replay.proofs.line.first.Reads as reads
 use Rattle.replay.proofs.line.first.Lts as lts
-use Rattle.replay.proofs.checks.box_of.Reads as box-of-reads
-use Rattle.replay.proofs.checks.box_refusal.Reads as box-refusal-reads
+use Rattle.answers.proofs.boxes.box_of.Reads as box-of-reads
+use Rattle.answers.proofs.boxes.box_refusal.Reads as box-refusal-reads
 use Rattle.replay.proofs.line.open_box.Reads as open-box-reads
-use Rattle.replay.proofs.print.answer.Reads as answer-reads
+use Rattle.answers.proofs.print.answer.Reads as answer-reads
 
--- src/line.rt:106:9
 returns : tie.Need-returns
 unfolding stateIn
 returns c =
     let a = c .before .before .before .before .before .before .before .before .before .before .before .before .before .args in
     let p = c .before .before .before .before .answer .ensures in
-    let n = c .before .before .before .before .before .before .before .box-refusal in
-    (omega (arith, p .0),
-     λ line. (let M = memory (a .s) line (a .disk .now) (a .flash .now) (a .addresses .now) (a .blocks .now) (a .out .now) in
-       line-done M 2 (a .s .number) (a .s .box_record) (a .s .counters) _ _ _ (M .buffers) _ _ refl (over-same (a .s .box_record) (countersOf (a .s .counters)) (a .disk .now) (a .flash .now) (a .addresses .now) (a .blocks .now)) (p .1)
-       ∙ ap (stored M) (refused-is (stateIn M) (a .c) (n .result) (n .ensures) (c .before .before .before .before .before .before .if1 .taken))))
+    let n = c .before .before .before .before .before .before .before .box-refusal in (
+      omega (arith, p .0),
+      λ line. (let M = memory (a .s) line (a .disk .now) (a .flash .now) (a .addresses .now) (a .blocks .now) (a .out .now) in
+          line-done M 2 (a .s .number) (a .s .box_record) (a .s .counters) _ _ _ (M .buffers) _ _ refl (over-same (a .s .box_record) (countersOf (a .s .counters)) (a .disk .now) (a .flash .now) (a .addresses .now) (a .blocks .now)) (p .1)
+          ∙ ap (stored M) (refused-is (stateIn M) (a .c) (n .result) (n .ensures) (c .before .before .before .before .before .before .if1 .taken))),
+    )
 
--- src/line.rt:117:9
 open-box-requires : tie.Need-open-box-requires
 open-box-requires c κs =
     let a = c .before .before .before .before .before .before .before .before .before .before .before .before .args in
@@ -40,18 +39,18 @@ open-box-requires c κs =
     let f = opened-fits (a .c) (sym (c .before .before .before .before .before .before .box-refusal .ensures) ∙ c .before .before .before .before .before .if1 .left) in
     (subst Holds (sym e) (f .1), (ap (λ b. unfit (numbersOf b)) e ∙ f .0, c .before .before .before .before .before .before .before .before .before .before .before .before .pre .0))
 
--- src/line.rt:86:1
 returns-2 : tie.Need-returns-2
 unfolding stateIn splice
 returns-2 c =
     let a = c .before .before .before .before .before .before .before .before .before .before .before .before .before .before .before .before .before .before .before .before .before .before .before .args in
     let o = c .before .before .before .before .before .before .before .before .before .before .open-box in
     let n = c .before .before .before .before .before .before .before .before .before .before .before .before .before .before .before .before .before .box-refusal in
-    let e = c .before .before .before .before .before .before .before .before .before .before .before .before .before .before .before .box-of .ensures in
-    (omega arith,
-     λ line. (let M = memory (a .s) line (a .disk .now) (a .flash .now) (a .addresses .now) (a .blocks .now) (a .out .now) in
-       line-done M 1 1 (o .result .box_record) (o .result .counters) (boxNumbers (a .c)) (started (boxNumbers (a .c))) [] _ (a .out .now) 0 (o .ensures .0 ∙ ap numbersOf e) (o .ensures .1 ∙ ap (λ b. over (started (numbersOf b)) (M .buffers)) e) (refl, refl)
-       ∙ ap (stored M) (begun-is (stateIn M) (a .c) (sym (n .ensures) ∙ c .before .before .before .before .before .before .before .before .before .before .before .before .before .before .before .before .if1 .left))))
+    let e = c .before .before .before .before .before .before .before .before .before .before .before .before .before .before .before .box-of .ensures in (
+      omega arith,
+      λ line. (let M = memory (a .s) line (a .disk .now) (a .flash .now) (a .addresses .now) (a .blocks .now) (a .out .now) in
+          line-done M 1 1 (o .result .box_record) (o .result .counters) (boxNumbers (a .c)) (started (boxNumbers (a .c))) [] _ (a .out .now) 0 (o .ensures .0 ∙ ap numbersOf e) (o .ensures .1 ∙ ap (λ b. over (started (numbersOf b)) (M .buffers)) e) (refl, refl)
+          ∙ ap (stored M) (begun-is (stateIn M) (a .c) (sym (n .ensures) ∙ c .before .before .before .before .before .before .before .before .before .before .before .before .before .before .before .before .if1 .left))),
+    )
 
 pub first-spec : {M : Type 1} → statement M
 first-spec =

@@ -4,7 +4,7 @@ use mathlib.Core.List.{[]}
 use native.Mathlib.Omega.{arith}
 use borrow.Author.Needs.{needs}
 use Rattle.policy.specs.Contract.{numbersOf, countersOf, answerOf}
-use Rattle.replay.specs.Replay.{asked, doing, answerText}
+use Rattle.answers.specs.Replay.{asked, doing, answerText}
 use Rattle.replay.specs.Bytewise.{laterLine}
 use Rattle.replay.specs.Memory.{memory, within, stateIn, stored}
 use Rattle.replay.proofs.Lining.{line-done}
@@ -13,22 +13,22 @@ use Rattle.replay.proofs.line.later.Tie as tie
 use Rattle.replay.proofs.line.later.Reads as reads
 use Rattle.replay.proofs.line.later.Lts as lts
 use Rattle.replay.proofs.line.call_box.Reads as call-box-reads
-use Rattle.replay.proofs.print.answer.Reads as answer-reads
+use Rattle.answers.proofs.print.answer.Reads as answer-reads
 use Rattle.std.proofs.num.wrapping_add_u64.Reads as wrapping-add-u64-reads
 
--- src/line.rt:133:1
 returns : tie.Need-returns
 unfolding stateIn laterLine
 returns c =
     let a = c .before .before .before .before .before .before .before .before .before .before .before .before .before .before .before .before .before .before .before .before .before .before .before .before .before .before .before .args in
     let o = c .before .before .before .before .before .before .before .before .before .before .before .before .before .before .before .call-box in
     let w = c .wrapping-add-u64 in
-    let p = c .before .before .before .before .before .answer .ensures in
-    (omega (arith, p .0),
-     λ line. (let M = memory (a .s) line (a .disk .now) (a .flash .now) (a .addresses .now) (a .blocks .now) (a .out .now) in
-       let D = doing (numbersOf (a .s .box_record)) (within (a .s .box_record) (M .buffers) (countersOf (a .s .counters))) (asked (a .s .box_record .size) (a .c)) in
-       line-done M 1 (w .result) (o .result .box_record) (o .result .counters) (numbersOf (a .s .box_record)) (D .lent) (answerText (a .s .number) (a .c) (answerOf (o .result .answer))) _ _ _ (o .ensures .0) (o .ensures .1 .1) (p .1)
-       ∙ ap₂ (λ k x. stored M (record { state = record { stage = 1; kept = []; number = k; numbers = numbersOf (a .s .box_record); lent = D .lent }; text = answerText (a .s .number) (a .c) x })) (w .ensures) (o .ensures .1 .0)))
+    let p = c .before .before .before .before .before .answer .ensures in (
+      omega (arith, p .0),
+      λ line. (let M = memory (a .s) line (a .disk .now) (a .flash .now) (a .addresses .now) (a .blocks .now) (a .out .now) in
+          let D = doing (numbersOf (a .s .box_record)) (within (a .s .box_record) (M .buffers) (countersOf (a .s .counters))) (asked (a .s .box_record .size) (a .c)) in
+          line-done M 1 (w .result) (o .result .box_record) (o .result .counters) (numbersOf (a .s .box_record)) (D .lent) (answerText (a .s .number) (a .c) (answerOf (o .result .answer))) _ _ _ (o .ensures .0) (o .ensures .1 .1) (p .1)
+          ∙ ap₂ (λ k x. stored M (record { state = record { stage = 1; kept = []; number = k; numbers = numbersOf (a .s .box_record); lent = D .lent }; text = answerText (a .s .number) (a .c) x })) (w .ensures) (o .ensures .1 .0)),
+    )
 
 pub later-spec : {M : Type 1} → statement M
 later-spec =

@@ -3,35 +3,35 @@ use Prim.Native.Nat.{_*_}
 use native.Mathlib.Omega.{arith}
 use borrow.Author.Needs.{needs}
 use Rattle.policy.specs.Contract.{numbersOf, countersOf}
-use Rattle.replay.specs.Replay.{started}
+use Rattle.answers.specs.Replay.{started}
 use Rattle.replay.proofs.Boxing.{first-length, put-back}
 use Rattle.replay.proofs.line.open_box.Statement.{statement}
 use Rattle.replay.proofs.line.open_box.Tie as tie
 use Rattle.replay.proofs.line.open_box.Reads as reads
 use Rattle.replay.proofs.line.open_box.Lts as lts
-use Rattle.replay.proofs.start.start.Reads as start-reads
+use Rattle.answers.proofs.start.start.Reads as start-reads
 
--- src/line.rt:44:5
 start-requires : tie.Need-start-requires
 start-requires c κs =
     let s = c .before .before .before .before .before .before .before .before .before .before .before .before in
     let a = s .args in
     let h = s .pre .0 in
-    let z = s .pre .1 .1 in
-    ((h .0, h .1, s .pre .1 .0),
-     (first-length (a .b .blocks * a .b .size) (a .disk .now) (omega arith), first-length (a .b .slots * a .b .size) (a .flash .now) (omega arith), first-length (a .b .rows * 40) (a .addresses .now) (omega arith), first-length (a .b .slots * 40) (a .blocks .now) (omega arith)))
+    let z = s .pre .1 .1 in (
+      (h .0, h .1, s .pre .1 .0),
+      (first-length (a .b .blocks * a .b .size) (a .disk .now) (omega arith), first-length (a .b .slots * a .b .size) (a .flash .now) (omega arith), first-length (a .b .rows * 40) (a .addresses .now) (omega arith), first-length (a .b .slots * 40) (a .blocks .now) (omega arith)),
+    )
 
--- src/line.rt:26:1
 returns : tie.Need-returns
 returns c =
     let s = c .before .before .before .before .before .before .before .before .before .before .before .before .before .before .before .before .before .before .before .before .before in
     let a = s .args in
     let r = c .before .before .before .before .before .before .before .before .start in
     let d = r .last .1 in
-    let k = r .kept .1 in
-    (r .ensures .0,
-     put-back (a .b) (r .result .box_record) (countersOf (r .result .counters)) (started (numbersOf (a .b))) (a .disk .now) (a .flash .now) (a .addresses .now) (a .blocks .now)
-       (d .0) (d .1 .0) (d .1 .1 .0) (d .1 .1 .1 .0) (s .pre .0) (s .pre .1 .1) (k .0) (k .1 .0) (k .1 .1 .0) (k .1 .1 .1 .0) (r .ensures .1))
+    let k = r .kept .1 in (
+      r .ensures .0,
+      put-back (a .b) (r .result .box_record) (countersOf (r .result .counters)) (started (numbersOf (a .b))) (a .disk .now) (a .flash .now) (a .addresses .now) (a .blocks .now)
+          (d .0) (d .1 .0) (d .1 .1 .0) (d .1 .1 .1 .0) (s .pre .0) (s .pre .1 .1) (k .0) (k .1 .0) (k .1 .1 .0) (k .1 .1 .1 .0) (r .ensures .1),
+    )
 
 pub open-box-spec : {M : Type 1} → statement M
 open-box-spec =

@@ -1,0 +1,5 @@
+pub mod Digits
+pub mod Doing
+pub mod Filling
+pub mod Starting
+pub mod Checking

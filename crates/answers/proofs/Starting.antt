@@ -1,0 +1,35 @@
+-- An opening of fitting numbers over buffers of the right lengths is fresh. By the refusal's tests.
+use mathlib.Core.Path.{_≡_, refl, sym, ap, ap₂, _∙_}
+use mathlib.Core.Bool.{false, not, _||_}
+use mathlib.Core.List.{List}
+use Prim.Native.Nat.{ℕ, _*_}
+use lib.Dec.{eqb}
+use lib.ListN.{length, replicate}
+use borrow.Author.Tests.{eq-eqb}
+use Rattle.counters.specs.declared.Counters as Code
+use Rattle.paper.specs.Cache.{Counters}
+use Rattle.paper.specs.Lent.{Numbers, Lent, opening, unfit, wrongBuffers, refusal, fresh, opened}
+use Rattle.paper.specs.RefusalLaws.{exactly-opening, opened-is}
+use Rattle.step.specs.declared.BoxRecord.{BoxRecord}
+use Rattle.policy.specs.Contract.{numbersOf, countersOf, lent, Opened, begun, opens}
+use Rattle.policy.specs.declared.open.Begun.{Begun}
+use Rattle.answers.specs.Replay.{startDisk, started}
+use Rattle.answers.specs.Done.{recordOf}
+
+lengths-right : (N : Numbers) (t : Lent) → length (t .disk) ≡ N .P * N .B → length (t .flash) ≡ N .d * N .B → length (t .addresses) ≡ N .m * 40 → length (t .blocks) ≡ N .d * 40 → wrongBuffers N t ≡ false
+unfolding wrongBuffers
+lengths-right N t a b c d = rw (eq-eqb (length (t .disk)) (N .P * N .B) a, eq-eqb (length (t .flash)) (N .d * N .B) b, eq-eqb (length (t .addresses)) (N .m * 40) c, eq-eqb (length (t .blocks)) (N .d * 40) d)
+
+pub start-is : (r : Begun) (b : BoxRecord) (d f a′ t′ a t : List ℕ) (k : Counters) → unfit (numbersOf b) ≡ false
+    → length d ≡ b .blocks * b .size → length f ≡ b .slots * b .size → length a ≡ b .rows * 40 → length t ≡ b .slots * 40
+    → d ≡ startDisk (b .size) (b .blocks) → f ≡ replicate (b .slots * b .size) 0
+    → begun r d f a′ t′ ≡ opens (recordOf (numbersOf b) 0) d f a t k
+    → (numbersOf (r .box_record) ≡ numbersOf b) × (lent (r .box_record) d f a′ t′ (countersOf (r .counters)) ≡ started (numbersOf b))
+unfolding started fresh
+start-is r b d f a′ t′ a t k u ld lf la lt ed ef e =
+    let N = numbersOf b in
+    let l = lent (recordOf N 0) d f a t k in
+    let zero = (exactly-opening N l) .gives-0 .1 (u, lengths-right N l ld lf la lt) in (
+      ap (λ (x : Opened). x .numbers) e,
+      ap (λ (x : Opened). x .lent) e ∙ opened-is N l zero ∙ ap₂ (λ x y. fresh N (lent (recordOf N 0) x y a t k)) ed ef,
+    )

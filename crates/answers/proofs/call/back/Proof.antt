@@ -1,0 +1,29 @@
+-- The call of the policy, with a block of one byte repeated. Assumes nothing.
+use mathlib.Core.Path.{ap}
+use borrow.Author.Needs.{needs}
+use Rattle.paper.specs.Lent.{Ask}
+use Rattle.answers.proofs.Doing.{call-done, block-filled}
+use Rattle.answers.proofs.call.back.Statement.{statement}
+use Rattle.answers.proofs.call.back.Tie as tie
+use Rattle.answers.proofs.call.back.Reads as reads
+use Rattle.answers.proofs.call.back.Lts as lts
+use Rattle.policy.proofs.calls.write_back.Reads as write-back-reads
+
+returns : tie.Need-returns
+returns c =
+    let a = c .before .before .before .before .before .before .before .before .before .before .before .before .before .before .before .before .before .before .before .args in
+    call-done (c .before .before .before .before .before .before .before .before .write-back .result) (a .b) _ _ _ _ _ _ _ _ (c .before .before .before .before .before .before .before .before .write-back .ensures) (ap (Ask.back (a .a .0)) (block-filled (a .b .size) 4096 (a .x) (c .before .before .before .before .before .before .before .before .before .before .before .before .before .before .before .before .before .before .before .pre)))
+
+pub back-spec : {M : Type 1} → statement M
+back-spec =
+    tie.close
+    (tie.spec
+    (λ c. search needs)
+    (λ c. search needs)
+    (λ c. search needs)
+    (λ c κs. search needs)
+    (λ c. search needs)
+    (λ c. search needs)
+    (λ c. search needs)
+    (λ c. search needs)
+    returns)

@@ -1,0 +1,28 @@
+-- The call of the policy, with a block of one byte repeated. Assumes nothing.
+use mathlib.Core.Path.{ap}
+use borrow.Author.Needs.{needs}
+use Rattle.paper.specs.Lent.{Ask}
+use Rattle.answers.proofs.Doing.{call-done, block-filled}
+use Rattle.answers.proofs.call.invalidate.Statement.{statement}
+use Rattle.answers.proofs.call.invalidate.Tie as tie
+use Rattle.answers.proofs.call.invalidate.Reads as reads
+use Rattle.answers.proofs.call.invalidate.Lts as lts
+use Rattle.policy.proofs.calls.write_invalidate.Reads as write-invalidate-reads
+
+returns : tie.Need-returns
+returns c =
+    let a = c .before .before .before .before .before .before .before .before .before .before .before .before .before .before .before .before .args in
+    call-done (c .before .before .before .before .before .before .write-invalidate .result) (a .b) _ _ _ _ _ _ _ _ (c .before .before .before .before .before .before .write-invalidate .ensures) (ap (Ask.invalidate (a .a .0)) (block-filled (a .b .size) 4096 (a .x) (c .before .before .before .before .before .before .before .before .before .before .before .before .before .before .before .before .pre)))
+
+pub invalidate-spec : {M : Type 1} → statement M
+invalidate-spec =
+    tie.close
+    (tie.spec
+    (λ c. search needs)
+    (λ c. search needs)
+    (λ c. search needs)
+    (λ c κs. search needs)
+    (λ c. search needs)
+    (λ c. search needs)
+    (λ c. search needs)
+    returns)

@@ -1,0 +1,31 @@
+-- The texts one after the other. Assumes nothing.
+use borrow.Author.Needs.{needs}
+use native.Mathlib.Omega.{arith}
+use Rattle.answers.specs.PutLaws.{put-next}
+use Rattle.answers.proofs.print.answered.Statement.{statement}
+use Rattle.answers.proofs.print.answered.Tie as tie
+use Rattle.answers.proofs.print.answered.Reads as reads
+use Rattle.answers.proofs.print.answered.Lts as lts
+use Rattle.answers.proofs.print.ask.Reads as ask-reads
+use Rattle.answers.proofs.print.counts.Reads as counts-reads
+use Rattle.answers.proofs.print.decimal.Reads as decimal-reads
+use Rattle.answers.proofs.print.word.Reads as word-reads
+
+returns : tie.Need-returns
+returns c =
+    let n = c .before .before .before .before .before .before .before .before .before .before .before .before .before .before .decimal .ensures in
+    let a = c .before .before .before .before .before .before .before .before .before .before .ask .ensures in
+    let w = c .before .before .before .before .before .before .word .ensures in
+    let e = c .before .before .counts .ensures in
+    (omega arith, put-next _ _ _ _ _ _ _ _ (omega arith) (put-next _ _ _ _ _ _ _ _ (omega arith) (put-next _ _ _ _ _ _ _ _ (omega arith) (n .1) (a .1)) (w .1)) (e .1))
+
+pub answered-spec : {M : Type 1} → statement M
+answered-spec =
+    tie.close
+    (tie.spec
+    (λ c κs. search needs)
+    (λ c κs. search needs)
+    (λ c κs. search needs)
+    (λ c κs. search needs)
+    (λ c. search needs)
+    returns)

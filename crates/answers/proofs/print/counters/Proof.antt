@@ -1,0 +1,38 @@
+-- The texts one after the other. Assumes nothing.
+use borrow.Author.Needs.{needs}
+use Rattle.answers.specs.Replay.{countersText}
+use native.Mathlib.Omega.{arith}
+use Rattle.answers.specs.PutLaws.{put-next}
+use Rattle.answers.proofs.print.counters.Statement.{statement}
+use Rattle.answers.proofs.print.counters.Tie as tie
+use Rattle.answers.proofs.print.counters.Reads as reads
+use Rattle.answers.proofs.print.counters.Lts as lts
+use Rattle.answers.proofs.print.named.Reads as named-reads
+use Rattle.answers.proofs.print.text.Reads as text-reads
+
+returns : tie.Need-returns
+unfolding countersText
+returns c =
+    let a = c .before .before .before .before .before .before .before .before .before .before .before .before .before .before .before .before .before .before .before .before .before .before .named .ensures in
+    let b = c .before .before .before .before .before .before .before .before .before .before .before .before .before .before .before .before .before .named2 .ensures in
+    let d = c .before .before .before .before .before .before .before .before .before .before .before .before .named3 .ensures in
+    let e = c .before .before .before .before .before .before .before .named4 .ensures in
+    let f = c .before .before .text .ensures in
+    (omega arith, put-next _ _ _ _ _ _ _ _ (omega arith) (put-next _ _ _ _ _ _ _ _ (omega arith) (put-next _ _ _ _ _ _ _ _ (omega arith) (put-next _ _ _ _ _ _ _ _ (omega arith) (a .1) (b .1)) (d .1)) (e .1)) f)
+
+pub counters-spec : {M : Type 1} → statement M
+counters-spec =
+    tie.close
+    (tie.spec
+    (λ c. search needs)
+    (λ c κs. search needs)
+    (λ c. search needs)
+    (λ c κs. search needs)
+    (λ c. search needs)
+    (λ c κs. search needs)
+    (λ c. search needs)
+    (λ c κs. search needs)
+    (λ c. search needs)
+    (λ c κs. search needs)
+    (λ c. search needs)
+    returns)

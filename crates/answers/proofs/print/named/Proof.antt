@@ -1,0 +1,25 @@
+-- The texts one after the other. Assumes nothing.
+use borrow.Author.Needs.{needs}
+use native.Mathlib.Omega.{arith}
+use Rattle.answers.specs.PutLaws.{put-next}
+use Rattle.answers.proofs.print.named.Statement.{statement}
+use Rattle.answers.proofs.print.named.Tie as tie
+use Rattle.answers.proofs.print.named.Reads as reads
+use Rattle.answers.proofs.print.named.Lts as lts
+use Rattle.answers.proofs.print.decimal.Reads as decimal-reads
+use Rattle.answers.proofs.print.text.Reads as text-reads
+
+returns : tie.Need-returns
+returns c =
+    let t = c .before .before .before .before .before .before .text .ensures in
+    let e = c .before .before .decimal .ensures in
+    (omega arith, put-next _ _ _ _ _ _ _ _ (omega arith) t (e .1))
+
+pub named-spec : {M : Type 1} → statement M
+named-spec =
+    tie.close
+    (tie.spec
+    (λ c κs. search needs)
+    (λ c κs. search needs)
+    (λ c. search needs)
+    returns)

@@ -1,0 +1,36 @@
+-- The disk and the flash filled, and the box opened over them. Assumes nothing.
+use mathlib.Core.Path.{ap, _∙_}
+use lib.ListN.{replicate}
+use borrow.Author.Needs.{needs}
+use Rattle.answers.proofs.Starting.{start-is}
+use Rattle.answers.proofs.start.start.Statement.{statement}
+use Rattle.answers.proofs.start.start.Tie as tie
+use Rattle.answers.proofs.start.start.Reads as reads
+use Rattle.answers.proofs.start.start.Lts as lts
+use Rattle.policy.proofs.open.open.Reads as open-reads
+use Rattle.answers.proofs.start.fill.Reads as fill-reads
+use Rattle.answers.proofs.start.fill_disk.Reads as fill-disk-reads
+
+returns : tie.Need-returns
+returns c =
+    let s = c .before .before .before .before .before .before .before .before .before .before .before .before .before .before .before .before .before .before .before .before .before in
+    let a = s .args in
+    let d = c .before .before .before .before .before .before .before .before .before .before .before .before .before .before .before .fill-disk in
+    let f = c .before .before .before .before .before .before .before .before .before .before .before .fill in
+    let o = c .before .before .before .before .«open» in
+    let l = s .pre .1 in
+    start-is (o .result) (a .b) (d .last .0) (f .last .0) (o .last .1 .1 .1 .1 .1 .1 .0) (o .last .1 .1 .1 .1 .1 .1 .1 .0) (a .addresses .now) (a .blocks .now) _ (s .pre .0 .2)
+    (d .kept .0 ∙ l .0) (f .kept .0 ∙ l .1) (l .2) (l .3) (d .ensures) (f .ensures ∙ ap (λ k. replicate k 0) (l .1)) (o .ensures)
+
+pub start-spec : {M : Type 1} → statement M
+start-spec =
+    tie.close
+    (tie.spec
+    (λ c κs. search needs)
+    (λ c κs. search needs)
+    (λ c κs. search needs)
+    (λ c. search needs)
+    (λ c. search needs)
+    (λ c. search needs)
+    (λ c. search needs)
+    returns)
