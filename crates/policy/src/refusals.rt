@@ -104,7 +104,7 @@ pub(crate) fn of_tables(b: BoxRecord, addresses: &[u8], blocks: &[u8]) -> u32
     ensures { λ r. ⌜ r ≡ tablesRefusal b (now (addresses .entry)) (now (blocks .entry)) ⌝ }
 {
     let mut places = [0u16; 1024];
-    tables::sound::tables_refused(
+    checks::sound::tables_refused(
         addresses,
         b.rows,
         b.held,

@@ -60,8 +60,8 @@ pub fn index_rows(addrs: &[u8], k: usize, blocks: &[u8], d: usize, places: &mut 
     ensures { λ _. ⌜ length (now (places .exit)) ≡ length (now (places .entry)) ⌝ }
 {
     let mut heads = [256u16; 16384];
-    tables::index::build(blocks, d, &mut heads);
-    tables::known::places_of_rows(addrs, k, blocks, d, &heads, places);
+    checks::index::build(blocks, d, &mut heads);
+    checks::known::places_of_rows(addrs, k, blocks, d, &heads, places);
 }
 
 // Whether one of the first `k` held rows has a fingerprint that is not cached.
@@ -72,7 +72,7 @@ pub fn uncached(addrs: &[u8], k: usize, blocks: &[u8], d: usize) -> bool
 {
     let mut places = [0u16; 1024];
     index_rows(addrs, k, blocks, d, &mut places);
-    !tables::known::all_cached(addrs, k, blocks, d, &places)
+    !checks::known::all_cached(addrs, k, blocks, d, &places)
 }
 
 // The place of the first of `d` used block rows whose fingerprint none of `n` held rows has.
@@ -83,7 +83,7 @@ pub fn unknown_place(addrs: &[u8], n: usize, blocks: &[u8], d: usize) -> usize
 {
     let mut places = [0u16; 1024];
     index_rows(addrs, n, blocks, d, &mut places);
-    match tables::known::oldest_unknown(addrs, n, blocks, d, &places) {
+    match checks::known::oldest_unknown(addrs, n, blocks, d, &places) {
         Found::At(j) => j,
         Found::Nothing => d,
     }
