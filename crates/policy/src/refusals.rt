@@ -105,7 +105,7 @@ pub(crate) fn of_tables(b: BoxRecord, addresses: &[u8], blocks: &[u8], places: &
     ensures { λ r. ⌜ r ≡ tablesRefusal b (now (addresses .entry)) (now (blocks .entry)) ⌝ }
     ensures { λ r. ⌜ (r ≡ 0 → Placed (b .held) (b .slots) (now (addresses .entry)) (now (blocks .entry)) (now (places .exit))) ⌝ }
 {
-    tables::sound::tables_refused(addresses, b.rows, b.held, b.blocks, blocks, b.slots, places)
+    checks::sound::tables_refused(addresses, b.rows, b.held, b.blocks, blocks, b.slots, places)
 }
 
 // Refusal 9: a counter above 2 to the power 63.

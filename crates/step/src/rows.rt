@@ -69,7 +69,7 @@ pub fn uncached(addrs: &[u8], k: usize, blocks: &[u8], d: usize, places: &[u16])
     requires { ⌜ Placed k d (now addrs) (now blocks) (now places) ⌝ }
     ensures { λ r. ⌜ ((B P m n : ℕ) (rows : List (AddressRow (Fixed 32))) (free : List ℕ) (used : List (BlockRow (Fixed 32))) → Addrs P m n (now (addrs .entry)) rows → Blocks d (now (blocks .entry)) free used → k ≤ n → r ≡ someUncached (engine B) (take k rows) used) ⌝ }
 {
-    !tables::known::all_cached(addrs, k, blocks, d, places)
+    !checks::known::all_cached(addrs, k, blocks, d, places)
 }
 
 // The place of the first of `d` used block rows whose fingerprint none of `n` held rows has.
@@ -79,7 +79,7 @@ pub fn unknown_place(addrs: &[u8], n: usize, blocks: &[u8], d: usize, places: &[
     requires { ⌜ Placed n d (now addrs) (now blocks) (now places) ⌝ }
     ensures { λ r. ⌜ ((B P m : ℕ) (rows : List (AddressRow (Fixed 32))) (used : List (BlockRow (Fixed 32))) → Addrs P m n (now (addrs .entry)) rows → Blocks d (now (blocks .entry)) [] used → r ≡ indexWhere (λ u. not (known (engine B) (u .fingerprint) rows)) used) ⌝ }
 {
-    match tables::known::oldest_unknown(addrs, n, blocks, d, places) {
+    match checks::known::oldest_unknown(addrs, n, blocks, d, places) {
         Found::At(j) => j,
         Found::Nothing => d,
     }

@@ -66,7 +66,7 @@ pub fn step1(
     let i = rows::row_of(addrs, b.held, a);
     if i < b.held {
         let place = take_row(b, i, addrs, blocks);
-        tables::known::forget(places, b.held, i);
+        checks::known::forget(places, b.held, i);
         return Out {
             held: b.held - 1,
             place: place,
@@ -82,7 +82,7 @@ pub fn step1(
     }
     let primary = copy::flush_row(b, 0, disk, flash, addrs, blocks);
     let place = take_row(b, 0, addrs, blocks);
-    tables::known::forget(places, b.held, 0);
+    checks::known::forget(places, b.held, 0);
     Out {
         held: b.held - 1,
         place: place,
@@ -107,7 +107,7 @@ pub fn hold(
 {
     let v = rows::entry_of(blocks, d, g);
     tables::put::push_address(addrs, n, a, g, dirty);
-    tables::known::remember(places, n, v);
+    checks::known::remember(places, n, v);
 }
 
 // Step 3, where the fingerprint taken out has its block row at `place`. Where no row is free then, none was moved.

@@ -10,6 +10,7 @@ pub mod Index
 -- promises: laws about these definitions, for the crates above
 pub mod FindLaws
 pub mod RowLaws
+pub mod PasteLaws
 pub mod SoundLaws
 pub mod ShiftLaws
 pub mod RecordLaws

@@ -98,6 +98,10 @@ part-rowAt t k j n h =
     ap (λ (m : ℕ). take n (drop j (take m (drop (k * 40) t)))) e
     ∙ rw (drop-take j (40 - j) (drop (k * 40) t), take-take n (40 - j) (drop j (drop (k * 40) t)) (omega arith), drop-drop j (k * 40) t)
 
+-- the fingerprint of row k, as a part of the bytes
+pub part-fp : (t : List ℕ) (k : ℕ) → take (k * 40 + 32 - k * 40) (drop (k * 40) t) ≡ take 32 (rowAt t k)
+part-fp t k = let e : k * 40 + 32 - k * 40 ≡ 32 = omega arith in rw (e, take-take 32 40 (drop (k * 40) t) (omega arith))
+
 -- a search's turn on row k
 module _ (p : List ℕ → Bool) (n : ℕ) (t : List ℕ) (k : ℕ) where
   pub turn-hit : k < n → p (rowAt t k) ≡ true → findFrom p k (drop k (rows n t)) ≡ At k

@@ -2,7 +2,6 @@
 use crate::FlashSlot;
 use crate::Found;
 use crate::SourceAddress;
-use crate::index;
 ghost use mathlib.Core.Path.{_≡_};
 ghost use Prim.Native.Nat.{_+_, _*_, _<_, _≤_};
 ghost use lib.ListN.{length, take, drop, getD};
@@ -12,7 +11,7 @@ ghost use Rattle.tables.specs.Find.{findFrom, hasAddress, hasFingerprint
 ghost use Rattle.tables.specs.Records.{readAddress, readBlock};
 
 // The byte at index `at`.
-pub(crate) fn byte_at(t: &[u8], at: usize) -> u32
+pub fn byte_at(t: &[u8], at: usize) -> u32
     requires { ⌜ at < length (now t) ⌝ }
     ensures { λ r. ⌜ (r ≡ getD (now (t .entry)) at 0) × (r < 256) ⌝ }
 {
@@ -20,7 +19,7 @@ pub(crate) fn byte_at(t: &[u8], at: usize) -> u32
 }
 
 // The four bytes from index `at` on, little-endian.
-pub(crate) fn word_at(t: &[u8], at: usize) -> u32
+pub fn word_at(t: &[u8], at: usize) -> u32
     requires { ⌜ at + 4 ≤ length (now t) ⌝ }
     ensures { λ r. ⌜ r ≡ le4 (now (t .entry)) at ⌝ }
 {
@@ -174,7 +173,22 @@ pub fn find_cached(t: &[u8], n: usize, g: &[u8]) -> Found
     requires { ⌜ (n * 40 ≤ length (now t)) × (length (now g) ≡ 32) ⌝ }
     ensures { λ r. ⌜ r ≡ findFrom (caches (now (g .entry))) 0 (rows n (now (t .entry))) ⌝ }
 {
-    index::find_from(t, n, 0, g)
+    next_cached(t, n, 0, g)
+}
+
+// The index of the first of `n` block rows, from row `from` on, that is used and has the fingerprint `g`.
+pub fn next_cached(t: &[u8], n: usize, from: usize, g: &[u8]) -> Found
+    requires { ⌜ (n * 40 ≤ length (now t)) × (length (now g) ≡ 32) ⌝ }
+    ensures { λ r. ⌜ r ≡ findFrom (caches (now (g .entry))) from (drop from (rows n (now (t .entry)))) ⌝ }
+{
+    let mut k = from;
+    while k < n {
+        if caches_fingerprint(t, k, g) {
+            return Found::At(k);
+        }
+        k += 1;
+    }
+    Found::Nothing
 }
 
 // The index of the first of `n` address rows, from row `from` on, that is dirty.

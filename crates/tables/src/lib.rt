@@ -1,12 +1,9 @@
 // Tables of 40-byte rows in lent bytes.
 pub mod find;
 pub mod fresh;
-pub mod index;
-pub mod known;
 mod moves;
 pub mod put;
 pub mod shift;
-pub mod sound;
 
 // A source address, a block number of the disk.
 pub struct SourceAddress(pub u32);

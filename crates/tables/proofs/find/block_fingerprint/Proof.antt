@@ -1,6 +1,6 @@
 -- The part is the row's own bytes. Assumes nothing.
 use borrow.Author.Needs.{needs}
-use Rattle.tables.proofs.Indexes.{part-fp}
+use Rattle.tables.specs.RowLaws.{part-fp}
 use Rattle.tables.proofs.find.block_fingerprint.Statement.{statement}
 use Rattle.tables.proofs.find.block_fingerprint.Tie as tie
 

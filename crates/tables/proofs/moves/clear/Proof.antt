@@ -1,6 +1,6 @@
 -- The first k bytes are zero. Assumes nothing.
 use Rattle.tables.specs.Rows.{zeros}
-use Rattle.tables.proofs.Paste.{paste-turn, paste-done}
+use Rattle.tables.specs.PasteLaws.{paste-turn, paste-done}
 use lib.ListN.{length-replicate, getD-replicate, length, length-set}
 use lib.Seq.{paste-zero, paste}
 use Prim.Native.Nat.{_-_, _≤_}

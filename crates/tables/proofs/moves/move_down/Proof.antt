@@ -1,7 +1,7 @@
 -- The first k bytes have been moved. A byte is read before it is written over. Assumes nothing.
 use lib.ListN.{length-drop, length, getD, drop, length-set}
 use lib.Seq.{paste-zero, getD-drop, paste}
-use Rattle.tables.proofs.Paste.{paste-turn, paste-done, getD-paste-after}
+use Rattle.tables.specs.PasteLaws.{paste-turn, paste-done, getD-paste-after}
 use Prim.Native.Nat.{_+_, _-_, _≤_, _<_}
 use mathlib.Core.Path.{_≡_, refl}
 use native.Mathlib.Omega.{arith}

@@ -1,5 +1,5 @@
 -- The last bytes from k on have been moved. A byte is read before it is written over. Assumes nothing.
-use Rattle.tables.proofs.Paste.{paste-turn-down, paste-done-down, getD-paste-before, paste-none}
+use Rattle.tables.specs.PasteLaws.{paste-turn-down, paste-done-down, getD-paste-before, paste-none}
 use Prim.Native.Nat.{_+_, _-_, _≤_}
 use mathlib.Core.Path.{_≡_, refl}
 use native.Mathlib.Omega.{arith}

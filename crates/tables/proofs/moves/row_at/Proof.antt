@@ -1,6 +1,6 @@
 -- The first k bytes have been copied. Assumes nothing.
 use lib.Seq.{take-all}
-use Rattle.tables.proofs.Paste.{take-turn}
+use Rattle.tables.specs.PasteLaws.{take-turn}
 use Prim.Native.Nat.{_-_, _≤_}
 use mathlib.Core.Path.{_≡_, refl, sym, _∙_}
 use native.Mathlib.Omega.{arith}

@@ -1,6 +1,6 @@
 -- The first k bytes have been written. Assumes nothing.
 use lib.Seq.{paste-zero, paste}
-use Rattle.tables.proofs.Paste.{paste-turn, paste-done}
+use Rattle.tables.specs.PasteLaws.{paste-turn, paste-done}
 use Prim.Native.Nat.{_-_, _≤_}
 use mathlib.Core.Path.{_≡_, refl}
 use native.Mathlib.Omega.{arith}

@@ -1,0 +1,177 @@
+-- Laws of the block rows of address rows. Assumes nothing.
+use mathlib.Core.Path.{_≡_, refl, sym, ap, _∙_}
+use mathlib.Core.Bool.{Bool, true, false, not, _&&_, _||_}
+use Prim.Native.Nat.{ℕ, zero, suc, _+_, _-_, _*_, _≤_, _<_}
+use mathlib.Core.List.{List, [], _∷_, _++_, map, map-append}
+use native.Mathlib.Omega.{arith}
+use native.Mathlib.Nat.{add-zero, zero-add, not-suc-le-zero, le-of-suc-le-suc}
+use native.Mathlib.Numerals.{add-one}
+use lib.Dec.{eqb}
+use lib.ListN.{length, getD, set, take, drop, length-drop, drop-of-length-le}
+use lib.Seq.{take-suc-set, take-take, take-paste, paste, drop-cons}
+use borrow.Author.Tests.{eq-eqb, ne-eqb}
+use Rattle.tables.specs.Rows.{rows, rowAt, removeAt}
+use Rattle.tables.specs.Find.{findFrom, pick, every, caches, hasFingerprint, same, absent, isUsed}
+use Rattle.tables.specs.Unsound.{elem}
+use Rattle.tables.specs.Sound.{mark}
+use Rattle.tables.specs.Index.{code, placeIn, Places, cachedIn, unknownIn, unique}
+use Rattle.tables.specs.declared.Found.{Found}
+use Rattle.tables.specs.declared.Found.the-variants.{At, Nothing}
+use Rattle.tables.specs.PlaceLaws.{place-at}
+use Rattle.tables.specs.FindLaws.{found-at, same-refl}
+use Rattle.tables.specs.RowLaws.{rows-length, rows-at, rows-append, drop-take, part-rowAt}
+use Rattle.tables.specs.SoundLaws.{Marks, same-true, not-true-false, and-left, and-right}
+
+clash : {A : Type 0} → true ≡ false → A
+clash e = let z : _≡_ {A = ℕ} 0 1 = cc in absurd (omega arith)
+
+-- a number from a search: at most 256, and 256 for none
+module _ (f : Found) (b : (i : ℕ) → f ≡ At i → i < 256) where
+  code-is : absent f ≡ eqb (code f) 256
+  code-is = elim f as (λ q. ((i : ℕ) → q ≡ At i → i < 256) → absent q ≡ eqb (code q) 256) [ At i ↦ λ h. (let l = h i refl in sym (ne-eqb i 256 (λ e. omega arith))) | Nothing ↦ λ h. refl ] b
+
+  code-below : code f < 257
+  code-below = elim f as (λ q. ((i : ℕ) → q ≡ At i → i < 256) → code q < 257) [ At i ↦ λ h. (let l = h i refl in omega arith) | Nothing ↦ λ h. omega arith ] b
+
+module _ (rs : List (List ℕ)) (few : length rs ≤ 256) where
+  pub found-few : (p : List ℕ → Bool) (i : ℕ) → findFrom p 0 rs ≡ At i → i < 256
+  found-few p i e = omega (arith, found-at p rs [] i e .below)
+
+  -- cached or not, by the block row's number
+  pub cached-is : (r : List ℕ) → cachedIn rs r ≡ not (eqb (placeIn rs r) 256)
+  unfolding placeIn
+  cached-is r = ap not (code-is (findFrom (caches (take 32 (drop 4 r))) 0 rs) (found-few (caches (take 32 (drop 4 r)))))
+
+  pub block-below : (r : List ℕ) → placeIn rs r < 257
+  unfolding placeIn
+  block-below r = code-below (findFrom (caches (take 32 (drop 4 r))) 0 rs) (found-few (caches (take 32 (drop 4 r))))
+
+-- one row more
+pub blocks-more : (rs : List (List ℕ)) (a out : List ℕ) (k v : ℕ) → k < length out → v ≡ placeIn rs (rowAt a k) → Places rs (rows k a) (take k out) → Places rs (rows (k + 1) a) (take (k + 1) (set out k v))
+unfolding rows
+blocks-more rs a out k v h e b =
+    ap (λ (j : ℕ). take j (set out k v)) (add-one k)
+    ∙ take-suc-set out k v h
+    ∙ ap (λ (l : List ℕ). l ++ (v ∷ [])) b
+    ∙ ap (λ (w : ℕ). map (placeIn rs) (rows k a) ++ (w ∷ [])) e
+    ∙ sym (ap (map (placeIn rs)) (rows-append k 1 a) ∙ map-append (placeIn rs) (rows k a) (rowAt a k ∷ []))
+
+-- the fingerprint of address row k, as a part of the bytes
+pub block-part : (rs : List (List ℕ)) (a : List ℕ) (k : ℕ) → code (findFrom (caches (take (k * 40 + 4 + 32 - (k * 40 + 4)) (drop (k * 40 + 4) a))) 0 rs) ≡ placeIn rs (rowAt a k)
+unfolding placeIn
+block-part rs a k = let e : k * 40 + 4 + 32 - (k * 40 + 4) ≡ 32 = omega arith in rw (e, part-rowAt a k 4 32 (omega arith))
+
+-- where nothing is found, the test holds of no element
+absent-at : {A : Type 0} (p : A → Bool) (k : ℕ) (xs : List A) (j : ℕ) (z : A) → absent (findFrom p k xs) ≡ true → j < length xs → p (getD xs j z) ≡ false
+unfolding findFrom
+absent-at p k [] j z e h = absurd (not-suc-le-zero h)
+absent-at p k (x ∷ xs) j z e h =
+    elim (p x) as (λ q. p x ≡ q → absent (pick q (At k) (findFrom p (suc k) xs)) ≡ true → p (getD (x ∷ xs) j z) ≡ false) [
+      | true ↦ λ o f. clash (sym f)
+      | false ↦ λ o f. elim j as (λ i. i < length (x ∷ xs) → p (getD (x ∷ xs) i z) ≡ false) [ zero ↦ λ l. o | suc i ↦ λ l. absent-at p (suc k) xs i z f (le-of-suc-le-suc l) ] h
+    ] refl e
+
+-- where no two used rows have one fingerprint, a search for row j's finds row j
+self-other : (r s : List ℕ) (rs : List (List ℕ)) (j : ℕ) → unique r rs ≡ true → j < length rs → isUsed (getD rs j []) ≡ true → caches (take 32 (getD rs j [])) r ≡ true → ⊥
+self-other r s rs j u h e c =
+    let o = and-left (isUsed r) (same (take 32 r) (take 32 (getD rs j []))) c in
+    let q = same-true (take 32 r) (take 32 (getD rs j [])) (and-right (isUsed r) (same (take 32 r) (take 32 (getD rs j []))) c) in
+    let v : absent (findFrom (caches (take 32 r)) 0 rs) ≡ true = rw o at u in
+    let n : caches (take 32 r) (getD rs j []) ≡ false = absent-at (caches (take 32 r)) 0 rs j [] v h in
+    let y : caches (take 32 r) (getD rs j []) ≡ true = rw (e, q) (same-refl (take 32 (getD rs j []))) in
+    clash (sym y ∙ n)
+
+self-find : (rs : List (List ℕ)) (j k : ℕ) → every unique rs ≡ true → j < length rs → isUsed (getD rs j []) ≡ true → findFrom (caches (take 32 (getD rs j []))) k rs ≡ At (k + j)
+unfolding every findFrom
+self-find [] j k u h e = absurd (not-suc-le-zero h)
+self-find (r ∷ rs) zero k u h e = rw (e, same-refl (take 32 r), add-zero)
+self-find (r ∷ rs) (suc j) k u h e =
+    let l = le-of-suc-le-suc h in
+    let n = not-true-false (caches (take 32 (getD rs j [])) r) (self-other r r rs j (and-left (unique r rs) (every unique rs) u) l e) in
+    let s : suc k + j ≡ k + suc j = omega arith in
+    rw n (self-find rs j (suc k) (and-right (unique r rs) (every unique rs) u) l e ∙ ap At s)
+
+module _ (rs : List (List ℕ)) (u : every unique rs ≡ true) (few : length rs ≤ 256) (j : ℕ) (h : j < length rs) (e : isUsed (getD rs j []) ≡ true) where
+  -- the block row of an address row is row j if the two have one fingerprint
+  held-hit : (r : List ℕ) → hasFingerprint (take 32 (getD rs j [])) r ≡ true → eqb j (placeIn rs r) ≡ true
+  unfolding placeIn
+  held-hit r q =
+      let s = same-true (take 32 (drop 4 r)) (take 32 (getD rs j [])) q in
+      eq-eqb j (placeIn rs r) (sym (ap (λ (g : List ℕ). code (findFrom (caches g) 0 rs)) s ∙ ap code (self-find rs j 0 u h e) ∙ zero-add j))
+
+  held-found : (r : List ℕ) (f : Found) → findFrom (caches (take 32 (drop 4 r))) 0 rs ≡ f → j ≡ code f → hasFingerprint (take 32 (getD rs j [])) r ≡ true
+  held-found r (At i) o q =
+      let c : caches (take 32 (drop 4 r)) (getD rs j []) ≡ true = rw q (found-at (caches (take 32 (drop 4 r))) rs [] i o .holds) in
+      let s = same-true (take 32 (getD rs j [])) (take 32 (drop 4 r)) (and-right (isUsed (getD rs j [])) (same (take 32 (getD rs j [])) (take 32 (drop 4 r))) c) in
+      rw s (same-refl (take 32 (drop 4 r)))
+  held-found r Nothing o q = absurd (omega arith)
+
+  held-is : (r : List ℕ) → eqb j (placeIn rs r) ≡ hasFingerprint (take 32 (getD rs j [])) r
+  unfolding placeIn
+  held-is r = elim (hasFingerprint (take 32 (getD rs j [])) r) as (λ q. hasFingerprint (take 32 (getD rs j [])) r ≡ q → eqb j (placeIn rs r) ≡ q) [
+    | true ↦ held-hit r
+    | false ↦ λ o. ne-eqb j (placeIn rs r) (λ m. clash (sym (held-found r (findFrom (caches (take 32 (drop 4 r))) 0 rs) refl m) ∙ o))
+  ] refl
+
+  -- row j is the block row of an address row, or none has its fingerprint
+  elem-held : (k : ℕ) (hs : List (List ℕ)) → elem j (map (placeIn rs) hs) ≡ not (absent (findFrom (hasFingerprint (take 32 (getD rs j []))) k hs))
+  unfolding elem findFrom
+  elem-held k [] = refl
+  elem-held k (r ∷ hs) = rw (held-is r) (elim (hasFingerprint (take 32 (getD rs j [])) r) as (λ q. q || elem j (map (placeIn rs) hs) ≡ not (absent (pick q (At k) (findFrom (hasFingerprint (take 32 (getD rs j []))) (suc k) hs)))) [ true ↦ refl | false ↦ elem-held (suc k) hs ])
+
+mark-not : (b : Bool) → eqb (mark (not b)) 0 ≡ b
+mark-not true = refl
+mark-not false = refl
+
+-- a used row's byte is 0 if no address row has its fingerprint
+pub unmarked-is : (d : ℕ) (t : List ℕ) (n : ℕ) (a out known : List ℕ) → d ≤ 256 → d ≤ length known → every unique (rows d t) ≡ true → Places (rows d t) (rows n a) (take n out) → Marks known (take n out)
+    → (k : ℕ) → k < d → isUsed (rowAt t k) && eqb (getD known k 0) 0 ≡ unknownIn (rows n a) (rowAt t k)
+unmarked-is d t n a out known few l u b m k h =
+    elim (isUsed (rowAt t k)) as (λ q. isUsed (rowAt t k) ≡ q → q && eqb (getD known k 0) 0 ≡ q && absent (findFrom (hasFingerprint (take 32 (rowAt t k))) 0 (rows n a))) [
+      | true ↦ λ o.
+          (let r = rows-at d t k h in
+          let i : getD known k 0 ≡ mark (not (absent (findFrom (hasFingerprint (take 32 (getD (rows d t) k []))) 0 (rows n a)))) =
+          m k (omega arith) ∙ ap (λ (s : List ℕ). mark (elem k s)) b ∙ ap mark (elem-held (rows d t) u (rw rows-length few) k (rw rows-length h) (rw r o) 0 (rows n a)) in
+          ap (λ (x : ℕ). eqb x 0) i ∙ mark-not (absent (findFrom (hasFingerprint (take 32 (getD (rows d t) k []))) 0 (rows n a))) ∙ ap (λ (s : List ℕ). absent (findFrom (hasFingerprint (take 32 s)) 0 (rows n a))) r)
+      | false ↦ λ o. refl
+    ] refl
+
+-- cached or not, by the number of row k
+pub cached-at : (d : ℕ) (t : List ℕ) (n : ℕ) (a out : List ℕ) → d ≤ 256 → Places (rows d t) (rows n a) (take n out) → (k : ℕ) → k < n → cachedIn (rows d t) (rowAt a k) ≡ not (eqb (getD out k 0) 256)
+cached-at d t n a out few b k h = cached-is (rows d t) (rw rows-length few) (rowAt a k) ∙ ap (λ (x : ℕ). not (eqb x 256)) (sym (place-at (rows d t) n a out b k h))
+
+pub known-below : (d : ℕ) (t : List ℕ) (n : ℕ) (a out : List ℕ) → d ≤ 256 → Places (rows d t) (rows n a) (take n out) → (k : ℕ) → k < n → getD out k 0 < 257
+known-below d t n a out few b k h = rw (place-at (rows d t) n a out b k h) (block-below (rows d t) (rw rows-length few) (rowAt a k))
+
+-- an array with a run moved down by one
+pub forgot : (out : List ℕ) (n i : ℕ) → i < n → n ≤ length out → take (n - 1) (paste out i (drop (i + 1) out) (n - 1 - i)) ≡ removeAt (take n out) i
+forgot out n i h l =
+    let e : n - 1 ≡ i + (n - 1 - i) = omega arith in
+    let f : n ≡ suc i + (n - 1 - i) = omega arith in
+    let g : i ≤ length out = omega arith in
+    let b : n - 1 - i ≤ length (drop (i + 1) out) = simp length-drop (omega arith) in
+    let o : i ≤ n = omega arith in
+    ap (λ (k : ℕ). take k (paste out i (drop (i + 1) out) (n - 1 - i))) e
+    ∙ take-paste out i (drop (i + 1) out) (n - 1 - i) g b
+    ∙ ap (λ (k : ℕ). take i out ++ take (n - 1 - i) (drop k out)) (add-one i)
+    ∙ sym (ap (λ (s : List ℕ). s ++ drop (suc i) (take n out)) (take-take i n out o) ∙ ap (λ (s : List ℕ). take i out ++ s) (ap (λ (k : ℕ). drop (suc i) (take k out)) f ∙ drop-take (suc i) (n - 1 - i) out))
+
+-- a search for a number
+module _ (j : ℕ) (xs : List ℕ) (k : ℕ) where
+  pub elem-hit : k < length xs → getD xs k 0 ≡ j → elem j (drop k xs) ≡ true
+  unfolding elem
+  elem-hit h e = rw (drop-cons xs k 0 h, eq-eqb j (getD xs k 0) (sym e))
+
+  pub elem-miss : k < length xs → (getD xs k 0 ≡ j → ⊥) → elem j (drop k xs) ≡ elem j (drop (k + 1) xs)
+  unfolding elem
+  elem-miss h e = rw (add-one, drop-cons xs k 0 h, ne-eqb j (getD xs k 0) (λ q. e (sym q)))
+
+  pub elem-end : length xs ≤ k → elem j (drop k xs) ≡ false
+  unfolding elem
+  elem-end h = rw (drop-of-length-le xs h)
+
+pub known-is : (d : ℕ) (t : List ℕ) (n : ℕ) (a out : List ℕ) (j : ℕ) → d ≤ 256 → j < d → every unique (rows d t) ≡ true → Places (rows d t) (rows n a) (take n out) → isUsed (rowAt t j) ≡ true
+    → elem j (take n out) ≡ not (absent (findFrom (hasFingerprint (take 32 (rowAt t j))) 0 (rows n a)))
+known-is d t n a out j few h u b e =
+    let r = rows-at d t j h in
+    ap (elem j) b ∙ elem-held (rows d t) u (rw rows-length few) j (rw rows-length h) (rw r e) 0 (rows n a) ∙ ap (λ (s : List ℕ). not (absent (findFrom (hasFingerprint (take 32 s)) 0 (rows n a)))) r

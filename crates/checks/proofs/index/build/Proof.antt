@@ -1,0 +1,94 @@
+-- The loop goes down; the rows from k on differ, and `heads` is their index. Assumes nothing.
+use Prim.Native.Nat.{ℕ, _≤_}
+use Rattle.checks.proofs.Indexes.{index-end, build-alone, build-more}
+use Rattle.tables.specs.RowLaws.{rows-length}
+use Rattle.tables.specs.SoundLaws.{back-fails, back-more}
+use Rattle.checks.proofs.index.build.Statement.{statement}
+use Rattle.checks.proofs.index.build.Tie as tie
+use Rattle.tables.specs.Find.{every}
+use Rattle.tables.specs.Index.{Index, unique}
+use Rattle.tables.specs.Rows.{rows}
+use borrow.Author.Needs.{needs}
+use borrow.Author.Tests.{not-true, not-false}
+use lib.ListN.{drop-of-length-le, length, drop, length-set}
+use mathlib.Core.Bool.{true}
+use mathlib.Core.Path.{_≡_, sym, _∙_, subst}
+use native.Mathlib.Omega.{arith}
+
+abbrev Inv-loop : tie.InvT-loop
+Inv-loop t d heads₀ k₀ heads k = (k ≤ d) × (length heads ≡ 16384) × (every unique (drop k (rows d t)) ≡ true) × Index k heads (rows d t)
+
+abbrev μ-loop : tie.MeasureT-loop
+μ-loop t d heads₀ k₀ heads k = k
+
+loop-holds : tie.Need-loop-holds Inv-loop μ-loop
+unfolding every
+loop-holds c =
+    let s = c .before .before in
+    let a = s .args in
+    let rs = rows (a .d) (a .t .now) in
+    let h : length rs ≤ a .d = omega (arith, rows-length (a .d) (a .t .now)) in
+    (search needs, s .pre .0 .1 .1, rw (drop-of-length-le rs h), index-end (a .heads .now) rs (a .d) 256 h (s .pre .0 .1 .0) (s .pre .0 .1 .1) (s .pre .1))
+
+returns : tie.Need-returns Inv-loop μ-loop
+returns c =
+    let n = c .before in
+    let w = n .before in
+    let b = w .before .before in
+    let l = b .before .before in
+    let a = l .before .before .before .args in
+    let k = l .loop .k in
+    let i = l .loop .inv in
+    let hk = b .before .loop-test .taken in
+    let u = build-alone (a .t .now) (a .d) k hk (i .0) (l .loop .heads) (b .bucket-at .result) (b .bucket-at .ensures .0) (i .3) (n .alone .result) (w .wide .result) (w .wide .ensures) (n .alone .ensures) in
+    (back-fails unique (a .d) (a .t .now) k hk (i .0) (sym u ∙ not-true _ (c .if1 .taken)), (λ f. let z : _≡_ {A = ℕ} 0 1 = cc in absurd (omega arith), i .1))
+
+loop-again : tie.Need-loop-again Inv-loop μ-loop
+loop-again c =
+    let n = c .before in
+    let w = n .before in
+    let b = w .before .before in
+    let l = b .before .before in
+    let a = l .before .before .before .args in
+    let k = l .loop .k in
+    let i = l .loop .inv in
+    let hk = b .before .loop-test .taken in
+    let u = build-alone (a .t .now) (a .d) k hk (i .0) (l .loop .heads) (b .bucket-at .result) (b .bucket-at .ensures .0) (i .3) (n .alone .result) (w .wide .result) (w .wide .ensures) (n .alone .ensures) in (
+      omega arith,
+      simp length-set (i .1),
+      back-more unique (a .d) (a .t .now) k hk (i .0) (sym u ∙ not-false _ (c .if1 .left)) (i .2),
+      build-more (a .t .now) (a .d) k hk (i .0) (l .loop .heads) (b .bucket-at .result) (b .bucket-at .ensures .0) (i .3) (omega arith),
+    )
+
+returns-2 : tie.Need-returns-2 Inv-loop μ-loop
+returns-2 c =
+    let l = c .before in
+    let a = l .before .before .before .args in
+    let rs = rows (a .d) (a .t .now) in
+    let i = l .loop .inv in
+    let e : l .loop .k ≡ 0 = omega arith in
+    (sym (subst (λ (k : ℕ). every unique (drop k rs) ≡ true) e (i .2)), (λ f. subst (λ (k : ℕ). Index k (l .loop .heads) rs) e (i .3), i .1))
+
+pub build-spec : {M : Type 1} → statement M
+build-spec =
+    tie.close
+    (tie.spec
+    Inv-loop
+    μ-loop
+    loop-holds
+    (λ c. search needs)
+    (λ c. search needs)
+    (λ c κs. search needs)
+    (λ c. search needs)
+    (λ c. search needs)
+    (λ c κs. search needs)
+    (λ c κs. search needs)
+    (λ c. search needs)
+    returns
+    (λ c. search needs)
+    (λ c. search needs)
+    (λ c. search needs)
+    (λ c. search needs)
+    loop-again
+    (λ c. search needs)
+    returns-2)

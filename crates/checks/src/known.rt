@@ -1,0 +1,182 @@
+// The block row of each address row, and what the policy asks of them.
+use crate::index;
+use tables::Found;
+ghost use mathlib.Core.Path.{_≡_};
+ghost use mathlib.Core.Bool.{true, not, cond, _&&_};
+ghost use mathlib.Core.List.{[], _∷_, _++_};
+ghost use Prim.Native.Nat.{ℕ, _+_, _-_, _*_, _<_, _≤_};
+ghost use lib.Dec.{eqb};
+ghost use lib.ListN.{length, take, getD};
+ghost use Rattle.tables.specs.Rows.{rows, rowAt, removeAt};
+ghost use Rattle.tables.specs.Find.{all, every, findFrom, caches, hasFingerprint, absent, isUsed};
+ghost use Rattle.tables.specs.Unsound.{elem};
+ghost use Rattle.tables.specs.Sound.{mark};
+ghost use Rattle.tables.specs.Index.{Index, unique, code, Places, cachedIn, dirtyOk, unknownIn};
+
+// The index of the block row of the fingerprint `g`, or 256.
+pub(crate) fn place_of(t: &[u8], d: usize, heads: &[u16], g: &[u8]) -> u16
+    requires { ⌜ ((d * 40 ≤ length (now t)) × (d ≤ 256)) × ((length (now g) ≡ 32) × (length (now heads) ≡ 16384)) ⌝ }
+    requires { ⌜ Index 0 (now heads) (rows d (now t)) ⌝ }
+    ensures { λ r. ⌜ r ≡ code (findFrom (caches (now (g .entry))) 0 (rows d (now (t .entry)))) ⌝ }
+{
+    let found = index::find(t, d, heads, g);
+    match found {
+        Found::At(i) => i as u16,
+        Found::Nothing => 256,
+    }
+}
+
+// Fills `places` with the index of the block row of each of the first `n` address rows of `a`, or 256.
+pub fn places_of_rows(a: &[u8], n: usize, t: &[u8], d: usize, heads: &[u16], places: &mut [u16])
+    requires { ⌜ (n * 40 ≤ length (now a)) × ((n ≤ length (now places)) × ((d * 40 ≤ length (now t)) × ((d ≤ 256) × (length (now heads) ≡ 16384)))) ⌝ }
+    requires { ⌜ Index 0 (now heads) (rows d (now t)) ⌝ }
+    ensures { λ _. ⌜ Places (rows d (now (t .entry))) (rows n (now (a .entry))) (take n (now (places .exit))) ⌝ }
+    ensures { λ _. ⌜ length (now (places .exit)) ≡ length (now (places .entry)) ⌝ }
+{
+    let mut k = 0;
+    while k < n {
+        let at = k * 40 + 4;
+        let end = at + 32;
+        let b = place_of(t, d, heads, &a[at..end]);
+        places[k] = b;
+        k += 1;
+    }
+}
+
+// Whether every dirty row of the first `n` has a cached fingerprint.
+pub fn dirty_cached(a: &[u8], n: usize, t: &[u8], d: usize, places: &[u16]) -> bool
+    requires { ⌜ (n * 40 ≤ length (now a)) × ((n ≤ length (now places)) × (d ≤ 256)) ⌝ }
+    requires { ⌜ Places (rows d (now t)) (rows n (now a)) (take n (now places)) ⌝ }
+    ensures { λ r. ⌜ r ≡ all (dirtyOk (rows d (now (t .entry)))) (rows n (now (a .entry))) ⌝ }
+{
+    let mut k = 0;
+    while k < n {
+        if !dirty_ok(a, k, places[k]) {
+            return false;
+        }
+        k += 1;
+    }
+    true
+}
+
+// Whether row `k` is clean, or has a block row `b`.
+pub(crate) fn dirty_ok(a: &[u8], k: usize, b: u16) -> bool
+    requires { ⌜ k * 40 + 40 ≤ length (now a) ⌝ }
+    ensures { λ r. ⌜ r ≡ cond (eqb (getD (rowAt (now (a .entry)) k) 36 0) 1) (not (eqb b 256)) true ⌝ }
+{
+    if a[k * 40 + 36] == 1 {
+        return b != 256;
+    }
+    true
+}
+
+// Whether every row of the first `n` has a cached fingerprint.
+pub fn all_cached(a: &[u8], n: usize, t: &[u8], d: usize, places: &[u16]) -> bool
+    requires { ⌜ (n ≤ length (now places)) × (d ≤ 256) ⌝ }
+    requires { ⌜ Places (rows d (now t)) (rows n (now a)) (take n (now places)) ⌝ }
+    ensures { λ r. ⌜ r ≡ all (cachedIn (rows d (now (t .entry)))) (rows n (now (a .entry))) ⌝ }
+{
+    let mut k = 0;
+    while k < n {
+        if places[k] == 256 {
+            return false;
+        }
+        k += 1;
+    }
+    true
+}
+
+// Sets the byte of `known` at each of the first `n` numbers of `places`.
+pub(crate) fn mark_known(places: &[u16], n: usize, known: &mut [u8])
+    requires { ⌜ (n ≤ length (now places)) × ((k : ℕ) → k < n → getD (now places) k 0 < length (now known)) ⌝ }
+    requires { ⌜ ((x : ℕ) → x < length (now known) → getD (now known) x 0 ≡ 0) ⌝ }
+    ensures { λ _. ⌜ length (now (known .exit)) ≡ length (now (known .entry)) ⌝ }
+    ensures { λ _. ⌜ ((x : ℕ) → x < length (now (known .exit)) → getD (now (known .exit)) x 0 ≡ mark (elem x (take n (now (places .entry))))) ⌝ }
+{
+    let mut k = n;
+    while 0 < k {
+        k -= 1;
+        let x = index::wide(places[k]);
+        known[x] = 1;
+    }
+}
+
+// Whether row `k` is used and its byte `b` is 0.
+pub(crate) fn unmarked(t: &[u8], k: usize, b: u8) -> bool
+    requires { ⌜ k * 40 + 40 ≤ length (now t) ⌝ }
+    ensures { λ r. ⌜ r ≡ isUsed (rowAt (now (t .entry)) k) && eqb b 0 ⌝ }
+{
+    if t[k * 40 + 36] == 1 {
+        return b == 0;
+    }
+    false
+}
+
+// The index of the first used row of `d` whose fingerprint no address row of the first `n` has, as the bytes of `known` tell.
+pub(crate) fn first_unknown(a: &[u8], n: usize, t: &[u8], d: usize, known: &[u8]) -> Found
+    requires { ⌜ (d * 40 ≤ length (now t)) × (d ≤ length (now known)) ⌝ }
+    requires { ⌜ ((k : ℕ) → k < d → isUsed (rowAt (now t) k) && eqb (getD (now known) k 0) 0 ≡ unknownIn (rows n (now a)) (rowAt (now t) k)) ⌝ }
+    ensures { λ r. ⌜ r ≡ findFrom (unknownIn (rows n (now (a .entry)))) 0 (rows d (now (t .entry))) ⌝ }
+{
+    let mut k = 0;
+    while k < d {
+        if unmarked(t, k, known[k]) {
+            return Found::At(k);
+        }
+        k += 1;
+    }
+    Found::Nothing
+}
+
+// The index of the oldest used row of `d` whose fingerprint no address row of the first `n` has.
+pub fn oldest_unknown(a: &[u8], n: usize, t: &[u8], d: usize, places: &[u16]) -> Found
+    requires { ⌜ (n ≤ length (now places)) × ((d * 40 ≤ length (now t)) × (d ≤ 256)) ⌝ }
+    requires { ⌜ every unique (rows d (now t)) ≡ true ⌝ }
+    requires { ⌜ Places (rows d (now t)) (rows n (now a)) (take n (now places)) ⌝ }
+    ensures { λ r. ⌜ r ≡ findFrom (unknownIn (rows n (now (a .entry)))) 0 (rows d (now (t .entry))) ⌝ }
+{
+    let mut known = [0u8; 257];
+    mark_known(places, n, &mut known);
+    first_unknown(a, n, t, d, &known)
+}
+
+// Takes entry `i` out of the first `n`: the later ones move down.
+pub fn forget(places: &mut [u16], n: usize, i: usize)
+    requires { ⌜ (i < n) × (n ≤ length (now places)) ⌝ }
+    ensures { λ _. ⌜ take (n - 1) (now (places .exit)) ≡ removeAt (take n (now (places .entry))) i ⌝ }
+    ensures { λ _. ⌜ length (now (places .exit)) ≡ length (now (places .entry)) ⌝ }
+{
+    let left = n - 1 - i;
+    let mut k = 0;
+    while k < left {
+        places[i + k] = places[i + 1 + k];
+        k += 1;
+    }
+}
+
+// Adds the entry `v` behind the first `n`.
+pub fn remember(places: &mut [u16], n: usize, v: u16)
+    requires { ⌜ n < length (now places) ⌝ }
+    ensures { λ _. ⌜ take (n + 1) (now (places .exit)) ≡ take n (now (places .entry)) ++ (v ∷ []) ⌝ }
+    ensures { λ _. ⌜ length (now (places .exit)) ≡ length (now (places .entry)) ⌝ }
+{
+    places[n] = v;
+}
+
+// Whether an address row of the first `n` has the fingerprint of the used block row `j`.
+pub fn knows(a: &[u8], n: usize, t: &[u8], d: usize, places: &[u16], j: u16) -> bool
+    requires { ⌜ (n ≤ length (now places)) × ((j < d) × (d ≤ 256)) ⌝ }
+    requires { ⌜ every unique (rows d (now t)) ≡ true ⌝ }
+    requires { ⌜ Places (rows d (now t)) (rows n (now a)) (take n (now places)) ⌝ }
+    requires { ⌜ isUsed (rowAt (now t) j) ≡ true ⌝ }
+    ensures { λ r. ⌜ r ≡ not (absent (findFrom (hasFingerprint (take 32 (rowAt (now (t .entry)) j))) 0 (rows n (now (a .entry))))) ⌝ }
+{
+    let mut k = 0;
+    while k < n {
+        if places[k] == j {
+            return true;
+        }
+        k += 1;
+    }
+    false
+}

@@ -1,0 +1,242 @@
+// Whether a table's bytes are those of a sound table.
+use crate::index;
+use crate::known;
+use tables::find;
+ghost use mathlib.Core.Path.{_≡_};
+ghost use mathlib.Core.Bool.{true, false, not, cond, _&&_, _||_};
+ghost use mathlib.Core.List.{map};
+ghost use Prim.Native.Nat.{ℕ, suc, _+_, _*_, _<_, _≤_};
+ghost use lib.ListN.{length, take, drop, getD};
+ghost use Rattle.tables.specs.Rows.{rows, rowAt};
+ghost use Rattle.tables.specs.Find.{all, every, isUsed};
+ghost use Rattle.tables.specs.Unsound.{elem, addressesUnsound, blocksUnsound, dirtyUncached};
+ghost use Rattle.tables.specs.Sound.{distinct, mark, wordOf, tailOk, addressOk, isZero, soundAddresses, addressesFit, blocksFit};
+ghost use Rattle.tables.specs.Index.{Index, Places, rowOk};
+
+// Whether the last four bytes of row `k` are a flag and three zeros.
+pub(crate) fn tail_ok(t: &[u8], k: usize) -> bool
+    requires { ⌜ k * 40 + 40 ≤ length (now t) ⌝ }
+    ensures { λ r. ⌜ r ≡ tailOk (rowAt (now (t .entry)) k) ⌝ }
+{
+    let at = k * 40;
+    if 1 < t[at + 36] {
+        return false;
+    }
+    if t[at + 37] != 0 {
+        return false;
+    }
+    if t[at + 38] != 0 {
+        return false;
+    }
+    t[at + 39] == 0
+}
+
+// Whether row `k` is a held address row's, with an address below `p`.
+pub(crate) fn address_ok(t: &[u8], k: usize, p: u32) -> bool
+    requires { ⌜ k * 40 + 40 ≤ length (now t) ⌝ }
+    ensures { λ r. ⌜ r ≡ addressOk p (rowAt (now (t .entry)) k) ⌝ }
+{
+    if find::word_at(t, k * 40) < p {
+        return tail_ok(t, k);
+    }
+    false
+}
+
+// Whether each of the first `n` rows is one of a held address.
+pub(crate) fn addresses_ok(t: &[u8], n: usize, p: u32) -> bool
+    requires { ⌜ n * 40 ≤ length (now t) ⌝ }
+    ensures { λ r. ⌜ r ≡ all (addressOk p) (rows n (now (t .entry))) ⌝ }
+{
+    let mut k = 0;
+    while k < n {
+        if !address_ok(t, k, p) {
+            return false;
+        }
+        k += 1;
+    }
+    true
+}
+
+// Whether all bytes from index `from` on are zero.
+pub(crate) fn zero_from(t: &[u8], from: usize) -> bool
+    requires { ⌜ from ≤ length (now t) ⌝ }
+    ensures { λ r. ⌜ r ≡ all isZero (drop from (now (t .entry))) ⌝ }
+{
+    let mut k = from;
+    while k < t.len() {
+        if t[k] != 0 {
+            return false;
+        }
+        k += 1;
+    }
+    true
+}
+
+// Whether the numbers at place `j` of the first `n` rows are all different. `seen` has a byte, 0 at first, for each number that can occur;
+// if they are, it marks those that do.
+pub(crate) fn words_distinct(t: &[u8], n: usize, j: usize, seen: &mut [u8]) -> bool
+    requires { ⌜ (n * 40 ≤ length (now t)) × (j + 4 ≤ 40) ⌝ }
+    requires { ⌜ ((k : ℕ) → k < n → wordOf j (rowAt (now t) k) < length (now seen)) ⌝ }
+    requires { ⌜ ((x : ℕ) → x < length (now seen) → getD (now seen) x 0 ≡ 0) ⌝ }
+    ensures { λ r. ⌜ r ≡ distinct (map (wordOf j) (rows n (now (t .entry)))) ⌝ }
+    ensures { λ r. ⌜ length (now (seen .exit)) ≡ length (now (seen .entry)) ⌝ }
+    ensures { λ r. ⌜ (r ≡ true → (x : ℕ) → x < length (now (seen .exit)) → getD (now (seen .exit)) x 0 ≡ mark (elem x (map (wordOf j) (rows n (now (t .entry)))))) ⌝ }
+{
+    let mut k = n;
+    while 0 < k {
+        k -= 1;
+        let x = find::word_at(t, k * 40 + j) as usize;
+        if seen[x] != 0 {
+            return false;
+        }
+        seen[x] = 1;
+    }
+    true
+}
+
+// Whether the address table is sound: `n` rows of `m` held, over `p` disk blocks.
+pub(crate) fn addresses_sound(t: &[u8], m: usize, n: usize, p: u32) -> bool
+    requires { ⌜ (length (now t) ≡ m * 40) × (p ≤ 65536) ⌝ }
+    ensures { λ r. ⌜ r ≡ soundAddresses p m n (now (t .entry)) ⌝ }
+{
+    if m < n {
+        return false;
+    }
+    if !addresses_ok(t, n, p) {
+        return false;
+    }
+    let mut seen = [0u8; 65536];
+    if !words_distinct(t, n, 0, &mut seen) {
+        return false;
+    }
+    zero_from(t, n * 40)
+}
+
+// Whether row `k` and the rows behind it, of which `used` tells, are all used.
+pub(crate) fn used_from(t: &[u8], k: usize, used: bool) -> bool
+    requires { ⌜ k * 40 + 40 ≤ length (now t) ⌝ }
+    ensures { λ r. ⌜ r ≡ isUsed (rowAt (now (t .entry)) k) && used ⌝ }
+{
+    if t[k * 40 + 36] == 1 {
+        return used;
+    }
+    false
+}
+
+// Whether row `k` of `d` is a sound block row by itself; `used` tells whether the rows behind it are all used.
+pub(crate) fn row_ok(t: &[u8], d: usize, k: usize, used: bool) -> bool
+    requires { ⌜ (k < d) × (length (now t) ≡ d * 40) ⌝ }
+    requires { ⌜ used ≡ all isUsed (drop (suc k) (rows d (now t))) ⌝ }
+    ensures { λ r. ⌜ r ≡ rowOk d (rowAt (now (t .entry)) k) (drop (suc k) (rows d (now (t .entry)))) ⌝ }
+{
+    let at = k * 40;
+    let end = at + 32;
+    let slot = find::word_at(t, end) as usize;
+    if d <= slot {
+        return false;
+    }
+    if !tail_ok(t, k) {
+        return false;
+    }
+    if t[at + 36] != 1 {
+        return zero_from(&t[at..end], 0);
+    }
+    used
+}
+
+// Whether each of the `d` rows is a sound block row by itself.
+pub(crate) fn rows_ok(t: &[u8], d: usize) -> bool
+    requires { ⌜ length (now t) ≡ d * 40 ⌝ }
+    ensures { λ r. ⌜ r ≡ every (rowOk d) (rows d (now (t .entry))) ⌝ }
+{
+    let mut used = true;
+    let mut k = d;
+    while 0 < k {
+        k -= 1;
+        if !row_ok(t, d, k, used) {
+            return false;
+        }
+        used = used_from(t, k, used);
+    }
+    true
+}
+
+// Whether the block table of `d` rows is sound. If so, `heads`, 256 everywhere at first, is its index.
+pub(crate) fn blocks_sound(t: &[u8], d: usize, heads: &mut [u16]) -> bool
+    requires { ⌜ (length (now t) ≡ d * 40) × ((d ≤ 256) × (length (now heads) ≡ 16384)) ⌝ }
+    requires { ⌜ ((x : ℕ) → x < length (now heads) → getD (now heads) x 0 ≡ 256) ⌝ }
+    ensures { λ r. ⌜ r ≡ not (blocksUnsound d (now (t .entry))) ⌝ }
+    ensures { λ r. ⌜ (r ≡ true → Index 0 (now (heads .exit)) (rows d (now (t .entry)))) ⌝ }
+    ensures { λ r. ⌜ length (now (heads .exit)) ≡ 16384 ⌝ }
+{
+    if !rows_ok(t, d) {
+        return false;
+    }
+    let mut seen = [0u8; 256];
+    if !words_distinct(t, d, 32, &mut seen) {
+        return false;
+    }
+    index::build(t, d, heads)
+}
+
+// Refusal 6, of any bytes and numbers: whether the address table of `m` rows, `n` of them held, is unsound over `p` disk blocks.
+pub fn addresses_unsound(t: &[u8], m: usize, n: usize, p: usize) -> bool
+    ensures { λ r. ⌜ r ≡ not (addressesFit p m (now (t .entry))) || addressesUnsound p m n (now (t .entry)) ⌝ }
+{
+    if 65536 < p {
+        return true;
+    }
+    if 1024 < m {
+        return true;
+    }
+    if t.len() != m * 40 {
+        return true;
+    }
+    !addresses_sound(t, m, n, p as u32)
+}
+
+// Refusal 7, of any bytes and numbers: whether the block table of `d` rows is unsound. If not, `heads`, 256 everywhere at first, is its index.
+pub fn blocks_unsound(t: &[u8], d: usize, heads: &mut [u16]) -> bool
+    requires { ⌜ length (now heads) ≡ 16384 ⌝ }
+    requires { ⌜ ((x : ℕ) → x < length (now heads) → getD (now heads) x 0 ≡ 256) ⌝ }
+    ensures { λ r. ⌜ r ≡ not (blocksFit d (now (t .entry))) || blocksUnsound d (now (t .entry)) ⌝ }
+    ensures { λ r. ⌜ (r ≡ false → Index 0 (now (heads .exit)) (rows d (now (t .entry)))) ⌝ }
+    ensures { λ r. ⌜ length (now (heads .exit)) ≡ 16384 ⌝ }
+{
+    if 256 < d {
+        return true;
+    }
+    if t.len() != d * 40 {
+        return true;
+    }
+    !blocks_sound(t, d, heads)
+}
+
+// The first of 6, 7 and 8 that applies, of any bytes and numbers, 0 where none does: `places` then has the place of each held row's block row.
+pub fn tables_refused(
+    addresses: &[u8],
+    m: usize,
+    n: usize,
+    p: usize,
+    blocks: &[u8],
+    d: usize,
+    places: &mut [u16],
+) -> u32
+    requires { ⌜ length (now places) ≡ 1024 ⌝ }
+    ensures { λ r. ⌜ r ≡ cond (not (addressesFit p m (now (addresses .entry))) || addressesUnsound p m n (now (addresses .entry))) 6 (cond (not (blocksFit d (now (blocks .entry))) || blocksUnsound d (now (blocks .entry))) 7 (cond (dirtyUncached n d (now (addresses .entry)) (now (blocks .entry))) 8 0)) ⌝ }
+    ensures { λ r. ⌜ (r ≡ 0 → Places (rows d (now (blocks .entry))) (rows n (now (addresses .entry))) (take n (now (places .exit)))) ⌝ }
+    ensures { λ r. ⌜ length (now (places .exit)) ≡ 1024 ⌝ }
+{
+    if addresses_unsound(addresses, m, n, p) {
+        return 6;
+    }
+    let mut heads = [256u16; 16384];
+    if blocks_unsound(blocks, d, &mut heads) {
+        return 7;
+    }
+    known::places_of_rows(addresses, n, blocks, d, &heads, places);
+    if known::dirty_cached(addresses, n, blocks, d, places) {
+        return 0;
+    }
+    8
+}

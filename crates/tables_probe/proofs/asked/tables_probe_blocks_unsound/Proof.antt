@@ -1,0 +1,13 @@
+-- Every element of the array is 256. Assumes nothing.
+use mathlib.Core.Path.{refl}
+use lib.ListN.{length-replicate, getD-replicate}
+use borrow.Author.Needs.{needs}
+use Rattle.tables_probe.proofs.asked.tables_probe_blocks_unsound.Statement.{statement}
+use Rattle.tables_probe.proofs.asked.tables_probe_blocks_unsound.Tie as tie
+
+blocks-unsound-requires : tie.Need-blocks-unsound-requires
+blocks-unsound-requires c κs = (refl, λ x h. getD-replicate 16384 x 256 0 (rw length-replicate at h))
+
+pub tables-probe-blocks-unsound-spec : {M : Type 1} → statement M
+tables-probe-blocks-unsound-spec =
+    tie.close (tie.spec (λ c. search needs) blocks-unsound-requires (λ c. search needs))

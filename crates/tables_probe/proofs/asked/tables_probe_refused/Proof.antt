@@ -1,0 +1,13 @@
+-- The number is that of the tables' own function. Assumes nothing.
+use Rattle.tables_probe.specs.Probe.{refused}
+use borrow.Author.Needs.{needs}
+use Rattle.tables_probe.proofs.asked.tables_probe_refused.Statement.{statement}
+use Rattle.tables_probe.proofs.asked.tables_probe_refused.Tie as tie
+
+returns : tie.Need-returns
+unfolding refused
+returns c = c .before .tables-refused .ensures .0
+
+pub tables-probe-refused-spec : {M : Type 1} → statement M
+tables-probe-refused-spec =
+    tie.close (tie.spec (λ c. search needs) (λ c κs. search needs) returns)
