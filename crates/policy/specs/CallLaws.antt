@@ -24,7 +24,7 @@ use Rattle.policy.specs.declared.Word as CodeWord
 use Rattle.policy.specs.declared.Answer.the-variants.{Refused, Answered}
 use Rattle.step.specs.Rep.{Rep}
 use Rattle.step.specs.Steps.{Out4, out4, Sure}
-use Rattle.step.specs.Calls.{Leaves, leaves, isYes, returned}
+use Rattle.serve.specs.Calls.{Leaves, leaves, isYes, returned}
 use Rattle.policy.specs.Contract.{numbersOf, countersOf, lent, wordOf, Told, told, called}
 
 -- bytes below 256, one by one

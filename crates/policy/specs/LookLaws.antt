@@ -22,11 +22,11 @@ use Rattle.step.specs.declared.BoxRecord.{BoxRecord}
 use Rattle.policy.specs.declared.look.Place.{Place}
 use Rattle.policy.specs.declared.look.Place.the-variants.{Refused, Flash, Disk}
 use Rattle.step.specs.Rep.{Rep, noRow}
-use Rattle.step.specs.Calls.{HitAt}
+use Rattle.serve.specs.Calls.{HitAt}
 use Rattle.policy.specs.Contract.{numbersOf, lent}
 use Rattle.policy.specs.Look.{placeIn, whereIs, answerAt, partAt}
 use Rattle.step.specs.CopyLaws.{part-block, parts-length, block-ends, slot-some, slotOf-below}
-use Rattle.step.specs.ServeLaws.{hit-row, found-hit, found-miss}
+use Rattle.serve.specs.ServeLaws.{hit-row, found-hit, found-miss}
 use Rattle.policy.specs.CallLaws.{rep, address-fits}
 
 -- a look that is not refused

@@ -1,9 +1,7 @@
--- lent bytes as a paper box, what the steps and the calls leave in them
+-- lent bytes as a paper box, what the steps leave in them
 pub mod Rep
 pub mod Steps
-pub mod Calls
--- promises: what the tables and the copies say of a paper box, and the calls from their steps
+-- promises: what the tables and the copies say of a paper box
 pub mod TableLaws
 pub mod MoveLaws
 pub mod CopyLaws
-pub mod ServeLaws

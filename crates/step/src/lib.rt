@@ -1,8 +1,7 @@
-// The step of a request and the calls that are not refused, on the bytes of a paper box.
-mod copy;
+// The step of a request, on the bytes of a paper box.
+pub mod copy;
 pub mod rows;
-pub mod serve;
-mod steps;
+pub mod steps;
 
 // The box record: the block size B, the disk's blocks P, the most addresses held m, the cached blocks d, and the addresses held n.
 pub struct BoxRecord {

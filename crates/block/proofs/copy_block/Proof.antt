@@ -8,39 +8,30 @@ use Rattle.block.proofs.copy_block.Reads as reads
 use Rattle.block.proofs.copy_block.Lts as lts
 use Rattle.block.proofs.put.Reads as put-reads
 
--- src/lib.rt:55:13
 mul-a : tie.Need-mul-a
 mul-a c = search needs
 
--- src/lib.rt:56:13
 add-e : tie.Need-add-e
 add-e c = search needs
 
--- src/lib.rt:57:9
 sub-put : tie.Need-sub-put
 sub-put c = search needs
 
--- src/lib.rt:57:9
 part-put-start : tie.Need-part-put-start
 part-put-start c = search needs
 
--- src/lib.rt:57:9
 part-put-end : tie.Need-part-put-end
 part-put-end c = search needs
 
--- src/lib.rt:57:26
 mul-put : tie.Need-mul-put
 mul-put c = search needs
 
--- src/lib.rt:57:5
 put-requires : tie.Need-put-requires
 put-requires c κs = search needs
 
--- src/lib.rt:51:1
 same-length : tie.Need-same-length
 same-length c = search needs
 
--- src/lib.rt:51:1
 returns : tie.Need-returns
 returns c = c .before .before .put .ensures ∙ rw part-is
 

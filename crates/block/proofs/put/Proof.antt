@@ -7,31 +7,24 @@ use Rattle.block.proofs.put.Reads as reads
 use Rattle.block.proofs.put.Lts as lts
 use Rattle.block.proofs.copy_all.Reads as copy-all-reads
 
--- src/lib.rt:46:15
 add-end : tie.Need-add-end
 add-end c = search needs
 
--- src/lib.rt:47:19
 sub-copy-all : tie.Need-sub-copy-all
 sub-copy-all c = search needs
 
--- src/lib.rt:47:19
 part-copy-all-start : tie.Need-part-copy-all-start
 part-copy-all-start c = search needs
 
--- src/lib.rt:47:19
 part-copy-all-end : tie.Need-part-copy-all-end
 part-copy-all-end c = search needs
 
--- src/lib.rt:47:5
 copy-all-requires : tie.Need-copy-all-requires
 copy-all-requires c κs = search needs
 
--- src/lib.rt:42:1
 same-length : tie.Need-same-length
 same-length c = search needs
 
--- src/lib.rt:42:1
 returns : tie.Need-returns
 returns c = put-mid _ _ _ _ (c .before .before .copy-all .ensures)
 

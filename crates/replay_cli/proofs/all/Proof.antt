@@ -23,21 +23,17 @@ abbrev μ-loop : tie.MeasureT-loop
 μ-loop chunk₀ line₀ disk₀ flash₀ addresses₀ blocks₀ out₀ s₀ more₀ turns₀ chunk line disk flash addresses blocks out s more turns =
     turns
 
--- src/main.rt:133:9
 begin-requires : tie.Need-begin-requires Inv-loop μ-loop
 begin-requires c κs = tt
 
--- src/main.rt:136:5
 loop-holds : tie.Need-loop-holds Inv-loop μ-loop
 loop-holds c =
     let a = c .before .before .before .before .before .before .before .before .args in
     (refl, refl, refl, refl, refl, refl, refl, ([], ap (λ s. memory s (a .line .now) (a .disk .now) (a .flash .now) (a .addresses .now) (a .blocks .now) (a .out .now)) (c .begin .ensures)))
 
--- src/main.rt:137:9
 sub-turns : tie.Need-sub-turns Inv-loop μ-loop
 sub-turns c = omega arith
 
--- src/main.rt:138:13
 turn-requires : tie.Need-turn-requires Inv-loop μ-loop
 turn-requires c κs = tt
 
@@ -47,11 +43,9 @@ below c = omega arith
 fewer : (n : ℕ) → 0 < n → n - 1 < n
 fewer n h = omega arith
 
--- src/main.rt:136:5
 loop-less : tie.Need-loop-less Inv-loop μ-loop
 loop-less c = fewer (c .before .before .before .before .before .before .before .before .before .before .before .before .before .before .before .before .before .before .before .before .before .before .before .before .before .loop .turns) (below c)
 
--- src/main.rt:136:5
 loop-again : tie.Need-loop-again Inv-loop μ-loop
 loop-again c =
     let i = c .before .before .before .before .before .before .before .before .before .before .before .before .before .before .before .before .before .before .before .before .before .before .before .before .before .loop .inv in
@@ -69,67 +63,51 @@ loop-again c =
       (b .0 ++ e .0, e .1 ∙ ap (fedFirst (e .0) (length (e .0))) (b .1) ∙ joined (b .0) (e .0) _),
     )
 
--- src/main.rt:121:1
 same-length : tie.Need-same-length Inv-loop μ-loop
 same-length c = c .before .before .loop .inv .0
 
--- src/main.rt:121:1
 same-length-2 : tie.Need-same-length-2 Inv-loop μ-loop
 same-length-2 c = c .before .before .loop .inv .1
 
--- src/main.rt:121:1
 same-length-3 : tie.Need-same-length-3 Inv-loop μ-loop
 same-length-3 c = c .before .before .loop .inv .2
 
--- src/main.rt:121:1
 same-length-4 : tie.Need-same-length-4 Inv-loop μ-loop
 same-length-4 c = c .before .before .loop .inv .3
 
--- src/main.rt:121:1
 same-length-5 : tie.Need-same-length-5 Inv-loop μ-loop
 same-length-5 c = c .before .before .loop .inv .4
 
--- src/main.rt:121:1
 same-length-6 : tie.Need-same-length-6 Inv-loop μ-loop
 same-length-6 c = c .before .before .loop .inv .5
 
--- src/main.rt:121:1
 same-length-7 : tie.Need-same-length-7 Inv-loop μ-loop
 same-length-7 c = c .before .before .loop .inv .6
 
--- src/main.rt:121:1
 returns : tie.Need-returns Inv-loop μ-loop
 returns c = c .before .before .loop .inv .7
 
--- src/main.rt:121:1
 same-length-8 : tie.Need-same-length-8 Inv-loop μ-loop
 same-length-8 c = c .before .loop .inv .0
 
--- src/main.rt:121:1
 same-length-9 : tie.Need-same-length-9 Inv-loop μ-loop
 same-length-9 c = c .before .loop .inv .1
 
--- src/main.rt:121:1
 same-length-10 : tie.Need-same-length-10 Inv-loop μ-loop
 same-length-10 c = c .before .loop .inv .2
 
--- src/main.rt:121:1
 same-length-11 : tie.Need-same-length-11 Inv-loop μ-loop
 same-length-11 c = c .before .loop .inv .3
 
--- src/main.rt:121:1
 same-length-12 : tie.Need-same-length-12 Inv-loop μ-loop
 same-length-12 c = c .before .loop .inv .4
 
--- src/main.rt:121:1
 same-length-13 : tie.Need-same-length-13 Inv-loop μ-loop
 same-length-13 c = c .before .loop .inv .5
 
--- src/main.rt:121:1
 same-length-14 : tie.Need-same-length-14 Inv-loop μ-loop
 same-length-14 c = c .before .loop .inv .6
 
--- src/main.rt:121:1
 returns-2 : tie.Need-returns-2 Inv-loop μ-loop
 returns-2 c = c .before .loop .inv .7
 

@@ -7,11 +7,9 @@ use Rattle.replay_cli.proofs.goes_on.Tie as tie
 use Rattle.replay_cli.proofs.goes_on.Reads as reads
 use Rattle.replay_cli.proofs.goes_on.Lts as lts
 
--- src/main.rt:96:9
 returns : tie.Need-returns
 returns c = rw (c .if1 .taken) refl
 
--- src/main.rt:92:1
 returns-2 : tie.Need-returns-2
 returns-2 c = rw (lt-ltb 0 (c .before .args .n) (omega arith)) refl
 

@@ -9,7 +9,6 @@ use Rattle.replay_cli.proofs.last.Lts as lts
 use Rattle.replay.proofs.feed.finish.Reads as finish-reads
 use Rattle.replay_cli.proofs.write.Reads as write-reads
 
--- src/main.rt:102:1
 returns : tie.Need-returns
 returns c = ap (λ (x : After). x .memory) (c .before .before .before .before .before .before .before .before .before .before .before .before .before .finish .ensures)
 

@@ -8,11 +8,11 @@ use native.Mathlib.Omega.{arith}
 use Rattle.paper.specs.Cache.{cached, sameBlock, newBlock, step}
 use Rattle.paper.specs.Engine.{engine}
 use native.Mathlib.Nat.{zero-add}
 use Rattle.step.specs.Steps.{asks}
-use Rattle.step.specs.ServeLaws.{yes-is, answer-is, back-is}
+use Rattle.serve.specs.ServeLaws.{yes-is, answer-is, back-is}
 use borrow.Author.Needs.{needs}
-use Rattle.step.proofs.serve.serve_back.Statement.{statement}
-use Rattle.step.proofs.serve.serve_back.Tie as tie
+use Rattle.serve.proofs.serve_back.Statement.{statement}
+use Rattle.serve.proofs.serve_back.Tie as tie
 
 step-requires : tie.Need-step-requires
 step-requires c κs =

@@ -1,9 +1,9 @@
 -- By whether the row's fingerprint has a place, which is the paper's hit. Assumes nothing.
 use Prim.Native.Nat.{_-_}
-use Rattle.step.specs.ServeLaws.{found-hit, found-miss}
+use Rattle.serve.specs.ServeLaws.{found-hit, found-miss}
 use borrow.Author.Needs.{needs}
-use Rattle.step.proofs.serve.serve_read.Statement.{statement}
-use Rattle.step.proofs.serve.serve_read.Tie as tie
+use Rattle.serve.proofs.serve_read.Statement.{statement}
+use Rattle.serve.proofs.serve_read.Tie as tie
 
 read-hit-requires : tie.Need-read-hit-requires
 read-hit-requires c κs =

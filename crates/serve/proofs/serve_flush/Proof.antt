@@ -1,10 +1,10 @@
 -- The loop over the rows gives all. Assumes nothing.
 use Prim.Native.Nat.{_-_}
 use native.Mathlib.Omega.{arith}
-use Rattle.step.specs.ServeLaws.{flush-is}
+use Rattle.serve.specs.ServeLaws.{flush-is}
 use borrow.Author.Needs.{needs}
-use Rattle.step.proofs.serve.serve_flush.Statement.{statement}
-use Rattle.step.proofs.serve.serve_flush.Tie as tie
+use Rattle.serve.proofs.serve_flush.Statement.{statement}
+use Rattle.serve.proofs.serve_flush.Tie as tie
 
 returns : tie.Need-returns
 returns c =

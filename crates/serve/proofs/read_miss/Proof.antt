@@ -9,12 +9,12 @@ use Rattle.paper.specs.Cache.{miss, step}
 use Rattle.paper.specs.Engine.{engine}
 use native.Mathlib.Nat.{zero-add}
 use Rattle.hash.specs.Sha256.{sha256}
 use Rattle.step.specs.Steps.{asks}
 use Rattle.step.specs.CopyLaws.{parts-length, block-ends}
-use Rattle.step.specs.ServeLaws.{answer-is, copied-block, miss-is}
+use Rattle.serve.specs.ServeLaws.{answer-is, copied-block, miss-is}
 use borrow.Author.Needs.{needs}
-use Rattle.step.proofs.serve.read_miss.Statement.{statement}
-use Rattle.step.proofs.serve.read_miss.Tie as tie
+use Rattle.serve.proofs.read_miss.Statement.{statement}
+use Rattle.serve.proofs.read_miss.Tie as tie
 
 copy-block-requires : tie.Need-copy-block-requires
 copy-block-requires c κs =

@@ -1,8 +1,8 @@
 // The calls that are not refused, on the bytes of a paper box.
-use crate::BoxRecord;
-use crate::copy;
-use crate::rows;
-use crate::steps;
+use step::BoxRecord;
+use step::copy;
+use step::rows;
+use step::steps;
 use tables::SourceAddress;
 ghost use mathlib.Core.Path.{_≡_};
 ghost use mathlib.Core.List.{List};
@@ -11,9 +11,9 @@ ghost use lib.ListN.{length};
 ghost use mathlib.Core.Option.{Option};
 ghost use Rattle.paper.specs.Cache.{Box, Call, serve, rowWithBlock};
 ghost use Rattle.paper.specs.Engine.{Fixed, engine};
 ghost use Rattle.step.specs.Rep.{Rep};
 ghost use Rattle.step.specs.Steps.{Placed, Sure};
-ghost use Rattle.step.specs.Calls.{leaves, HitAt};
+ghost use Rattle.serve.specs.Calls.{leaves, HitAt};
 
 // What a served call tells: whether its word is the first of its two, the rows held, and its flash and primary writes.
 pub struct Served {

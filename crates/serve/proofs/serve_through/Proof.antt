@@ -9,13 +9,13 @@ use Rattle.paper.specs.Cache.{onDisk, cached, sameBlock, newBlock, step}
 use Rattle.paper.specs.Engine.{Fixed, engine}
 use Rattle.block.specs.Blocks.{splice}
 use Rattle.paper.specs.Sound.{sound-onDisk}
 use Rattle.step.specs.Steps.{asks}
 use Rattle.step.specs.CopyLaws.{block-ends}
-use Rattle.step.specs.ServeLaws.{yes-is, answer-is, through-is, rep-onDisk, part-all}
+use Rattle.serve.specs.ServeLaws.{yes-is, answer-is, through-is, rep-onDisk, part-all}
 use Rattle.hash.specs.Sha256.{sha256}
 use borrow.Author.Needs.{needs}
-use Rattle.step.proofs.serve.serve_through.Statement.{statement}
-use Rattle.step.proofs.serve.serve_through.Tie as tie
+use Rattle.serve.proofs.serve_through.Statement.{statement}
+use Rattle.serve.proofs.serve_through.Tie as tie
 
 copy-block-requires : tie.Need-copy-block-requires
 copy-block-requires c κs =

@@ -7,10 +7,10 @@ use borrow.Author.Needs.{needs}
 use Rattle.hash.specs.Sha256.{sha256}
 use Rattle.block.specs.Blocks.{splice}
 use Rattle.paper.specs.Engine.{engine}
 use Rattle.step.specs.CopyLaws.{block-ends}
-use Rattle.step.specs.ServeLaws.{yes-is, invalidate-is, part-all}
-use Rattle.step.proofs.serve.serve_invalidate.Statement.{statement}
-use Rattle.step.proofs.serve.serve_invalidate.Tie as tie
+use Rattle.serve.specs.ServeLaws.{yes-is, invalidate-is, part-all}
+use Rattle.serve.proofs.serve_invalidate.Statement.{statement}
+use Rattle.serve.proofs.serve_invalidate.Tie as tie
 
 copy-block-requires : tie.Need-copy-block-requires
 copy-block-requires c κs =

@@ -1,0 +1,4 @@
+-- what the calls leave in lent bytes
+pub mod Calls
+-- promises: the calls from their steps
+pub mod ServeLaws
