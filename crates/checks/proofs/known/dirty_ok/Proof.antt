@@ -9,12 +9,12 @@ use native.Mathlib.Omega.{arith}
 returns : tie.Need-returns
 returns c =
     let a = c .before .before .args in
-    rw (getD-rowAt (a .a .now) (a .k) 36 (omega arith), eq-eqb _ _ (c .if1 .taken))
+    rw (getD-rowAt (a .a .now) (a .k) 36 (omega arith), eq-eqb _ 1 (c .if1 .taken))
 
 returns-2 : tie.Need-returns-2
 returns-2 c =
     let a = c .before .before .args in
-    rw (getD-rowAt (a .a .now) (a .k) 36 (omega arith), ne-eqb _ _ (c .if1 .left))
+    rw (getD-rowAt (a .a .now) (a .k) 36 (omega arith), ne-eqb _ 1 (c .if1 .left))
 
 pub dirty-ok-spec : {M : Type 1} → statement M
 dirty-ok-spec = tie.close (tie.spec (λ c. search needs) (λ c. search needs) (λ c. search needs) returns returns-2)
