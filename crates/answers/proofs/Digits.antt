@@ -1,9 +1,8 @@
 -- What `io::decimal` puts into its array is `decimal`, by induction on the count of digits.
-use mathlib.Core.Path.{_≡_, refl, sym, ap, ap₂, _∙_, subst}
-use mathlib.Core.Bool.{true, false, cond}
+use mathlib.Core.Path.{_≡_, sym, ap, ap₂, _∙_, subst}
 use mathlib.Core.List.{List, [], _∷_, _++_}
 use Prim.Native.Nat.{ℕ, zero, suc, _+_, _-_, _/_, _%_, _^_, _≤_, _<_}
-use native.Mathlib.Nat.{mod-lt, mod-eq-of-lt, not-suc-le-zero, sub-zero, pow-le-pow-right}
+use native.Mathlib.Nat.{mod-eq-of-lt, not-suc-le-zero, sub-zero, pow-le-pow-right}
 use native.Mathlib.Omega.{arith}
 use lib.Dec.{leb, lit<}
 use lib.ListN.{take}

@@ -1,10 +1,10 @@
 -- A call's equation, taken apart; and the blocks that lines fill. By the parts of equal records, and by induction on the size.
 use mathlib.Core.Path.{_≡_, refl, sym, ap, ap₂, _∙_}
-use mathlib.Core.List.{List, [], _∷_}
+use mathlib.Core.List.{List, _∷_}
 use mathlib.Core.Option.{Option, some}
 use Prim.Native.Nat.{ℕ, zero, suc, _-_, _≤_}
 use native.Mathlib.Nat.{sub-zero, le-of-suc-le-suc, not-suc-le-zero}
-use lib.ListN.{take, drop, replicate}
+use lib.ListN.{take, replicate}
 use Rattle.paper.specs.Cache.{Counters}
 use Rattle.paper.specs.Lent.{Lent, Ask, call}
 use Rattle.paper.specs.RowBytes.{Bytes}

@@ -1,14 +1,13 @@
 -- An opening of fitting numbers over buffers of the right lengths is fresh. By the refusal's tests.
-use mathlib.Core.Path.{_≡_, refl, sym, ap, ap₂, _∙_}
-use mathlib.Core.Bool.{false, not, _||_}
+use mathlib.Core.Path.{_≡_, ap, ap₂, _∙_}
+use mathlib.Core.Bool.{false}
 use mathlib.Core.List.{List}
 use Prim.Native.Nat.{ℕ, _*_}
-use lib.Dec.{eqb}
 use lib.ListN.{length, replicate}
 use borrow.Author.Tests.{eq-eqb}
 use Rattle.counters.specs.declared.Counters as Code
 use Rattle.paper.specs.Cache.{Counters}
-use Rattle.paper.specs.Lent.{Numbers, Lent, opening, unfit, wrongBuffers, refusal, fresh, opened}
+use Rattle.paper.specs.Lent.{Numbers, Lent, opening, unfit, wrongBuffers, refusal, fresh}
 use Rattle.paper.specs.RefusalLaws.{exactly-opening, opened-is}
 use Rattle.step.specs.declared.BoxRecord.{BoxRecord}
 use Rattle.policy.specs.Contract.{numbersOf, countersOf, lent, Opened, begun, opens}

@@ -3,7 +3,6 @@ use mathlib.Core.Path.{_≡_, refl}
 use mathlib.Core.List.{List, [], _∷_, _++_, map}
 use Prim.Native.Nat.{ℕ}
 use Prim.Native.String.{String}
-use lib.ListN.{replicate}
 use Rattle.hash.specs.Sha256.{Ch, Maj, Σ0, Σ1, σ0, σ1, K, H0, M, next, W, T1, T2, round, rounds, sum8, compress, blocks, bytes32, bytes64, padded, pad, digest, sha256}
 use Rattle.tables.specs.Rows as Rows
 use Rattle.tables.specs.Records as Records

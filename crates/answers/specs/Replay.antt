@@ -6,7 +6,7 @@ use Prim.Native.Nat.{ℕ, zero, suc, _+_, _*_, _%_, _^_}
 use lib.Dec.{eqb, ltb}
 use lib.ListN.{replicate}
 use Rattle.paper.specs.Cache.{Counters, noCounts, Word, hit, miss, sameBlock, newBlock, fromCache, fromDisk, done}
-use Rattle.paper.specs.Lent.{Numbers, Lent, Ask, Answer, refused, answered, After, unfit, fresh, call}
+use Rattle.paper.specs.Lent.{Numbers, Lent, Ask, Answer, refused, answered, unfit, fresh, call}
 use Rattle.lines.specs.Text.{ascii, decimal}
 use Rattle.lines.specs.Lines.{lines, parsed}
 use Rattle.lines.specs.declared.Command.{Command}

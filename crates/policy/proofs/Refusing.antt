@@ -6,19 +6,18 @@ use Prim.Native.Nat.{ℕ, _≤_, _*_}
 use native.Mathlib.Omega.{arith}
 use lib.Dec.{eqb, leb}
 use lib.ListN.{length}
-use borrow.Author.Tests.{eq-eqb, ne-eqb, le-leb, eqb-true, not-false}
+use borrow.Author.Tests.{eq-eqb, ne-eqb, le-leb}
 use Rattle.tables.specs.Sound.{addressesFit, blocksFit}
 use Rattle.tables.specs.Unsound.{elem, addressesUnsound, blocksUnsound, dirtyUncached}
-use Rattle.paper.specs.KeyedLaws.{All, by-test, clash, or-false-left}
+use Rattle.paper.specs.KeyedLaws.{by-test}
 use Rattle.paper.specs.Cache.{Counters}
-use Rattle.paper.specs.Lent.{Numbers, Lent, Ask, opening, calling, between, unfit, wrongBuffers, over, refusal}
+use Rattle.paper.specs.Lent.{Numbers, Lent, Ask, opening, calling, unfit, wrongBuffers, over, refusal}
 use Rattle.paper.specs.LentLaws.{Lengths, right-lengths}
 use Rattle.paper.specs.RefusalLaws.{exactly-opening}
-use Rattle.paper.specs.CallLaws.{fits}
 use Rattle.step.specs.declared.BoxRecord.{BoxRecord}
 use Rattle.policy.specs.Contract.{numbersOf, lent}
 use Rattle.policy.specs.Sizes.{Most, most}
-use Rattle.policy.specs.Checks.{sizes, wrongLengths, tablesRefusal, stateRefusal}
+use Rattle.policy.specs.Checks.{wrongLengths, tablesRefusal, stateRefusal}
 
 -- a number in a list, by its first element
 pub elem-yes : (s x : ℕ) (xs : List ℕ) → s ≡ x → true ≡ elem s (x ∷ xs)

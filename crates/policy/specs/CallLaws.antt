@@ -1,24 +1,24 @@
 -- A call that is not refused, from what its refusal says and what its steps leave. Assumes nothing.
-use mathlib.Core.Path.{_≡_, refl, sym, ap, ap₂, _∙_, subst}
-use mathlib.Core.Bool.{Bool, true, false, not, _&&_, _||_, cond, false≢true}
-use mathlib.Core.List.{List, [], _∷_, _++_}
+use mathlib.Core.Path.{_≡_, refl, sym, ap, _∙_}
+use mathlib.Core.Bool.{Bool, true, false, not, _||_, cond}
+use mathlib.Core.List.{List, [], _∷_}
 use mathlib.Core.Option.{Option, none, some}
-use Prim.Native.Nat.{ℕ, suc, zero, _≤_, _<_, _+_, _*_, _^_}
+use Prim.Native.Nat.{ℕ, suc, _≤_, _<_, _+_, _*_, _^_}
 use native.Mathlib.Omega.{arith}
-use lib.Dec.{eqb, leb, ltb}
+use lib.Dec.{eqb, ltb}
 use lib.ListN.{length, getD}
 use borrow.Author.Tests.{ltb-false, leb-false, eqb-true, not-false}
 use Rattle.counters.specs.declared.Counters as Code
 use Rattle.counters.specs.Added.{added}
-use Rattle.paper.specs.KeyedLaws.{All, or-false-left, or-false-right, by-option}
-use Rattle.paper.specs.Cache.{AddressRow, Box, Call, Outcome, Word, hit, miss, sameBlock, newBlock, done, Counters, counted, oneIf, isRead, isHit, answer, cached, serve, readAs, rowWithBlock, writeThrough, writeBack, writeInvalidate, flushed}
+use Rattle.paper.specs.KeyedLaws.{or-false-left, or-false-right}
+use Rattle.paper.specs.Cache.{AddressRow, Box, Call, Outcome, Word, hit, miss, sameBlock, newBlock, Counters, counted, oneIf, isRead, isHit, answer, cached, serve, readAs, rowWithBlock, writeThrough, writeBack, writeInvalidate}
 use Rattle.paper.specs.Engine.{Fixed, fit, engine}
-use Rattle.paper.specs.Lent.{Numbers, Lent, Ask, calling, refusal, callOf, boxIn, lentOf, call, served, answered, blockAfter, partAfter, otherLength, wrongBuffers, wrongBlock, lentBlock, outside, addressOf, over, join}
+use Rattle.paper.specs.Lent.{Numbers, Lent, Ask, calling, refusal, callOf, boxIn, lentOf, call, served, answered, blockAfter, partAfter, wrongBuffers, wrongBlock, lentBlock, outside, addressOf, over}
 use Rattle.paper.specs.RowBytes.{Bytes}
 use Rattle.paper.specs.LentLaws.{passes-sound, fit-whole}
 use Rattle.paper.specs.RefusalLaws.{exactly, served-is, refused-keeps}
 use Rattle.paper.specs.CallLaws.{Served, served-finds, outcome}
-use Rattle.paper.specs.Layout.{Addrs, Blocks, Parts, addressesOf, blocksOf, passes-addrs, passes-blocks, passes-flash, passes-disk}
+use Rattle.paper.specs.Layout.{addressesOf, blocksOf, passes-addrs, passes-blocks, passes-flash, passes-disk}
 use Rattle.step.specs.declared.BoxRecord.{BoxRecord}
 use Rattle.policy.specs.declared.Word as CodeWord
 use Rattle.policy.specs.declared.Answer.the-variants.{Refused, Answered}

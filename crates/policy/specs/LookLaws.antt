@@ -1,20 +1,18 @@
 -- A look, from where its block is found. Assumes nothing.
 use mathlib.Core.Path.{_≡_, refl, sym, ap, _∙_}
-use mathlib.Core.Bool.{true, cond}
+use mathlib.Core.Bool.{cond}
 use mathlib.Core.List.{List}
-use mathlib.Core.Option.{some}
 use Prim.Native.Nat.{ℕ, _≤_, _<_, _+_, _*_}
-use native.Mathlib.Omega.{arith}
 use lib.Dec.{eqb, ltb}
 use lib.ListN.{length, getD}
 use borrow.Author.Tests.{eqb-true, eqb-false, ne-eqb}
 use Rattle.tables.specs.Rows.{rowAt, le4}
 use Rattle.block.specs.Blocks.{part}
 use Rattle.paper.specs.KeyedLaws.{by-test, by-option}
-use Rattle.paper.specs.Cache.{AddressRow, BlockRow, Box, Counters, rowWithBlock, rowOf, cached, ifCached, slotOf, serve, lookAs}
+use Rattle.paper.specs.Cache.{Box, Counters, rowWithBlock, slotOf, serve, lookAs}
 use Rattle.paper.specs.Engine.{Fixed, engine}
 use Rattle.paper.specs.Lent.{Numbers, Lent, Ask, calling, refusal, boxIn, callOf, call, served}
-use Rattle.paper.specs.Index.{indexWhere, has-yes, find-yes}
+use Rattle.paper.specs.Index.{indexWhere}
 use Rattle.paper.specs.RowBytes.{Bytes}
 use Rattle.paper.specs.RefusalLaws.{served-is, keeps}
 use Rattle.paper.specs.CallLaws.{served-finds}
@@ -22,7 +20,6 @@ use Rattle.step.specs.declared.BoxRecord.{BoxRecord}
 use Rattle.policy.specs.declared.look.Place.{Place}
 use Rattle.policy.specs.declared.look.Place.the-variants.{Refused, Flash, Disk}
 use Rattle.step.specs.Rep.{Rep, noRow}
-use Rattle.serve.specs.Calls.{HitAt}
 use Rattle.policy.specs.Contract.{numbersOf, lent}
 use Rattle.policy.specs.Look.{placeIn, whereIs, answerAt, partAt}
 use Rattle.step.specs.CopyLaws.{part-block, parts-length, block-ends, slot-some, slotOf-below}

@@ -1,11 +1,11 @@
 -- What a byte, and the end of the input, leave in the memory. By the parts of equal records, and the laws of `splice`.
 use mathlib.Core.Path.{_≡_, refl, sym, ap, ap₂, _∙_, subst}
-use mathlib.Core.Bool.{true, false, not, _||_, cond}
+use mathlib.Core.Bool.{cond}
 use mathlib.Core.List.{List, [], _∷_, _++_, append-assoc}
 use Prim.Native.Nat.{ℕ, suc, _+_, _≤_, _<_}
 use native.Mathlib.Nat.{zero-add}
 use native.Mathlib.Omega.{arith}
-use lib.Dec.{eqb, ltb}
+use lib.Dec.{eqb}
 use lib.ListN.{length, take, drop, set, length-append}
 use lib.Seq.{length-take-le, set-split}
 use borrow.Author.Tests.{eq-eqb, ne-eqb, lt-ltb, le-ltb}
@@ -14,7 +14,7 @@ use Rattle.lines.specs.Lines.{parsed}
 use Rattle.policy.specs.Contract.{countersOf}
 use Rattle.answers.specs.Put.{Put}
 use Rattle.answers.specs.Replay.{countersText}
-use Rattle.replay.specs.Bytewise.{State, Printed, quiet, keep, firstLine, laterLine, endLine, byteIn, lastLine, atEnd}
+use Rattle.replay.specs.Bytewise.{State, quiet, keep, firstLine, laterLine, endLine, lastLine, atEnd}
 use Rattle.replay.specs.Memory.{Buffers, Held, Memory, After, over, stateIn, stored}
 use Rattle.replay.specs.declared.Session.{Session}
 use Rattle.answers.specs.PutLaws.{splice-next}

@@ -3,7 +3,6 @@ use Rattle.hash.specs.Sha256.{sha256}
 use mathlib.Core.Path.{refl, sym, ap, _∙_}
 use mathlib.Core.Bool.{true, cond}
 use mathlib.Core.Option.{none}
-use Prim.Native.Nat.{_-_}
 use native.Mathlib.Omega.{arith}
 use Rattle.paper.specs.Cache.{cached, sameBlock, newBlock, step}
 use Rattle.paper.specs.Engine.{engine}

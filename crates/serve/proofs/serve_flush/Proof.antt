@@ -1,5 +1,4 @@
 -- The loop over the rows gives all. Assumes nothing.
-use Prim.Native.Nat.{_-_}
 use native.Mathlib.Omega.{arith}
 use Rattle.serve.specs.ServeLaws.{flush-is}
 use borrow.Author.Needs.{needs}

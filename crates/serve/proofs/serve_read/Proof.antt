@@ -1,5 +1,4 @@
 -- By whether the row's fingerprint has a place, which is the paper's hit. Assumes nothing.
-use Prim.Native.Nat.{_-_}
 use Rattle.serve.specs.ServeLaws.{found-hit, found-miss}
 use borrow.Author.Needs.{needs}
 use Rattle.serve.proofs.serve_read.Statement.{statement}

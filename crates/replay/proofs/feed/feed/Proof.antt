@@ -1,6 +1,5 @@
 -- By whether the memory fits, and the byte. Assumes nothing.
 use mathlib.Core.Path.{refl, sym, _∙_}
-use native.Mathlib.Omega.{arith}
 use borrow.Author.Tests.{eq-eqb, ne-eqb, not-true, not-false}
 use Rattle.replay.specs.Bytewise.{byteIn}
 use Rattle.replay.specs.Memory.{memory, fed}

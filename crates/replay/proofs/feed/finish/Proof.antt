@@ -1,6 +1,5 @@
 -- The last line, and the counters after it. Assumes nothing.
 use mathlib.Core.Path.{refl, sym, _∙_}
-use native.Mathlib.Omega.{arith}
 use borrow.Author.Tests.{not-true, not-false}
 use Rattle.replay.specs.Memory.{memory, ended, afterOf}
 use Rattle.replay.specs.MemoryLaws.{fitting}

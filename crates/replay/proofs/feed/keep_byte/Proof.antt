@@ -1,5 +1,4 @@
 -- By whether there is room. Assumes nothing.
-use native.Mathlib.Omega.{arith}
 use Rattle.replay.specs.Memory.{memory}
 use Rattle.replay.proofs.Feeding.{kept-more, kept-full}
 use borrow.Author.Needs.{needs}

@@ -1,5 +1,4 @@
 -- By whether the fingerprint has a place. Assumes nothing.
-use Prim.Native.Nat.{_-_}
 use native.Mathlib.Omega.{arith}
 use Rattle.step.specs.CopyLaws.{slot-none, slot-some}
 use borrow.Author.Needs.{needs}

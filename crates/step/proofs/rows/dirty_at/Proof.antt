@@ -1,6 +1,5 @@
 -- By the row's flag. Assumes nothing.
 use mathlib.Core.Path.{sym, ap, _∙_}
-use Prim.Native.Nat.{_-_}
 use Rattle.paper.specs.Lent.{bit}
 use borrow.Author.Needs.{needs}
 use Rattle.step.proofs.rows.dirty_at.Statement.{statement}

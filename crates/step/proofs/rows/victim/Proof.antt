@@ -1,6 +1,5 @@
 -- By whether the first row is free, and whether there is a row that no address has. Assumes nothing.
 use mathlib.Core.Path.{sym, _∙_}
-use Prim.Native.Nat.{_-_}
 use native.Mathlib.Omega.{arith}
 use borrow.Author.Tests.{not-true, not-false}
 use Rattle.step.proofs.Asking.{victim-first, victim-yes, victim-no}

@@ -1,6 +1,5 @@
 -- By whether the address is held, and whether there is room. Assumes nothing.
 use mathlib.Core.Bool.{true, _&&_}
-use Prim.Native.Nat.{_-_}
 use native.Mathlib.Omega.{arith}
 use lib.ListN.{getD}
 use Rattle.step.specs.Rep.{noRow}

@@ -1,5 +1,4 @@
 -- By whether the fingerprint has a place. Assumes nothing.
-use Prim.Native.Nat.{_-_}
 use native.Mathlib.Omega.{arith}
 use Rattle.step.proofs.Storing.{step4-hit, step4-miss}
 use borrow.Author.Needs.{needs}

@@ -1,5 +1,4 @@
 -- The row taken is the paper's; then its block is lost and the new one stored. Assumes nothing.
-use Prim.Native.Nat.{_-_}
 use Rattle.step.specs.CopyLaws.{parts-length, block-ends}
 use Rattle.step.proofs.Indexed.{unique-is}
 use Rattle.step.proofs.Storing.{at-picked, at-slot, at-below, store-is}
