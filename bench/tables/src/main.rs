@@ -146,18 +146,22 @@ fn time(operation: Operation, state: &mut State, turns: usize) -> f64 {
     start.elapsed().as_nanos() as f64 / turns as f64
 }
 
-/// The best time of each code at an operation on tables of its own, the codes taking turns.
-fn best(codes: &[Operation; PEERS], tables: &State) -> [f64; PEERS] {
-    let mut states = codes.map(|_| tables.clone());
-    let mut turns = [1; PEERS];
-    for code in 0..PEERS {
-        let once = time(codes[code], &mut states[code], 3);
-        turns[code] = (50_000.0 / once).max(1.0) as usize;
-    }
-    let mut best = [f64::INFINITY; PEERS];
-    for _ in 0..RUNS {
-        for code in 0..PEERS {
-            best[code] = best[code].min(time(codes[code], &mut states[code], turns[code]));
+/// The best time of each code at an operation, for each size on tables of its own; codes and sizes take turns, so that a change of the
+/// machine's speed meets all of them.
+fn best(codes: &[Operation; PEERS], sizes: &[State; 2]) -> [[f64; PEERS]; 2] {
+    let mut states: Vec<[State; PEERS]> = sizes.iter().map(|tables| codes.map(|_| tables.clone())).collect();
+    let mut turns = [[1; PEERS]; 2];
+    let mut best = [[f64::INFINITY; PEERS]; 2];
+    for run in 0..=RUNS {
+        for size in 0..2 {
+            for code in 0..PEERS {
+                let state = &mut states[size][code];
+                if run == 0 {
+                    turns[size][code] = (50_000.0 / time(codes[code], state, 3)).max(1.0) as usize;
+                } else {
+                    best[size][code] = best[size][code].min(time(codes[code], state, turns[size][code]));
+                }
+            }
         }
     }
     best
@@ -208,7 +212,7 @@ fn main() {
     let lines = OPERATIONS.iter().map(|(name, codes)| (name.to_string(), codes, &sizes)).chain([("checks for 6, 7 and 8, all in one bucket".to_string(), &OPERATIONS[2].1, &one_bucket)]);
     for (name, codes, tables) in lines {
         let ordinary = std::ptr::eq(tables, &sizes);
-        let [full, half] = [best(codes, &tables[0]), best(codes, &tables[1])];
+        let [full, half] = best(codes, tables);
         let growth = full[0] / half[0];
         if ordinary {
             largest = largest.max(growth);

@@ -3,11 +3,12 @@ use mathlib.Core.Path.{_≡_, refl, sym, ap, _∙_}
 use mathlib.Core.Bool.{true, false}
 use Prim.Native.Nat.{ℕ, zero, suc, _+_, _-_, _*_, _≤_, _<_}
 use mathlib.Core.List.{List}
+use native.Mathlib.Nat.{add-zero}
 use native.Mathlib.Omega.{arith}
-use lib.Dec.{ltb}
+use lib.Dec.{eqb, ltb}
 use lib.ListN.{length, getD, take, drop}
 use lib.Seq.{ext-getD}
-use borrow.Author.Tests.{ltb-true, ltb-false}
+use borrow.Author.Tests.{eqb-false, ltb-true, ltb-false}
 use Rattle.tables.specs.Rows.{le8}
 use Rattle.tables.specs.Find.{same}
 use Rattle.tables.specs.FindLaws.{same-refl}
@@ -80,6 +81,9 @@ module _ (t : List ℕ) (at : ℕ) (g : List ℕ) where
 
   pub words-differ : (k : ℕ) → k + 8 ≤ 32 → (le8 t (at + k) ≡ le8 g k → ⊥) → false ≡ same (take 32 (drop at t)) g
   words-differ k h n = sym (not-true-false (same (take 32 (drop at t)) g) (λ e. n (words-equal k h (same-true (take 32 (drop at t)) g e))))
+
+  pub first-differs : eqb (le8 t at) (le8 g 0) ≡ false → false ≡ same (take 32 (drop at t)) g
+  first-differs n = words-differ 0 (omega arith) (λ e. eqb-false (le8 t at) (le8 g 0) n (sym (ap (le8 t) (add-zero at)) ∙ e))
 
   pub agree-same : at + 32 ≤ length t → length g ≡ 32 → Agree t at g 32 → true ≡ same (take 32 (drop at t)) g
   agree-same h l a =

@@ -67,6 +67,14 @@ pub(crate) fn same_fingerprint(t: &[u8], at: usize, g: &[u8]) -> bool
     true
 }
 
+// Whether the first word of the 32 bytes of `t` from index `at` on is that of `g`. Different fingerprints nearly always differ here already.
+pub(crate) fn same_first_word(t: &[u8], at: usize, g: &[u8]) -> bool
+    requires { ⌜ (at + 32 ≤ length (now t)) × (length (now g) ≡ 32) ⌝ }
+    ensures { λ r. ⌜ r ≡ eqb (le8 (now (t .entry)) at) (le8 (now (g .entry)) 0) ⌝ }
+{
+    word8(t, at) == word8(g, 0)
+}
+
 // Whether row `k` of an address table has the address `a`.
 pub(crate) fn address_is(t: &[u8], k: usize, a: SourceAddress) -> bool
     requires { ⌜ k * 40 + 40 ≤ length (now t) ⌝ }
@@ -80,7 +88,11 @@ pub fn fingerprint_is(t: &[u8], k: usize, g: &[u8]) -> bool
     requires { ⌜ (k * 40 + 40 ≤ length (now t)) × (length (now g) ≡ 32) ⌝ }
     ensures { λ r. ⌜ r ≡ hasFingerprint (now (g .entry)) (rowAt (now (t .entry)) k) ⌝ }
 {
-    same_fingerprint(t, k * 40 + 4, g)
+    let at = k * 40 + 4;
+    if same_first_word(t, at, g) {
+        return same_fingerprint(t, at, g);
+    }
+    false
 }
 
 // Whether row `k` of a block table is used and has the fingerprint `g`.
@@ -88,7 +100,10 @@ pub(crate) fn caches_fingerprint(t: &[u8], k: usize, g: &[u8]) -> bool
     requires { ⌜ (k * 40 + 40 ≤ length (now t)) × (length (now g) ≡ 32) ⌝ }
     ensures { λ r. ⌜ r ≡ caches (now (g .entry)) (rowAt (now (t .entry)) k) ⌝ }
 {
-    if t[k * 40 + 36] == 1 {
+    if t[k * 40 + 36] != 1 {
+        return false;
+    }
+    if same_first_word(t, k * 40, g) {
         return same_fingerprint(t, k * 40, g);
     }
     false

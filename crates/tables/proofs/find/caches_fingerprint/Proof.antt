@@ -1,7 +1,9 @@
--- The row is used, or it is not. Assumes nothing.
+-- The row is not used, or its fingerprint is compared. Assumes nothing.
 use lib.Seq.{take-take}
+use mathlib.Core.Path.{sym, _∙_}
 use borrow.Author.Tests.{eq-eqb, ne-eqb}
 use Rattle.tables.specs.RowLaws.{getD-rowAt}
+use Rattle.tables.proofs.Words.{first-differs}
 use Prim.Native.Nat.{_*_}
 use native.Mathlib.Omega.{arith}
 use lib.ListN.{drop}
@@ -11,15 +13,23 @@ use Rattle.tables.proofs.find.caches_fingerprint.Tie as tie
 
 returns : tie.Need-returns
 returns c =
-    let a = c .before .before .before .before .before .args in
-    rw (getD-rowAt (a .t .now) (a .k) 36 (omega arith), eq-eqb _ _ (c .before .if1 .taken), take-take 32 40 (drop (a .k * 40) (a .t .now)) (omega arith)) (c .same-fingerprint .ensures)
+    let a = c .before .before .before .before .args in
+    rw (getD-rowAt (a .t .now) (a .k) 36 (omega arith), ne-eqb _ _ (c .if1 .taken))
 
 returns-2 : tie.Need-returns-2
 returns-2 c =
-    let a = c .before .before .before .before .args in
-    rw (getD-rowAt (a .t .now) (a .k) 36 (omega arith), ne-eqb _ _ (c .if1 .left))
+    let u = c .before .before .before in
+    let a = u .before .before .before .before .args in
+    rw (getD-rowAt (a .t .now) (a .k) 36 (omega arith), eq-eqb _ _ (u .if1 .left), take-take 32 40 (drop (a .k * 40) (a .t .now)) (omega arith)) (c .same-fingerprint .ensures)
+
+returns-3 : tie.Need-returns-3
+returns-3 c =
+    let u = c .before .before in
+    let a = u .before .before .before .before .args in
+    rw (getD-rowAt (a .t .now) (a .k) 36 (omega arith), eq-eqb _ _ (u .if1 .left), take-take 32 40 (drop (a .k * 40) (a .t .now)) (omega arith))
+    (first-differs (a .t .now) (a .k * 40) (a .g .now) (sym (c .before .same-first-word .ensures) ∙ c .if2 .left))
 
 pub caches-fingerprint-spec : {M : Type 1} → statement M
 caches-fingerprint-spec =
     tie.close
-    (tie.spec (λ c. search needs) (λ c. search needs) (λ c. search needs) (λ c. search needs) (λ c κs. search needs) returns returns-2)
+    (tie.spec (λ c. search needs) (λ c. search needs) (λ c. search needs) returns (λ c. search needs) (λ c κs. search needs) (λ c. search needs) (λ c κs. search needs) returns-2 returns-3)
