@@ -9,7 +9,7 @@ use Rattle.paper.specs.Cache.{Counters}
 use Rattle.paper.specs.Lent.{Lent, Ask, call}
 use Rattle.paper.specs.RowBytes.{Bytes}
 use Rattle.paper.specs.CallLaws.{look-keeps}
-use Rattle.step.specs.declared.BoxRecord.{BoxRecord}
+use Rattle.parts.specs.declared.BoxRecord.{BoxRecord}
 use Rattle.policy.specs.Contract.{numbersOf, lent, answerOf, Told, told, called}
 use Rattle.policy.specs.declared.Answer.{Answer}
 use Rattle.policy.specs.declared.calls.Outcome.{Outcome}

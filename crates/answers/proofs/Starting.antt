@@ -9,7 +9,7 @@ use Rattle.counters.specs.declared.Counters as Code
 use Rattle.paper.specs.Cache.{Counters}
 use Rattle.paper.specs.Lent.{Numbers, Lent, opening, unfit, wrongBuffers, refusal, fresh}
 use Rattle.paper.specs.RefusalLaws.{exactly-opening, opened-is}
-use Rattle.step.specs.declared.BoxRecord.{BoxRecord}
+use Rattle.parts.specs.declared.BoxRecord.{BoxRecord}
 use Rattle.policy.specs.Contract.{numbersOf, countersOf, lent, Opened, begun, opens}
 use Rattle.policy.specs.declared.open.Begun.{Begun}
 use Rattle.answers.specs.Replay.{startDisk, started}

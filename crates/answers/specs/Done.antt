@@ -1,7 +1,7 @@
 -- What the code gives back, as the definition says it. Assumes nothing.
 use mathlib.Core.List.{List}
 use Prim.Native.Nat.{ℕ}
-use Rattle.step.specs.declared.BoxRecord.{BoxRecord}
+use Rattle.parts.specs.declared.BoxRecord.{BoxRecord}
 use Rattle.policy.specs.Contract.{countersOf, lent, answerOf}
 use Rattle.policy.specs.declared.calls.Outcome.{Outcome}
 use Rattle.paper.specs.Lent.{Numbers}

@@ -1,6 +1,6 @@
 // The box of line 1.
 use lines::Command;
-use step::BoxRecord;
+use parts::BoxRecord;
 ghost use mathlib.Core.Path.{_≡_};
 ghost use Prim.Native.Nat.{_≤_};
 ghost use Rattle.policy.specs.Contract.{numbersOf};

@@ -1,9 +1,9 @@
 // The call that a line asks for, in slices of the box's lengths.
 use counters::Counters;
 use lines::Command;
+use parts::BoxRecord;
 use policy::Answer;
 use policy::calls::Outcome;
-use step::BoxRecord;
 use tables::SourceAddress;
 ghost use mathlib.Core.Path.{_≡_};
 ghost use mathlib.Core.Option.{Option};

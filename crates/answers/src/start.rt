@@ -1,7 +1,7 @@
 // The box as a list begins with it.
 use counters::Counters;
+use parts::BoxRecord;
 use policy::open::Begun;
-use step::BoxRecord;
 ghost use mathlib.Core.Path.{_≡_};
 ghost use mathlib.Core.Bool.{false};
 ghost use Prim.Native.Nat.{_*_, _≤_};

@@ -7,7 +7,7 @@ use Rattle.tables.specs.Records.{freshAddresses, freshBlocks}
 use Rattle.paper.specs.Cache.{noCounts}
 use Rattle.paper.specs.Lent.{opening, refusal, fresh, unopened, opened}
 use Rattle.paper.specs.RefusalLaws.{refused-opening, opened-is}
-use Rattle.step.specs.declared.BoxRecord.{BoxRecord}
+use Rattle.parts.specs.declared.BoxRecord.{BoxRecord}
 use Rattle.policy.specs.declared.open.Opening.the-variants.{Refused, Open}
 use Rattle.policy.specs.Contract.{numbersOf, countersOf, lent, begun, opens}
 

@@ -14,7 +14,7 @@ use Rattle.paper.specs.Cache.{Counters}
 use Rattle.paper.specs.Lent.{Numbers, Lent, Ask, opening, calling, unfit, wrongBuffers, over, refusal}
 use Rattle.paper.specs.LentLaws.{Lengths, right-lengths}
 use Rattle.paper.specs.RefusalLaws.{exactly-opening}
-use Rattle.step.specs.declared.BoxRecord.{BoxRecord}
+use Rattle.parts.specs.declared.BoxRecord.{BoxRecord}
 use Rattle.policy.specs.Contract.{numbersOf, lent}
 use Rattle.policy.specs.Sizes.{Most, most}
 use Rattle.policy.specs.Checks.{wrongLengths, tablesRefusal, stateRefusal}

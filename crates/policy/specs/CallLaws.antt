@@ -19,10 +19,10 @@ use Rattle.paper.specs.LentLaws.{passes-sound, fit-whole}
 use Rattle.paper.specs.RefusalLaws.{exactly, served-is, refused-keeps}
 use Rattle.paper.specs.CallLaws.{Served, served-finds, outcome}
 use Rattle.paper.specs.Layout.{addressesOf, blocksOf, passes-addrs, passes-blocks, passes-flash, passes-disk}
-use Rattle.step.specs.declared.BoxRecord.{BoxRecord}
+use Rattle.parts.specs.declared.BoxRecord.{BoxRecord}
 use Rattle.policy.specs.declared.Word as CodeWord
 use Rattle.policy.specs.declared.Answer.the-variants.{Refused, Answered}
-use Rattle.step.specs.Rep.{Rep}
+use Rattle.parts.specs.Rep.{Rep}
 use Rattle.step.specs.Steps.{Out4, out4, Sure}
 use Rattle.serve.specs.Calls.{Leaves, leaves, isYes, returned}
 use Rattle.policy.specs.Contract.{numbersOf, countersOf, lent, wordOf, Told, told, called}

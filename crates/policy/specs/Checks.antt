@@ -6,7 +6,7 @@ use lib.Dec.{eqb}
 use Rattle.tables.specs.Unsound.{addressesUnsound, blocksUnsound, dirtyUncached}
 use Rattle.paper.specs.Cache.{Counters}
 use Rattle.paper.specs.Lent.{over}
-use Rattle.step.specs.declared.BoxRecord.{BoxRecord}
+use Rattle.parts.specs.declared.BoxRecord.{BoxRecord}
 
 -- the block sizes
 abbrev pub sizes : List ℕ

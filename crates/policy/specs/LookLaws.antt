@@ -16,13 +16,13 @@ use Rattle.paper.specs.Index.{indexWhere}
 use Rattle.paper.specs.RowBytes.{Bytes}
 use Rattle.paper.specs.RefusalLaws.{served-is, keeps}
 use Rattle.paper.specs.CallLaws.{served-finds}
-use Rattle.step.specs.declared.BoxRecord.{BoxRecord}
+use Rattle.parts.specs.declared.BoxRecord.{BoxRecord}
 use Rattle.policy.specs.declared.look.Place.{Place}
 use Rattle.policy.specs.declared.look.Place.the-variants.{Refused, Flash, Disk}
-use Rattle.step.specs.Rep.{Rep, noRow}
+use Rattle.parts.specs.Rep.{Rep, noRow}
 use Rattle.policy.specs.Contract.{numbersOf, lent}
 use Rattle.policy.specs.Look.{placeIn, whereIs, answerAt, partAt}
-use Rattle.step.specs.CopyLaws.{part-block, parts-length, block-ends, slot-some, slotOf-below}
+use Rattle.parts.specs.CopyLaws.{part-block, parts-length, block-ends, slot-some, slotOf-below}
 use Rattle.serve.specs.ServeLaws.{hit-row, found-hit, found-miss}
 use Rattle.policy.specs.CallLaws.{rep, address-fits}
 

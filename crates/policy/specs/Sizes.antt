@@ -10,7 +10,7 @@ use Rattle.tables.specs.Unsound.{elem}
 use Rattle.paper.specs.KeyedLaws.{All, by-test, clash, or-false-left}
 use Rattle.paper.specs.Lent.{between, unfit}
 use Rattle.paper.specs.CallLaws.{fits}
-use Rattle.step.specs.declared.BoxRecord.{BoxRecord}
+use Rattle.parts.specs.declared.BoxRecord.{BoxRecord}
 use Rattle.policy.specs.Contract.{numbersOf}
 use Rattle.policy.specs.Checks.{sizes}
 

@@ -2,8 +2,8 @@
 use crate::Answer;
 use crate::Word;
 use crate::refusals;
-use step::BoxRecord;
-use step::rows;
+use parts::BoxRecord;
+use parts::rows;
 use tables::FlashSlot;
 use tables::SourceAddress;
 ghost use mathlib.Core.Path.{_≡_};

@@ -1,7 +1,7 @@
 // Opening: lent memory made a fresh box.
 use crate::refusals;
 use counters::Counters;
-use step::BoxRecord;
+use parts::BoxRecord;
 ghost use mathlib.Core.Path.{_≡_};
 ghost use Rattle.policy.specs.Contract.{begun, opens, countersOf};
 

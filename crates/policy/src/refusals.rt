@@ -1,5 +1,5 @@
 // The refusals, in document 01's order.
-use step::BoxRecord;
+use parts::BoxRecord;
 use tables::SourceAddress;
 ghost use mathlib.Core.Path.{_≡_};
 ghost use Prim.Native.Nat.{_*_, _≤_};
@@ -8,7 +8,7 @@ ghost use lib.ListN.{length};
 ghost use Rattle.tables.specs.Unsound.{elem};
 ghost use Rattle.paper.specs.Cache.{Counters};
 ghost use Rattle.paper.specs.Lent.{Ask, opening, calling, between, unfit, over, refusal};
-ghost use Rattle.step.specs.Steps.{Placed};
+ghost use Rattle.parts.specs.Asked.{Placed};
 ghost use Rattle.policy.specs.Contract.{numbersOf, countersOf, lent};
 ghost use Rattle.policy.specs.Checks.{sizes, wrongLengths, tablesRefusal, stateRefusal};
 

@@ -13,7 +13,7 @@ use Rattle.block.specs.Blocks.{splice}
 use Rattle.paper.specs.KeyedLaws.{by-test}
 use Rattle.paper.specs.Cache.{Counters}
 use Rattle.paper.specs.Lent.{Lent}
-use Rattle.step.specs.declared.BoxRecord.{BoxRecord}
+use Rattle.parts.specs.declared.BoxRecord.{BoxRecord}
 use Rattle.policy.specs.Contract.{lent}
 use Rattle.replay.specs.Memory.{buffers, held, within, over, Sized, Holds}
 

@@ -1,5 +1,5 @@
 // The tests before a line is answered.
-use step::BoxRecord;
+use parts::BoxRecord;
 ghost use mathlib.Core.Path.{_≡_};
 ghost use Rattle.replay.specs.Memory.{lengthsFit, numbersFit};
 

@@ -5,7 +5,7 @@ use crate::checks;
 use crate::line;
 use answers::print;
 use counters::Counters;
-use step::BoxRecord;
+use parts::BoxRecord;
 ghost use mathlib.Core.Path.{_≡_};
 ghost use mathlib.Core.Bool.{cond};
 ghost use mathlib.Core.List.{List, [], _++_};

@@ -4,7 +4,7 @@ pub mod feed;
 mod line;
 
 use counters::Counters;
-use step::BoxRecord;
+use parts::BoxRecord;
 
 // What is carried from byte to byte beside the lent buffers: 0 before the box line, 1 while the box is open, and above that at the end;
 // how many bytes of the line are kept; the next call's number; the box record and the counters.

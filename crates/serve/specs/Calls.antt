@@ -5,7 +5,7 @@ use mathlib.Core.List.{List}
 use mathlib.Core.Option.{Option, none, some}
 use Prim.Native.Nat.{ℕ}
 use lib.ListN.{length}
-use Rattle.step.specs.declared.BoxRecord.{BoxRecord}
+use Rattle.parts.specs.declared.BoxRecord.{BoxRecord}
 use Rattle.paper.specs.Cache.{Box, Outcome, Word, hit, miss, sameBlock, newBlock, fromCache, fromDisk, done}
 use Rattle.paper.specs.Engine.{Fixed}
 use Rattle.paper.specs.Engine.{engine}
@@ -13,7 +13,7 @@ use Prim.Native.Nat.{_+_, _<_}
 use lib.Dec.{eqb}
 use lib.ListN.{getD}
 use Rattle.paper.specs.Index.{indexWhere}
-use Rattle.step.specs.Rep.{noRow}
+use Rattle.parts.specs.Rep.{noRow}
 use Rattle.step.specs.Steps.{Out4, out4}
 
 -- the first of an answer's two words: hit, same, cache

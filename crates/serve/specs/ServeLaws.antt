@@ -10,7 +10,7 @@ use lib.ListN.{length, getD, take, drop, drop-of-length-le, length-set}
 use lib.Seq.{take-all}
 use borrow.Author.Tests.{ltb-true, ltb-false}
 use Rattle.block.specs.Blocks.{part, splice}
-use Rattle.step.specs.declared.BoxRecord.{BoxRecord}
+use Rattle.parts.specs.declared.BoxRecord.{BoxRecord}
 use Rattle.paper.specs.KeyedLaws.{by-test}
 use Rattle.paper.specs.Cache.{AddressRow, BlockRow, Box, Call, Word, sameBlock, newBlock, Stepped, answer, cached, serve, writeBack, writeThrough, writeInvalidate, flushed, onDisk, withoutAddress, dropped, cleaned, copied, copies, step, hit, miss, readAs, rowWithBlock, rowOf, ifCached, blockOf}
 use Rattle.paper.specs.Sound.{length-cleaned}
@@ -18,11 +18,11 @@ use Rattle.paper.specs.Engine.{Fixed, engine}
 use Rattle.paper.specs.Lent.{join}
 use Rattle.paper.specs.Index.{indexWhere, has-yes, has-no, find-yes, find-no}
 use Rattle.block.specs.Laws.{splice-whole}
-use Rattle.step.specs.Rep.{noRow, Rep, Copied, copiedRows, partBox}
+use Rattle.parts.specs.Rep.{noRow, Rep, Copied, copiedRows, partBox}
 use Rattle.paper.specs.Layout.{Blocks, Parts, addressesOf}
 use Rattle.step.specs.Steps.{out4, After, after, asks, blockBytes}
 use Rattle.serve.specs.Calls.{isYes, returned, Leaves, leaves, HitAt}
-use Rattle.step.specs.CopyLaws.{put-block-is, part-block}
+use Rattle.parts.specs.CopyLaws.{put-block-is, part-block}
 
 -- "same" where the fingerprint has a place
 pub yes-is : (B d : ℕ) (t : List ℕ) (free : List ℕ) (used : List (BlockRow (Fixed 32))) → Blocks d t free used → (f : Fixed 32) (j : ℕ) → j ≡ length free + indexWhere (λ u. engine 0 .same f (u .fingerprint)) used

@@ -1,7 +1,7 @@
 // The calls that are not refused, on the bytes of a paper box.
-use step::BoxRecord;
-use step::copy;
-use step::rows;
+use parts::BoxRecord;
+use parts::copy;
+use parts::rows;
 use step::steps;
 use tables::SourceAddress;
 ghost use mathlib.Core.Path.{_≡_};
@@ -11,8 +11,9 @@ ghost use lib.ListN.{length};
 ghost use mathlib.Core.Option.{Option};
 ghost use Rattle.paper.specs.Cache.{Box, Call, serve, rowWithBlock};
 ghost use Rattle.paper.specs.Engine.{Fixed, engine};
-ghost use Rattle.step.specs.Rep.{Rep};
-ghost use Rattle.step.specs.Steps.{Placed, Sure};
+ghost use Rattle.parts.specs.Rep.{Rep};
+ghost use Rattle.parts.specs.Asked.{Placed};
+ghost use Rattle.step.specs.Steps.{Sure};
 ghost use Rattle.serve.specs.Calls.{leaves, HitAt};
 
 // What a served call tells: whether its word is the first of its two, the rows held, and its flash and primary writes.

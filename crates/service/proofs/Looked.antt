@@ -14,7 +14,7 @@ use Rattle.paper.specs.RowBytes.{Bytes}
 use Rattle.paper.specs.Cache.{AddressRow, BlockRow, Counters, rowWithBlock}
 use Rattle.paper.specs.Engine.{Fixed, engine}
 use Rattle.paper.specs.Lent.{Numbers, Lent, Ask, After, Answer, calling, refusal, boxIn, call}
-use Rattle.step.specs.declared.BoxRecord.{BoxRecord}
+use Rattle.parts.specs.declared.BoxRecord.{BoxRecord}
 use Rattle.policy.specs.declared.look.Place.{Place}
 use Rattle.policy.specs.declared.look.Place.the-variants.{Refused, Flash, Disk}
 use Rattle.policy.specs.Contract.{numbersOf, countersOf, lent}

@@ -12,7 +12,7 @@ use Rattle.counters.specs.declared.Counters as Code
 use Rattle.paper.specs.KeyedLaws.{and-left, and-right}
 use Rattle.paper.specs.Cache.{Counters}
 use Rattle.paper.specs.Lent.{Ask, lentBlock}
-use Rattle.step.specs.declared.BoxRecord.{BoxRecord}
+use Rattle.parts.specs.declared.BoxRecord.{BoxRecord}
 use Rattle.policy.specs.declared.Word.{Word}
 use Rattle.policy.specs.declared.Answer.{Answer}
 use Rattle.policy.specs.declared.Answer.the-variants.{Refused, Answered}

@@ -6,7 +6,7 @@ use lib.ListN.{length}
 use borrow.Author.Tests.{eq-eqb, ne-eqb}
 use Rattle.counters.specs.declared.Counters as Code
 use Rattle.paper.specs.Cache.{Counters}
-use Rattle.step.specs.declared.BoxRecord.{BoxRecord}
+use Rattle.parts.specs.declared.BoxRecord.{BoxRecord}
 use Rattle.policy.specs.declared.open.Begun.{Begun}
 use Rattle.policy.specs.Contract.{countersOf, numberOf, Opened, begun, opens}
 use Rattle.service.specs.Fields.{put8, recordIn, countersIn, putState}

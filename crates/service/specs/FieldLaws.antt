@@ -10,7 +10,7 @@ use Rattle.tables.specs.Rows.{le8}
 use Rattle.block.specs.Blocks.{splice}
 use Rattle.block.specs.Laws.{length-splice}
 use Rattle.paper.specs.Cache.{Counters}
-use Rattle.step.specs.declared.BoxRecord.{BoxRecord}
+use Rattle.parts.specs.declared.BoxRecord.{BoxRecord}
 use Rattle.policy.specs.Contract.{countersOf}
 use Rattle.service.specs.Fields.{lowBytes, get8, put8, recordIn, countersIn, putState, putAnswer}
 

@@ -8,7 +8,7 @@ use Rattle.tables.specs.Rows.{le8}
 use Rattle.block.specs.Blocks.{splice}
 use Rattle.counters.specs.declared.Counters as Code
 use Rattle.paper.specs.Cache.{Counters, Word, hit, miss, sameBlock, newBlock, fromCache, fromDisk, done}
-use Rattle.step.specs.declared.BoxRecord.{BoxRecord}
+use Rattle.parts.specs.declared.BoxRecord.{BoxRecord}
 
 -- the n bytes of a number, lowest first
 abbrev pub lowBytes : ℕ → ℕ → List ℕ

@@ -11,7 +11,7 @@ use Rattle.block.specs.Blocks.{part}
 use Rattle.tables.specs.declared.FlashSlot.{FlashSlot}
 use Rattle.paper.specs.Cache.{Counters}
 use Rattle.paper.specs.Lent.{Numbers, Lent, Ask, Answer, refused, answered, After, lentBlock, call}
-use Rattle.step.specs.declared.BoxRecord.{BoxRecord}
+use Rattle.parts.specs.declared.BoxRecord.{BoxRecord}
 use Rattle.policy.specs.declared.look.Place.{Place}
 use Rattle.policy.specs.declared.look.Place.the-variants.{Refused, Flash, Disk}
 use Rattle.policy.specs.Contract.{numbersOf, countersOf, lent, Opened, opens}

@@ -1,12 +1,12 @@
 // Numbers in bytes: the fields of the state and of an answer.
 use counters::Counters;
+use parts::BoxRecord;
 use policy::Answer;
 use policy::Word;
 use policy::calls::Outcome;
 use policy::look::Place;
 use policy::open::Begun;
 use policy::open::Opening;
-use step::BoxRecord;
 use tables::SourceAddress;
 ghost use mathlib.Core.Path.{_≡_};
 ghost use Prim.Native.Nat.{_+_, _*_, _≤_, _<_, _^_};

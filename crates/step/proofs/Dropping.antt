@@ -15,10 +15,11 @@ use Rattle.paper.specs.Cache.{AddressRow, BlockRow, withoutAddress, rowOf, know
 use Rattle.paper.specs.Engine.{Fixed, engine}
 use Rattle.paper.specs.Index.{indexWhere, index-holds, has-yes, has-no, find-yes, find-no, without-yes, slotOf-yes}
 use Rattle.paper.specs.Layout.{Addrs, Blocks, addressesOf, blocksOf}
-use Rattle.step.specs.Rep.{noRow}
-use Rattle.step.specs.Steps.{noBlock, placeOf, blockBytes}
-use Rattle.step.specs.MoveLaws.{used-part, fronted}
-use Rattle.step.specs.CopyLaws.{right-no}
+use Rattle.parts.specs.Rep.{noRow}
+use Rattle.parts.specs.Asked.{noBlock}
+use Rattle.step.specs.Steps.{placeOf, blockBytes}
+use Rattle.parts.specs.MoveLaws.{used-part, fronted}
+use Rattle.parts.specs.CopyLaws.{right-no}
 
 -- the block row of the fingerprint q, by its place
 module _ (B d : ℕ) (t : List ℕ) (free : List ℕ) (used : List (BlockRow (Fixed 32))) (h : Blocks d t free used) (place : ℕ) (q : Fixed 32) (e : place ≡ placeOf (some q) free used) where

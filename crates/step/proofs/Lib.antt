@@ -1,6 +1,5 @@
-pub mod Indexed
-pub mod Looped
-pub mod Asking
+pub mod Unique
+pub mod Taking
 pub mod Stepping
 pub mod Storing
 pub mod Placing

@@ -21,10 +21,10 @@ use Rattle.paper.specs.Cache.{AddressRow, Box, held, newest, step1}
 use Rattle.paper.specs.Engine.{Fixed, engine}
 use Rattle.paper.specs.Index.{indexWhere, has-yes, has-no}
 use Rattle.paper.specs.Layout.{Addrs}
-use Rattle.step.specs.declared.BoxRecord.{BoxRecord}
-use Rattle.step.specs.Rep.{Rep}
-use Rattle.step.specs.Steps.{full}
-use Rattle.step.specs.TableLaws.{addrBytes, rows-addrs, fp-of}
+use Rattle.parts.specs.declared.BoxRecord.{BoxRecord}
+use Rattle.parts.specs.Rep.{Rep}
+use Rattle.parts.specs.Asked.{full}
+use Rattle.parts.specs.TableLaws.{addrBytes, rows-addrs, fp-of}
 use Rattle.step.proofs.Dropping.{without-row}
 use Rattle.step.proofs.Stepping.{oldest-is}
 

@@ -9,7 +9,7 @@ use native.Mathlib.Omega.{arith}
 use lib.Dec.{eqb}
 use lib.ListN.{length, getD, set, take, drop}
 use borrow.Author.Tests.{eq-eqb, ne-eqb}
-use Rattle.step.specs.declared.BoxRecord.{BoxRecord}
+use Rattle.parts.specs.declared.BoxRecord.{BoxRecord}
 use Rattle.tables.specs.Rows.{rowAt, rows, flat, removeAt, filled}
 use Rattle.tables.specs.Rows as T
 use Rattle.paper.specs.KeyedLaws.{All, by-test, clash, Distinct}
@@ -18,11 +18,12 @@ use Rattle.paper.specs.Engine.{Fixed, engine}
 use Rattle.paper.specs.Lent.{join}
 use Rattle.paper.specs.Index.{indexWhere, has-yes, has-no}
 use Rattle.paper.specs.Layout.{Addrs, Blocks, addressesOf, blocksOf}
-use Rattle.step.specs.Rep.{Rep, Copied, copiedRow, copiedRows, partBox, noRow, clean}
-use Rattle.step.specs.Steps.{noBlock, placeOf, Out1, out1, blockBytes, Picked, pickedTaken}
-use Rattle.step.specs.MoveLaws.{used-flag, first-flag, used-part, refilled, first-filled}
-use Rattle.step.proofs.Asking.{own-slot}
-use Rattle.step.specs.CopyLaws.{right-no}
+use Rattle.parts.specs.Rep.{Rep, Copied, copiedRow, copiedRows, partBox, noRow, clean}
+use Rattle.parts.specs.Asked.{noBlock}
+use Rattle.step.specs.Steps.{placeOf, Out1, out1, blockBytes, Picked, pickedTaken}
+use Rattle.parts.specs.MoveLaws.{used-flag, first-flag, used-part, refilled, first-filled}
+use Rattle.step.proofs.Taking.{own-slot}
+use Rattle.parts.specs.CopyLaws.{right-no}
 use Rattle.step.proofs.Dropping.{not-there, there, known-as, freed-at, without-row, row-is, one-less}
 
 -- ---- step 1

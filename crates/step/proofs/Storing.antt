@@ -7,7 +7,7 @@ use native.Mathlib.Nat.{zero-add}
 use native.Mathlib.Omega.{arith}
 use lib.ListN.{length, getD, set, take, drop, drop-of-length-le}
 use lib.Seq.{take-all}
-use Rattle.step.specs.declared.BoxRecord.{BoxRecord}
+use Rattle.parts.specs.declared.BoxRecord.{BoxRecord}
 use Rattle.tables.specs.Rows.{rowAt, rows, flat, removeAt, le4}
 use Rattle.paper.specs.KeyedLaws.{Distinct}
 use Rattle.paper.specs.Cache.{AddressRow, BlockRow, Box, Taken, blockRow, withoutBlock, cached, slotOf, copied, copies, cleaned, isLost, taken, stored, step4}
@@ -15,10 +15,11 @@ use Rattle.paper.specs.Engine.{Fixed, engine}
 use Rattle.paper.specs.Lent.{join}
 use Rattle.paper.specs.Index.{indexWhere, index-holds, has-yes, has-no, without-yes, slotOf-yes}
 use Rattle.paper.specs.Layout.{Blocks, addressesOf, blocksOf}
-use Rattle.step.specs.Rep.{Rep, Copied, copiedRows, partBox}
-use Rattle.step.specs.Steps.{noBlock, victimPlace, Picked, pickedTaken, Out4, out4}
-use Rattle.step.specs.MoveLaws.{slot-is, slot-below, first-slot, renewed}
-use Rattle.step.proofs.Asking.{victim-picked, taken-is}
+use Rattle.parts.specs.Rep.{Rep, Copied, copiedRows, partBox}
+use Rattle.parts.specs.Asked.{noBlock, victimPlace}
+use Rattle.step.specs.Steps.{Picked, pickedTaken, Out4, out4}
+use Rattle.parts.specs.MoveLaws.{slot-is, slot-below, first-slot, renewed}
+use Rattle.step.proofs.Taking.{victim-picked, taken-is}
 
 picked-slot : (d : ℕ) (bt : List ℕ) (free : List ℕ) (used : List (BlockRow (Fixed 32))) (t : ℕ) → Blocks d bt free used → Picked free used t → le4 (rowAt bt t) 32 ≡ pickedTaken free used t .slot
 unfolding pickedTaken

@@ -10,7 +10,7 @@ use lib.ListN.{length, take, drop, length-append, length-map}
 use lib.Seq.{take-at}
 use Rattle.tables.specs.Find.{findFrom, caches}
 use Rattle.tables.specs.Index.{code, Places}
-use Rattle.step.specs.declared.BoxRecord.{BoxRecord}
+use Rattle.parts.specs.declared.BoxRecord.{BoxRecord}
 use Rattle.tables.specs.Rows.{rows, flat}
 use Rattle.tables.specs.Records.{addressRow, addressBytes, slotsFrom}
 use Rattle.paper.specs.KeyedLaws.{All, all-map, all-perm, all-append, by-test, Distinct, all-of-map, all-left, all-right}
@@ -21,10 +21,11 @@ use Rattle.paper.specs.Faithful.{slots-below-0}
 use Rattle.paper.specs.Engine.{Fixed, engine}
 use Rattle.paper.specs.Lent.{bit}
 use Rattle.paper.specs.Layout.{Addrs, Blocks, blocksOf}
-use Rattle.step.specs.Rep.{Rep}
-use Rattle.step.specs.Steps.{placeOf, Out1, out1, blockBytes, Out4, out4, After, after, asks, Placed, Sure}
-use Rattle.step.specs.TableLaws.{addrBytes}
-use Rattle.step.specs.MoveLaws.{pushed}
+use Rattle.parts.specs.Rep.{Rep}
+use Rattle.parts.specs.Asked.{Placed}
+use Rattle.step.specs.Steps.{placeOf, Out1, out1, blockBytes, Out4, out4, After, after, asks, Sure}
+use Rattle.parts.specs.TableLaws.{addrBytes}
+use Rattle.parts.specs.MoveLaws.{pushed}
 use Rattle.step.proofs.Placing.{placed-added, of-rows, of-bytes}
 
 -- block rows whose slots are 0 to d - 1

@@ -1,25 +1,19 @@
 -- What the steps leave in lent bytes: the paper's steps, written down.
 use mathlib.Core.Path.{_≡_}
-use mathlib.Core.Bool.{Bool, not, cond}
+use mathlib.Core.Bool.{Bool}
 use mathlib.Core.List.{List, [], _∷_, _++_}
 use mathlib.Core.Option.{Option, none, some}
 use Prim.Native.Nat.{ℕ, suc, _+_, _<_}
-use lib.Dec.{eqb, ltb}
 use lib.ListN.{length, getD, take, drop}
-use Rattle.step.specs.declared.BoxRecord.{BoxRecord}
-use Rattle.tables.specs.Rows.{rows, rowAt}
-use Rattle.tables.specs.Index.{Places}
+use Rattle.parts.specs.declared.BoxRecord.{BoxRecord}
 use Rattle.paper.specs.Sound.{Sound}
-use Rattle.paper.specs.Cache.{Request, AddressRow, BlockRow, BlockRows, Box, RowOut, Taken, Stepped, blockRow, known}
-use Rattle.paper.specs.Engine.{Fixed, fit}
+use Rattle.paper.specs.Cache.{Request, BlockRow, BlockRows, Box, RowOut, Taken, Stepped}
+use Rattle.paper.specs.Engine.{Fixed}
 use Rattle.paper.specs.Lent.{join}
 use Rattle.paper.specs.Index.{indexWhere}
 use Rattle.paper.specs.Layout.{addressesOf, blocksOf}
 use Rattle.paper.specs.Engine.{engine}
-
--- a block row that stands for none
-abbrev pub noBlock : BlockRow (Fixed 32)
-noBlock = blockRow (fit 32 []) 0
+use Rattle.parts.specs.Asked.{noBlock}
 
 -- the place of a fingerprint's used row, the count of rows where there is none
 abbrev pub placeOf : Option (Fixed 32) → List ℕ → List (BlockRow (Fixed 32)) → ℕ
@@ -41,15 +35,7 @@ out1 b s o = record { held = length (o .rows); place = placeOf (o .gone) (s .fre
 abbrev pub blockBytes : BlockRows (Fixed 32) → List ℕ
 blockBytes t = blocksOf (t .free) (t .used)
 
--- the place of the row that is taken: the first free one; else the oldest whose fingerprint no address row has; else the oldest
-abbrev pub orFirst : ℕ → ℕ → ℕ
-orFirst j n = cond (ltb j n) j 0
-
-unfoldable pub victimPlace : ℕ → List (AddressRow (Fixed 32)) → List ℕ → List (BlockRow (Fixed 32)) → ℕ
-victimPlace B rows (k ∷ free) used = 0
-victimPlace B rows [] used = orFirst (indexWhere (λ u. not (known (engine B) (u .fingerprint) rows)) used) (length used)
-
--- there is such a row
+-- there is a row at place t to be taken
 abbrev pub Picked : List ℕ → List (BlockRow (Fixed 32)) → ℕ → Type 0
 Picked (k ∷ free) used t = t ≡ 0
 Picked [] used t = t < length used
@@ -82,14 +68,6 @@ after b t = record { held = length (t .box .rows); left = out4 b t }
 -- the request of a step
 abbrev pub asks : {B : ℕ} → ℕ → Fixed 32 → Fixed B → Bool → Request (Fixed 32) (Fixed B)
 asks a f x w = record { address = a; fingerprint = f; block = x; dirty = w }
-
--- `places` has the place of the block row of each of the first n address rows
-abbrev pub Placed : (n d : ℕ) → (addrs blocks places : List ℕ) → Type 0
-Placed n d addrs blocks places = Places (rows d blocks) (rows n addrs) (take n places)
-
--- no block row is free: the first one is used
-abbrev pub full : List ℕ → Bool
-full blocks = eqb (getD (rowAt blocks 0) 36 0) 1
 
 -- lent bytes of a sound box
 abbrev pub Sure : (b : BoxRecord) → Box (Fixed 32) (Fixed (b .size)) → Type 0

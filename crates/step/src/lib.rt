@@ -1,13 +1,2 @@
 // The step of a request, on the bytes of a paper box.
-pub mod copy;
-pub mod rows;
 pub mod steps;
-
-// The box record: the block size B, the disk's blocks P, the most addresses held m, the cached blocks d, and the addresses held n.
-pub struct BoxRecord {
-    pub size: usize,
-    pub blocks: usize,
-    pub rows: usize,
-    pub slots: usize,
-    pub held: usize,
-}

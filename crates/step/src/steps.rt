@@ -1,7 +1,7 @@
 // The steps of one request.
-use crate::BoxRecord;
-use crate::copy;
-use crate::rows;
+use parts::BoxRecord;
+use parts::copy;
+use parts::rows;
 use tables::FlashSlot;
 use tables::SourceAddress;
 ghost use mathlib.Core.Path.{_≡_};
@@ -21,9 +21,10 @@ ghost use Rattle.paper.specs.Cache.{AddressRow, BlockRow, Box, blockRow, isLost
 ghost use Rattle.paper.specs.Engine.{Fixed, engine};
 ghost use Rattle.paper.specs.Lent.{bit, join};
 ghost use Rattle.paper.specs.Layout.{Addrs, Blocks, Parts, addressesOf, blocksOf};
-ghost use Rattle.step.specs.Rep.{Rep, Lent, copiedRows, noRow};
-ghost use Rattle.step.specs.Steps.{placeOf, out1, blockBytes, Picked, pickedTaken, out4, after, asks, Placed, full, Sure};
-ghost use Rattle.step.specs.TableLaws.{addrBytes};
+ghost use Rattle.parts.specs.Rep.{Rep, Lent, copiedRows, noRow};
+ghost use Rattle.parts.specs.Asked.{Placed, full};
+ghost use Rattle.step.specs.Steps.{placeOf, out1, blockBytes, Picked, pickedTaken, out4, after, asks, Sure};
+ghost use Rattle.parts.specs.TableLaws.{addrBytes};
 
 // What step 1 tells: how many rows are held then, the place of the fingerprint taken out, and the blocks copied to the disk.
 pub struct Out {

@@ -8,11 +8,11 @@ use lib.ListN.{length, getD}
 use Rattle.paper.specs.Cache.{hit, blockOf, step}
 use Rattle.paper.specs.Engine.{engine}
 use Rattle.paper.specs.Lent.{bit}
-use Rattle.step.specs.Rep.{noRow}
+use Rattle.parts.specs.Rep.{noRow}
 use native.Mathlib.Nat.{zero-add}
 use Rattle.step.specs.Steps.{asks}
-use Rattle.step.specs.MoveLaws.{fp-part, dirty-is}
-use Rattle.step.specs.CopyLaws.{parts-length, block-ends, slot-some, slotOf-below}
+use Rattle.parts.specs.MoveLaws.{fp-part, dirty-is}
+use Rattle.parts.specs.CopyLaws.{parts-length, block-ends, slot-some, slotOf-below}
 use Rattle.serve.specs.ServeLaws.{answer-is, copied-block, hit-is}
 use borrow.Author.Needs.{needs}
 use Rattle.serve.proofs.read_hit.Statement.{statement}

@@ -9,7 +9,7 @@ use Rattle.paper.specs.Engine.{engine}
 use native.Mathlib.Nat.{zero-add}
 use Rattle.hash.specs.Sha256.{sha256}
 use Rattle.step.specs.Steps.{asks}
-use Rattle.step.specs.CopyLaws.{parts-length, block-ends}
+use Rattle.parts.specs.CopyLaws.{parts-length, block-ends}
 use Rattle.serve.specs.ServeLaws.{answer-is, copied-block, miss-is}
 use borrow.Author.Needs.{needs}
 use Rattle.serve.proofs.read_miss.Statement.{statement}

@@ -7,7 +7,7 @@ use borrow.Author.Needs.{needs}
 use Rattle.hash.specs.Sha256.{sha256}
 use Rattle.block.specs.Blocks.{splice}
 use Rattle.paper.specs.Engine.{engine}
-use Rattle.step.specs.CopyLaws.{block-ends}
+use Rattle.parts.specs.CopyLaws.{block-ends}
 use Rattle.serve.specs.ServeLaws.{yes-is, invalidate-is, part-all}
 use Rattle.serve.proofs.serve_invalidate.Statement.{statement}
 use Rattle.serve.proofs.serve_invalidate.Tie as tie

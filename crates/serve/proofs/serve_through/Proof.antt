@@ -10,7 +10,7 @@ use Rattle.paper.specs.Engine.{Fixed, engine}
 use Rattle.block.specs.Blocks.{splice}
 use Rattle.paper.specs.Sound.{sound-onDisk}
 use Rattle.step.specs.Steps.{asks}
-use Rattle.step.specs.CopyLaws.{block-ends}
+use Rattle.parts.specs.CopyLaws.{block-ends}
 use Rattle.serve.specs.ServeLaws.{yes-is, answer-is, through-is, rep-onDisk, part-all}
 use Rattle.hash.specs.Sha256.{sha256}
 use borrow.Author.Needs.{needs}

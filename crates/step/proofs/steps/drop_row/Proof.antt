@@ -8,7 +8,7 @@ use borrow.Author.Needs.{needs}
 use Rattle.paper.specs.Cache.{AddressRow, withoutAddress, dropped}
 use Rattle.paper.specs.Engine.{Fixed, engine}
 use Rattle.paper.specs.Layout.{addressesOf}
-use Rattle.step.specs.Rep.{noRow}
+use Rattle.parts.specs.Rep.{noRow}
 use Rattle.step.specs.Steps.{blockBytes}
 use Rattle.step.proofs.Dropping.{without-row, row-is, one-less, addrs-without, stays, drop-none}
 use Rattle.step.proofs.steps.drop_row.Statement.{statement}

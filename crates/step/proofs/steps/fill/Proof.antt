@@ -5,7 +5,7 @@ use Prim.Native.Nat.{ℕ, _+_, _*_}
 use lib.ListN.{getD}
 use Rattle.block.specs.Blocks.{splice}
 use Rattle.tables.specs.Rows.{rows, flat, removeAt, filled}
-use Rattle.step.specs.CopyLaws.{put-block-is}
+use Rattle.parts.specs.CopyLaws.{put-block-is}
 use Rattle.step.proofs.Stepping.{filled-at}
 use borrow.Author.Needs.{needs}
 use Rattle.step.proofs.steps.fill.Statement.{statement}

@@ -6,9 +6,9 @@ use native.Mathlib.Omega.{arith}
 use lib.ListN.{length, getD}
 use Rattle.paper.specs.Cache.{isLost}
 use Rattle.paper.specs.Engine.{Fixed, engine}
-use Rattle.step.specs.Rep.{copiedRows}
+use Rattle.parts.specs.Rep.{copiedRows}
 use borrow.Author.Tests.{not-true, not-false}
-use Rattle.step.specs.Steps.{noBlock}
+use Rattle.parts.specs.Asked.{noBlock}
 use Rattle.step.proofs.Stepping.{none-lost, picked-free, picked-used}
 use borrow.Author.Needs.{needs}
 use Rattle.step.proofs.steps.lose.Statement.{statement}

@@ -2,7 +2,7 @@
 use mathlib.Core.Bool.{true, _&&_}
 use native.Mathlib.Omega.{arith}
 use lib.ListN.{getD}
-use Rattle.step.specs.Rep.{noRow}
+use Rattle.parts.specs.Rep.{noRow}
 use Rattle.step.proofs.Stepping.{out-held, out-room, out-old, addrs-after, cleanFirst}
 use Rattle.step.proofs.Placing.{placed-held, placed-room, placed-old}
 use borrow.Author.Needs.{needs}

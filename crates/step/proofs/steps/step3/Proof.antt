@@ -6,7 +6,7 @@ use lib.ListN.{take}
 use Rattle.tables.specs.Rows.{rows}
 use Rattle.tables.specs.PlaceLaws.{places-first}
 use Rattle.paper.specs.KeyedLaws.{clash}
-use Rattle.step.specs.Steps.{full}
+use Rattle.parts.specs.Asked.{full}
 use Rattle.step.proofs.Placing.{front-free}
 use Rattle.step.proofs.Stepping.{gone-out, gone-known, gone-cached, gone-freed}
 use borrow.Author.Needs.{needs}

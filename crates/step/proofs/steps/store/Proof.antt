@@ -1,6 +1,6 @@
 -- The row taken is the paper's; then its block is lost and the new one stored. Assumes nothing.
-use Rattle.step.specs.CopyLaws.{parts-length, block-ends}
-use Rattle.step.proofs.Indexed.{unique-is}
+use Rattle.parts.specs.CopyLaws.{parts-length, block-ends}
+use Rattle.step.proofs.Unique.{unique-is}
 use Rattle.step.proofs.Storing.{at-picked, at-slot, at-below, store-is}
 use borrow.Author.Needs.{needs}
 use Rattle.step.proofs.steps.store.Statement.{statement}

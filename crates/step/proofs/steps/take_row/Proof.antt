@@ -3,8 +3,8 @@ use mathlib.Core.Path.{sym, _∙_}
 use Prim.Native.Nat.{_+_, _*_, _-_}
 use native.Mathlib.Omega.{arith}
 use lib.ListN.{getD}
-use Rattle.step.specs.Rep.{noRow}
-use Rattle.step.specs.MoveLaws.{fp-part, removed}
+use Rattle.parts.specs.Rep.{noRow}
+use Rattle.parts.specs.MoveLaws.{fp-part, removed}
 use borrow.Author.Needs.{needs}
 use Rattle.step.proofs.steps.take_row.Statement.{statement}
 use Rattle.step.proofs.steps.take_row.Tie as tie

@@ -1,0 +1,15 @@
+-- The law says what the entries of `places` are of the paper's rows. Assumes nothing.
+use mathlib.Core.Path.{ap, _∙_}
+use mathlib.Core.Bool.{not}
+use borrow.Author.Needs.{needs}
+use Rattle.parts.proofs.Indexed.{uncached-is}
+use Rattle.parts.proofs.rows.uncached.Statement.{statement}
+use Rattle.parts.proofs.rows.uncached.Tie as tie
+
+returns : tie.Need-returns
+returns c =
+    let a = c .before .before .before .before .args in
+    λ B P m n l free used h hb kn. ap not (c .all-cached .ensures) ∙ uncached-is (a .d) (a .blocks .now) free used hb B P m n (a .k) (a .addrs .now) l h kn
+
+pub uncached-spec : {M : Type 1} → statement M
+uncached-spec = tie.close (tie.spec (λ c κs. search needs) returns)

@@ -1,0 +1,31 @@
+-- What the rows are asked for: the row that is taken, and whether the places that are kept are right.
+use mathlib.Core.Bool.{Bool, not, cond}
+use mathlib.Core.List.{List, [], _∷_}
+use Prim.Native.Nat.{ℕ}
+use lib.Dec.{eqb, ltb}
+use lib.ListN.{length, getD, take}
+use Rattle.tables.specs.Rows.{rows, rowAt}
+use Rattle.tables.specs.Index.{Places}
+use Rattle.paper.specs.Cache.{AddressRow, BlockRow, blockRow, known}
+use Rattle.paper.specs.Engine.{Fixed, fit, engine}
+use Rattle.paper.specs.Index.{indexWhere}
+
+-- a block row that stands for none
+abbrev pub noBlock : BlockRow (Fixed 32)
+noBlock = blockRow (fit 32 []) 0
+
+-- the place of the row that is taken: the first free one; else the oldest whose fingerprint no address row has; else the oldest
+abbrev pub orFirst : ℕ → ℕ → ℕ
+orFirst j n = cond (ltb j n) j 0
+
+unfoldable pub victimPlace : ℕ → List (AddressRow (Fixed 32)) → List ℕ → List (BlockRow (Fixed 32)) → ℕ
+victimPlace B rows (k ∷ free) used = 0
+victimPlace B rows [] used = orFirst (indexWhere (λ u. not (known (engine B) (u .fingerprint) rows)) used) (length used)
+
+-- `places` has the place of the block row of each of the first n address rows
+abbrev pub Placed : (n d : ℕ) → (addrs blocks places : List ℕ) → Type 0
+Placed n d addrs blocks places = Places (rows d blocks) (rows n addrs) (take n places)
+
+-- no block row is free: the first one is used
+abbrev pub full : List ℕ → Bool
+full blocks = eqb (getD (rowAt blocks 0) 36 0) 1

@@ -1,0 +1,7 @@
+-- lent bytes as a paper box, what copies leave in them, and what is asked of the rows
+pub mod Rep
+pub mod Asked
+-- promises: what the tables and the copies say of a paper box
+pub mod TableLaws
+pub mod MoveLaws
+pub mod CopyLaws

@@ -1,0 +1,67 @@
+-- When lent bytes are those of a paper box, and what the parts of a step leave in them.
+use mathlib.Core.Path.{_≡_}
+use mathlib.Core.Bool.{Bool, false, _&&_, cond}
+use mathlib.Core.List.{List, [], _++_}
+use mathlib.Core.Option.{none, some}
+use Prim.Native.Nat.{ℕ, _+_}
+use lib.ListN.{getD, set, take, drop}
+use Rattle.parts.specs.declared.BoxRecord.{BoxRecord}
+use Rattle.paper.specs.Cache.{AddressRow, Box, newest, slotOf, blockOf, copied, copies, cleaned}
+use Rattle.paper.specs.Engine.{Fixed, fit}
+use Rattle.paper.specs.Lent.{join}
+use Rattle.paper.specs.Layout.{Addrs, Blocks, Parts, addressesOf}
+use Rattle.paper.specs.Engine.{engine}
+
+pub record Rep (b : BoxRecord) (disk flash addrs blocks : List ℕ) (s : Box (Fixed 32) (Fixed (b .size))) : Type 0 where
+  pub rows-are : Addrs (b .blocks) (b .rows) (b .held) addrs (s .rows)
+  pub blocks-are : Blocks (b .slots) blocks (s .free) (s .used)
+  pub flash-is : Parts (b .size) (b .slots) flash (s .flash)
+  pub disk-is : Parts (b .size) (b .blocks) disk (s .disk)
+
+-- they are those of some box
+abbrev pub Lent : (b : BoxRecord) → List ℕ → List ℕ → List ℕ → List ℕ → Type 0
+Lent b disk flash addrs blocks = (s : Box (Fixed 32) (Fixed (b .size))) × Rep b disk flash addrs blocks s
+
+-- .. of some box in which the block of the fingerprint g is in slot k
+abbrev pub LentWith : (b : BoxRecord) → List ℕ → List ℕ → List ℕ → List ℕ → List ℕ → ℕ → Type 0
+LentWith b disk flash addrs blocks g k = (s : Box (Fixed 32) (Fixed (b .size))) × (v : Fixed 32) × Rep b disk flash addrs blocks s × (v .0 ≡ g) × (slotOf (engine (b .size)) v (s .used) ≡ k)
+
+-- a row that stands for none
+abbrev pub noRow : AddressRow (Fixed 32)
+noRow = newest 0 (fit 32 []) false
+
+-- a row made clean
+abbrev pub clean : AddressRow (Fixed 32) → AddressRow (Fixed 32)
+clean r = newest (r .address) (r .fingerprint) false
+
+-- what a copy of dirty rows' blocks to the disk leaves
+pub record Copied : Type 0 where
+  pub count : ℕ
+  pub disk : List ℕ
+  pub addrs : List ℕ
+
+module _ (b : BoxRecord) (chosen : Fixed 32 → Bool) (s : Box (Fixed 32) (Fixed (b .size))) where
+  -- row i, if it is dirty and chosen
+  unfoldable pub copiedRow : ℕ → Copied
+  copiedRow i =
+      cond (getD (s .rows) i noRow .dirty && chosen (getD (s .rows) i noRow .fingerprint))
+      (record {
+        count = 1;
+        disk = join (set (s .disk) (getD (s .rows) i noRow .address) (blockOf (engine (b .size)) (getD (s .rows) i noRow .fingerprint) (s .used) (s .flash)));
+        addrs = addressesOf (b .rows) (set (s .rows) i (clean (getD (s .rows) i noRow)));
+      })
+      (record { count = 0; disk = join (s .disk); addrs = addressesOf (b .rows) (s .rows) })
+
+  -- the box when the first i rows are done
+  unfoldable pub partBox : ℕ → Box (Fixed 32) (Fixed (b .size))
+  partBox i =
+      record {
+        rows = cleaned (engine (b .size)) chosen (take i (s .rows)) ++ drop i (s .rows);
+        free = s .free;
+        used = s .used;
+        flash = s .flash;
+        disk = copied (engine (b .size)) chosen (take i (s .rows)) (s .used) (s .flash) (s .disk);
+      }
+
+  unfoldable pub copiedRows : ℕ → Copied
+  copiedRows i = record { count = copies (engine (b .size)) chosen (take i (s .rows)); disk = join (partBox i .disk); addrs = addressesOf (b .rows) (partBox i .rows) }

@@ -1,0 +1,135 @@
+// Blocks of dirty rows copied to the disk, and the rows made clean.
+use crate::BoxRecord;
+use tables::FlashSlot;
+ghost use mathlib.Core.Path.{_≡_};
+ghost use mathlib.Core.Bool.{true};
+ghost use mathlib.Core.List.{List};
+ghost use Prim.Native.Nat.{ℕ, _*_, _<_, _≤_};
+ghost use lib.ListN.{length};
+ghost use Rattle.paper.specs.Cache.{BlockRow, Box, slotOf};
+ghost use Rattle.paper.specs.Engine.{Fixed, engine};
+ghost use Rattle.paper.specs.Layout.{Blocks};
+ghost use Rattle.parts.specs.Rep.{Rep, Lent, LentWith, copiedRow, copiedRows};
+use crate::rows;
+
+// The slot of the fingerprint `g`, 0 where it is not cached.
+pub fn slot_for(t: &[u8], d: usize, g: &[u8]) -> FlashSlot
+    requires { ⌜ (length (now t) ≡ d * 40) × (length (now g) ≡ 32) ⌝ }
+    ensures { λ r. ⌜ ((B : ℕ) (free : List ℕ) (used : List (BlockRow (Fixed 32))) (f : Fixed 32) → Blocks d (now (t .entry)) free used → f .0 ≡ now (g .entry) → r .0 ≡ slotOf (engine B) f used) ⌝ }
+{
+    let j = rows::place_of(t, d, g);
+    if d <= j {
+        return FlashSlot(0);
+    }
+    tables::find::slot_at(t, j)
+}
+
+// Copies the block of row `i` to its disk address and makes the row clean, if it is dirty. How many blocks that is.
+pub fn flush_row(
+    b: BoxRecord,
+    i: usize,
+    disk: &mut [u8],
+    flash: &[u8],
+    addrs: &mut [u8],
+    blocks: &[u8],
+) -> usize
+    requires { ⌜ (i < b .held) × (0 < b .slots) × (b .held ≤ b .rows) × (length (now addrs) ≡ b .rows * 40) × (length (now blocks) ≡ b .slots * 40) ⌝ }
+    requires { ⌜ Lent b (now disk) (now flash) (now addrs) (now blocks) ⌝ }
+    ensures { λ r. ⌜ r ≤ 1 ⌝ }
+    ensures { λ r. ⌜ ((s : Box (Fixed 32) (Fixed (b .size))) → Rep b (now (disk .entry)) (now (flash .entry)) (now (addrs .entry)) (now (blocks .entry)) s
+        → record { count = r; disk = now (disk .exit); addrs = now (addrs .exit) } ≡ copiedRow b (λ f. true) s i) ⌝ }
+{
+    if !tables::find::flag_at(addrs, i) {
+        return 0;
+    }
+    let at = i * 40 + 4;
+    let end = at + 32;
+    let slot = slot_for(blocks, b.slots, &addrs[at..end]);
+    let k = slot.0;
+    let x = tables::find::address_at(addrs, i);
+    let a = x.0;
+    block::copy_block(flash, k as usize, disk, a as usize, b.size);
+    tables::put::set_clean(addrs, i);
+    1
+}
+
+// The same of row `i` if it also has the fingerprint `g`, whose block is in `slot`.
+pub fn clean_row(
+    b: BoxRecord,
+    i: usize,
+    disk: &mut [u8],
+    flash: &[u8],
+    addrs: &mut [u8],
+    blocks: &[u8],
+    g: &[u8],
+    slot: FlashSlot,
+) -> usize
+    requires { ⌜ (i < b .held) × (slot .0 < b .slots) × (length (now g) ≡ 32) × (b .held ≤ b .rows) × (length (now addrs) ≡ b .rows * 40) ⌝ }
+    requires { ⌜ Lent b (now disk) (now flash) (now addrs) (now blocks) ⌝ }
+    ensures { λ r. ⌜ r ≤ 1 ⌝ }
+    ensures { λ r. ⌜ ((s : Box (Fixed 32) (Fixed (b .size))) → Rep b (now (disk .entry)) (now (flash .entry)) (now (addrs .entry)) (now (blocks .entry)) s
+        → (v : Fixed 32) → v .0 ≡ now (g .entry) → slotOf (engine (b .size)) v (s .used) ≡ slot .0
+        → record { count = r; disk = now (disk .exit); addrs = now (addrs .exit) } ≡ copiedRow b (engine (b .size) .same v) s i) ⌝ }
+{
+    if !tables::find::flag_at(addrs, i) {
+        return 0;
+    }
+    if !tables::find::fingerprint_is(addrs, i, g) {
+        return 0;
+    }
+    let k = slot.0;
+    let x = tables::find::address_at(addrs, i);
+    let a = x.0;
+    block::copy_block(flash, k as usize, disk, a as usize, b.size);
+    tables::put::set_clean(addrs, i);
+    1
+}
+
+// The same of every held row, oldest first.
+pub fn flush_rows(
+    b: BoxRecord,
+    disk: &mut [u8],
+    flash: &[u8],
+    addrs: &mut [u8],
+    blocks: &[u8],
+) -> usize
+    requires { ⌜ (0 < b .slots) × (b .held ≤ b .rows) × (length (now addrs) ≡ b .rows * 40) × (length (now blocks) ≡ b .slots * 40) ⌝ }
+    requires { ⌜ Lent b (now disk) (now flash) (now addrs) (now blocks) ⌝ }
+    ensures { λ r. ⌜ r ≤ b .held ⌝ }
+    ensures { λ r. ⌜ ((s : Box (Fixed 32) (Fixed (b .size))) → Rep b (now (disk .entry)) (now (flash .entry)) (now (addrs .entry)) (now (blocks .entry)) s
+        → record { count = r; disk = now (disk .exit); addrs = now (addrs .exit) } ≡ copiedRows b (λ f. true) s (b .held)) ⌝ }
+{
+    let mut count = 0;
+    let mut i = 0;
+    while i < b.held {
+        count += flush_row(b, i, disk, flash, addrs, blocks);
+        i += 1;
+    }
+    count
+}
+
+// The same of every held row that has the fingerprint `g`, whose block is in `slot`.
+pub fn clean_rows(
+    b: BoxRecord,
+    disk: &mut [u8],
+    flash: &[u8],
+    addrs: &mut [u8],
+    blocks: &[u8],
+    g: &[u8],
+    slot: FlashSlot,
+) -> usize
+    requires { ⌜ (slot .0 < b .slots) × (length (now g) ≡ 32) × (b .held ≤ b .rows) × (length (now addrs) ≡ b .rows * 40) ⌝ }
+    requires { ⌜ LentWith b (now disk) (now flash) (now addrs) (now blocks) (now g) (slot .0) ⌝ }
+    ensures { λ r. ⌜ r ≤ b .held ⌝ }
+    ensures { λ r. ⌜ ((s : Box (Fixed 32) (Fixed (b .size))) → Rep b (now (disk .entry)) (now (flash .entry)) (now (addrs .entry)) (now (blocks .entry)) s
+        → (v : Fixed 32) → v .0 ≡ now (g .entry) → slotOf (engine (b .size)) v (s .used) ≡ slot .0
+        → record { count = r; disk = now (disk .exit); addrs = now (addrs .exit) } ≡ copiedRows b (engine (b .size) .same v) s (b .held)) ⌝ }
+{
+    let mut count = 0;
+    let mut i = 0;
+    while i < b.held {
+        count += clean_row(b, i, disk, flash, addrs, blocks, g, slot);
+        i += 1;
+    }
+    count
+}
