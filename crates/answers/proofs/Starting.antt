@@ -10,7 +10,8 @@ use Rattle.paper.specs.Cache.{Counters}
 use Rattle.paper.specs.Lent.{Numbers, Lent, opening, unfit, wrongBuffers, refusal, fresh}
 use Rattle.paper.specs.RefusalLaws.{exactly-opening, opened-is}
 use Rattle.parts.specs.declared.BoxRecord.{BoxRecord}
-use Rattle.policy.specs.Contract.{numbersOf, countersOf, lent, Opened, begun, opens}
+use Rattle.refusals.specs.Given.{numbersOf, countersOf, lent}
+use Rattle.policy.specs.Contract.{Opened, begun, opens}
 use Rattle.policy.specs.declared.open.Begun.{Begun}
 use Rattle.answers.specs.Replay.{startDisk, started}
 use Rattle.answers.specs.Done.{recordOf}

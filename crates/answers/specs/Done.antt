@@ -2,7 +2,8 @@
 use mathlib.Core.List.{List}
 use Prim.Native.Nat.{ℕ}
 use Rattle.parts.specs.declared.BoxRecord.{BoxRecord}
-use Rattle.policy.specs.Contract.{countersOf, lent, answerOf}
+use Rattle.refusals.specs.Given.{countersOf, lent}
+use Rattle.policy.specs.Contract.{answerOf}
 use Rattle.policy.specs.declared.calls.Outcome.{Outcome}
 use Rattle.paper.specs.Lent.{Numbers}
 use Rattle.answers.specs.Replay.{Done}

@@ -3,7 +3,7 @@ use lines::Command;
 use parts::BoxRecord;
 ghost use mathlib.Core.Path.{_≡_};
 ghost use Prim.Native.Nat.{_≤_};
-ghost use Rattle.policy.specs.Contract.{numbersOf};
+ghost use Rattle.refusals.specs.Given.{numbersOf};
 ghost use Rattle.answers.specs.Replay.{boxRefusal, boxNumbers, large};
 ghost use Rattle.answers.specs.Done.{recordOf};
 
@@ -60,7 +60,7 @@ pub fn box_refusal(c: Command) -> u32
         slots: d as usize,
         held: 0,
     };
-    if policy::numbers_unfit(x) {
+    if refusals::numbers_unfit(x) {
         return 1;
     }
     too_large(x)

@@ -10,7 +10,7 @@ ghost use mathlib.Core.Option.{Option};
 ghost use Prim.Native.Nat.{_≤_};
 ghost use lib.ListN.{replicate};
 ghost use Rattle.paper.specs.Lent.{Ask};
-ghost use Rattle.policy.specs.Contract.{numbersOf, countersOf, lent};
+ghost use Rattle.refusals.specs.Given.{numbersOf, countersOf, lent};
 ghost use Rattle.policy.specs.declared.Answer.the-variants.{Refused};
 ghost use Rattle.answers.specs.Replay.{asked, doing};
 ghost use Rattle.answers.specs.Done.{doneOf};

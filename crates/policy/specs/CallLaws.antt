@@ -25,7 +25,8 @@ use Rattle.policy.specs.declared.Answer.the-variants.{Refused, Answered}
 use Rattle.parts.specs.Rep.{Rep}
 use Rattle.step.specs.Steps.{Out4, out4, Sure}
 use Rattle.serve.specs.Calls.{Leaves, leaves, isYes, returned}
-use Rattle.policy.specs.Contract.{numbersOf, countersOf, lent, wordOf, Told, told, called}
+use Rattle.refusals.specs.Given.{numbersOf, countersOf, lent}
+use Rattle.policy.specs.Contract.{wordOf, Told, told, called}
 
 -- bytes below 256, one by one
 pub all-bytes : (l : List ℕ) → ((i : ℕ) → getD l i 0 < 256) → Bytes l

@@ -3,7 +3,6 @@
 use mathlib.Core.List.{List, []}
 use mathlib.Core.Option.{Option}
 use Prim.Native.Nat.{ℕ}
-use Rattle.counters.specs.declared.Counters as Code
 use Rattle.parts.specs.declared.BoxRecord.{BoxRecord}
 use Rattle.policy.specs.declared.Word as CodeWord
 use Rattle.policy.specs.declared.Word.the-variants.{Hit, Miss, Same, New, Cache, Disk, Done}
@@ -14,18 +13,8 @@ use Rattle.policy.specs.declared.open.Opening.{Opening}
 use Rattle.policy.specs.declared.open.Opening.the-variants.{Refused as OpeningRefused, Open}
 use Rattle.policy.specs.declared.open.Begun.{Begun}
 use Rattle.paper.specs.Cache.{Counters, Word, hit, miss, sameBlock, newBlock, fromCache, fromDisk, done}
+use Rattle.refusals.specs.Given.{numbersOf, countersOf, lent}
 use Rattle.paper.specs.Lent.{Numbers, Lent, Ask, Answer, refused, answered, After, call, opening, refusal, opened}
-
--- the four numbers of a box record
-abbrev pub numbersOf : BoxRecord → Numbers
-numbersOf b = record { B = b .size; P = b .blocks; m = b .rows; d = b .slots }
-
-abbrev pub countersOf : Code.Counters → Counters
-countersOf c = record { reads = c .reads; hits = c .hits; flashWrites = c .flash; primaryWrites = c .primary }
-
--- what is lent: the box record's n, the buffers and the counters
-abbrev pub lent : BoxRecord → (disk flash addresses blocks : List ℕ) → Counters → Lent
-lent b disk flash addresses blocks k = record { n = b .held; disk = disk; flash = flash; addresses = addresses; blocks = blocks; counters = k }
 
 -- "Where an answer is an enum, the promises use a definition. That definition gives this paper's number and values for each of the enum's cases."
 abbrev pub wordOf : CodeWord.Word → Word

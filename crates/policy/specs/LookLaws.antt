@@ -20,7 +20,7 @@ use Rattle.parts.specs.declared.BoxRecord.{BoxRecord}
 use Rattle.policy.specs.declared.look.Place.{Place}
 use Rattle.policy.specs.declared.look.Place.the-variants.{Refused, Flash, Disk}
 use Rattle.parts.specs.Rep.{Rep, noRow}
-use Rattle.policy.specs.Contract.{numbersOf, lent}
+use Rattle.refusals.specs.Given.{numbersOf, lent}
 use Rattle.policy.specs.Look.{placeIn, whereIs, answerAt, partAt}
 use Rattle.parts.specs.CopyLaws.{part-block, parts-length, block-ends, slot-some, slotOf-below}
 use Rattle.serve.specs.ServeLaws.{hit-row, found-hit, found-miss}

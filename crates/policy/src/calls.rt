@@ -1,7 +1,6 @@
 // The calls: each takes any numbers, any slices and any counters.
 use crate::Answer;
 use crate::Word;
-use crate::refusals;
 use counters::Counters;
 use parts::BoxRecord;
 use serve::Served;
@@ -13,7 +12,8 @@ ghost use Prim.Native.Nat.{_+_, _<_, _^_};
 ghost use Rattle.paper.specs.Cache.{hit, miss, sameBlock, newBlock};
 ghost use Rattle.paper.specs.Lent.{Ask};
 ghost use Rattle.counters.specs.Added.{added};
-ghost use Rattle.policy.specs.Contract.{told, called, lent, countersOf, wordOf};
+ghost use Rattle.refusals.specs.Given.{lent, countersOf};
+ghost use Rattle.policy.specs.Contract.{told, called, wordOf};
 ghost use Rattle.policy.specs.declared.Answer.the-variants.{Refused, Answered};
 
 // What a call gives back: its answer, the box record and the counters.

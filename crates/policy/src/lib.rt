@@ -2,9 +2,6 @@
 pub mod calls;
 pub mod look;
 pub mod open;
-mod refusals;
-
-pub use refusals::numbers_unfit;
 
 // The word of an answer.
 pub enum Word {

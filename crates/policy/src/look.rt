@@ -1,7 +1,6 @@
 // Look: the answer, and the block itself as a part of the flash or of the disk. Nothing is moved or counted.
 use crate::Answer;
 use crate::Word;
-use crate::refusals;
 use parts::BoxRecord;
 use parts::rows;
 use tables::FlashSlot;
@@ -12,7 +11,8 @@ ghost use lib.ListN.{length};
 ghost use Rattle.paper.specs.Cache.{Counters};
 ghost use Rattle.paper.specs.Lent.{Ask, calling, refusal, call};
 ghost use Rattle.block.specs.Blocks.{part};
-ghost use Rattle.policy.specs.Contract.{numbersOf, answerOf, lent};
+ghost use Rattle.refusals.specs.Given.{numbersOf, lent};
+ghost use Rattle.policy.specs.Contract.{answerOf};
 ghost use Rattle.policy.specs.Look.{whereIs};
 
 // Where the block of an address is, or the number of the refusal.

@@ -1,9 +1,9 @@
 // Opening: lent memory made a fresh box.
-use crate::refusals;
 use counters::Counters;
 use parts::BoxRecord;
 ghost use mathlib.Core.Path.{_≡_};
-ghost use Rattle.policy.specs.Contract.{begun, opens, countersOf};
+ghost use Rattle.refusals.specs.Given.{countersOf};
+ghost use Rattle.policy.specs.Contract.{begun, opens};
 
 // The answer of an opening.
 pub enum Opening {

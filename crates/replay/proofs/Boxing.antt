@@ -14,7 +14,7 @@ use Rattle.paper.specs.KeyedLaws.{by-test}
 use Rattle.paper.specs.Cache.{Counters}
 use Rattle.paper.specs.Lent.{Lent}
 use Rattle.parts.specs.declared.BoxRecord.{BoxRecord}
-use Rattle.policy.specs.Contract.{lent}
+use Rattle.refusals.specs.Given.{lent}
 use Rattle.replay.specs.Memory.{buffers, held, within, over, Sized, Holds}
 
 -- a first part is as long as it says

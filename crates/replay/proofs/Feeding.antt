@@ -11,7 +11,7 @@ use lib.Seq.{length-take-le, set-split}
 use borrow.Author.Tests.{eq-eqb, ne-eqb, lt-ltb, le-ltb}
 use Rattle.block.specs.Blocks.{splice}
 use Rattle.lines.specs.Lines.{parsed}
-use Rattle.policy.specs.Contract.{countersOf}
+use Rattle.refusals.specs.Given.{countersOf}
 use Rattle.answers.specs.Put.{Put}
 use Rattle.answers.specs.Replay.{countersText}
 use Rattle.replay.specs.Bytewise.{State, quiet, keep, firstLine, laterLine, endLine, lastLine, atEnd}

@@ -11,7 +11,7 @@ use Rattle.lines.specs.declared.Command.{Command}
 use Rattle.paper.specs.Cache.{Counters}
 use Rattle.paper.specs.Lent.{Numbers, Lent, refused}
 use Rattle.parts.specs.declared.BoxRecord.{BoxRecord}
-use Rattle.policy.specs.Contract.{numbersOf, countersOf}
+use Rattle.refusals.specs.Given.{numbersOf, countersOf}
 use Rattle.answers.specs.Put.{Put}
 use Rattle.answers.specs.Replay.{boxRefusal, boxNumbers, started, answerText}
 use Rattle.replay.specs.Bytewise.{State, firstLine}

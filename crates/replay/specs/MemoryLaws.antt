@@ -23,7 +23,7 @@ use Rattle.paper.specs.Lent.{Numbers, Lent, Ask, calling, Answer, refused, answ
 use Rattle.paper.specs.LentLaws.{Lengths}
 use Rattle.paper.specs.RefusalLaws.{keeps}
 use Rattle.paper.specs.CallLaws.{served-passes}
-use Rattle.policy.specs.Sizes.{most}
+use Rattle.refusals.specs.Sizes.{most}
 use Rattle.lines.specs.Lines.{parsed}
 use Rattle.lines.specs.declared.Command.{Command}
 use Rattle.lines.specs.declared.Command.the-variants.{Box, Read, Look, Flush, Through, Back, Invalidate, Unformed}

@@ -12,7 +12,7 @@ ghost use mathlib.Core.List.{List, [], _++_};
 ghost use Prim.Native.Nat.{ℕ, _≤_};
 ghost use lib.Dec.{eqb};
 ghost use lib.ListN.{length};
-ghost use Rattle.policy.specs.Contract.{countersOf};
+ghost use Rattle.refusals.specs.Given.{countersOf};
 ghost use Rattle.answers.specs.Put.{Put};
 ghost use Rattle.answers.specs.Replay.{countersText};
 ghost use Rattle.replay.specs.Bytewise.{endLine, keep, quiet, lastLine};

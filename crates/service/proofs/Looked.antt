@@ -17,7 +17,7 @@ use Rattle.paper.specs.Lent.{Numbers, Lent, Ask, After, Answer, calling, refusa
 use Rattle.parts.specs.declared.BoxRecord.{BoxRecord}
 use Rattle.policy.specs.declared.look.Place.{Place}
 use Rattle.policy.specs.declared.look.Place.the-variants.{Refused, Flash, Disk}
-use Rattle.policy.specs.Contract.{numbersOf, countersOf, lent}
+use Rattle.refusals.specs.Given.{numbersOf, countersOf, lent}
 use Rattle.policy.specs.Look.{whereIs, answerAt, partAt}
 use Rattle.policy.specs.Look as Found
 use Rattle.policy.specs.LookLaws.{PartIn, where-in, look-answers, look-returns}

@@ -19,7 +19,8 @@ use Rattle.policy.specs.declared.Answer.the-variants.{Refused, Answered}
 use Rattle.policy.specs.declared.calls.Outcome.{Outcome}
 use Rattle.policy.specs.declared.look.Place.{Place}
 use Rattle.policy.specs.declared.look.Place.the-variants.{Refused as NoPlace, Flash, Disk}
-use Rattle.policy.specs.Contract.{wordOf, answerOf, countersOf, lent, Told, told, called}
+use Rattle.refusals.specs.Given.{countersOf, lent}
+use Rattle.policy.specs.Contract.{wordOf, answerOf, Told, told, called}
 use Rattle.service.specs.Fields.{recordIn, countersIn, putState, putAnswer, wordNumber, fitting}
 use Rattle.service.specs.Left.{Noted, noted, Left, LeftLook, placeIn, lentIn, toldIn, leaves}
 

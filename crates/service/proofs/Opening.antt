@@ -8,7 +8,8 @@ use Rattle.counters.specs.declared.Counters as Code
 use Rattle.paper.specs.Cache.{Counters}
 use Rattle.parts.specs.declared.BoxRecord.{BoxRecord}
 use Rattle.policy.specs.declared.open.Begun.{Begun}
-use Rattle.policy.specs.Contract.{countersOf, numberOf, Opened, begun, opens}
+use Rattle.refusals.specs.Given.{countersOf}
+use Rattle.policy.specs.Contract.{numberOf, Opened, begun, opens}
 use Rattle.service.specs.Fields.{put8, recordIn, countersIn, putState}
 use Rattle.service.specs.Left.{LeftOpen, freshRecord, opening, openedIn, leavesOpen}
 

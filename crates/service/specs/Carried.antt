@@ -13,7 +13,7 @@ use Rattle.paper.specs.Cache.{Word, noCounts}
 use Rattle.paper.specs.Lent.{Numbers, Lent, Ask, Answer, refused, answered, After, calling, opening, refusal, call, served, lentOf, opened, fresh, unopened}
 use Rattle.paper.specs.RefusalLaws.{served-is, keeps, opened-is, refused-opening}
 use Rattle.paper.specs.CallLaws.{In64, served-finds, served-lent, outcome, outcome-sound, counters-stay}
-use Rattle.policy.specs.Contract.{numbersOf, countersOf, lent}
+use Rattle.refusals.specs.Given.{numbersOf, countersOf, lent}
 use Rattle.service.specs.Fields.{get8, put8, recordIn, countersIn, putState, fitting}
 use Rattle.service.specs.FieldLaws.{get8-below, length-put8, get8-put8, get8-before, get8-after, length-putState, record-back, counters-back}
 use Rattle.service.specs.Left.{lentIn, Left, toldIn, leaves, freshRecord, openedIn, leavesOpen}

@@ -14,7 +14,8 @@ use Rattle.paper.specs.Lent.{Numbers, Lent, Ask, Answer, refused, answered, Aft
 use Rattle.parts.specs.declared.BoxRecord.{BoxRecord}
 use Rattle.policy.specs.declared.look.Place.{Place}
 use Rattle.policy.specs.declared.look.Place.the-variants.{Refused, Flash, Disk}
-use Rattle.policy.specs.Contract.{numbersOf, countersOf, lent, Opened, opens}
+use Rattle.refusals.specs.Given.{numbersOf, countersOf, lent}
+use Rattle.policy.specs.Contract.{Opened, opens}
 use Rattle.policy.specs.Look.{whereIs}
 use Rattle.service.specs.Fields.{get8, put8, recordIn, countersIn, putState, putAnswer, wordNumber, fitting}
 

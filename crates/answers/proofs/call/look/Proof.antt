@@ -2,7 +2,7 @@
 use mathlib.Core.Path.{refl}
 use native.Mathlib.Omega.{arith}
 use borrow.Author.Needs.{needs}
-use Rattle.policy.specs.Contract.{countersOf}
+use Rattle.refusals.specs.Given.{countersOf}
 use Rattle.policy.specs.CallLaws.{all-bytes}
 use Rattle.answers.proofs.Doing.{look-done}
 use Rattle.answers.proofs.call.look.Statement.{statement}

@@ -8,7 +8,8 @@ use Rattle.paper.specs.Cache.{serve, flushed}
 use Rattle.paper.specs.Lent.{Ask, calling, refusal, callOf, boxIn}
 use Rattle.paper.specs.CallLaws.{served-finds}
 use Rattle.policy.specs.declared.Word.the-variants.{Done}
-use Rattle.policy.specs.Contract.{numbersOf, countersOf, lent, told}
+use Rattle.refusals.specs.Given.{numbersOf, countersOf, lent}
+use Rattle.policy.specs.Contract.{told}
 use Rattle.policy.specs.CallLaws.{all-bytes, rep, sizes, finish, keep, fitting}
 use Rattle.policy.proofs.calls.flush.Statement.{statement}
 use Rattle.policy.proofs.calls.flush.Tie as tie

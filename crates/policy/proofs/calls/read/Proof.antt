@@ -9,7 +9,8 @@ use Rattle.paper.specs.Cache.{Call, hit, miss, serve}
 use Rattle.paper.specs.Engine.{engine}
 use Rattle.paper.specs.Lent.{Ask, calling, refusal, callOf, boxIn}
 use Rattle.paper.specs.CallLaws.{served-finds}
-use Rattle.policy.specs.Contract.{numbersOf, countersOf, lent, told}
+use Rattle.refusals.specs.Given.{numbersOf, countersOf, lent}
+use Rattle.policy.specs.Contract.{told}
 use Rattle.policy.specs.CallLaws.{all-bytes, sure, rep, sizes, block-fits, address-fits, finish, keep, fitting, read-says, said-is, hit-counted, read-block, one-le, yes-of, block-of}
 use Rattle.policy.proofs.calls.read.Statement.{statement}
 use Rattle.policy.proofs.calls.read.Tie as tie

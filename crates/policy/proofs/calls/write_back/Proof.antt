@@ -8,7 +8,8 @@ use borrow.Author.Needs.{needs}
 use Rattle.paper.specs.Engine.{fit}
 use Rattle.paper.specs.Lent.{Ask, calling, refusal, callOf, boxIn}
 use Rattle.paper.specs.CallLaws.{served-finds}
-use Rattle.policy.specs.Contract.{numbersOf, countersOf, lent, told}
+use Rattle.refusals.specs.Given.{numbersOf, countersOf, lent}
+use Rattle.policy.specs.Contract.{told}
 use Rattle.policy.specs.CallLaws.{all-bytes, fit-is, sure, rep, sizes, block-fits, address-fits, keep, fitting, back-says, back-refused, written}
 use Rattle.policy.proofs.calls.write_back.Statement.{statement}
 use Rattle.policy.proofs.calls.write_back.Tie as tie

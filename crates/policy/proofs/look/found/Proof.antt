@@ -3,7 +3,7 @@ use native.Mathlib.Omega.{arith}
 use Rattle.paper.specs.Cache.{noCounts}
 use Rattle.paper.specs.Lent.{Ask, boxIn}
 use Rattle.paper.specs.RowBytes.{Bytes}
-use Rattle.policy.specs.Contract.{numbersOf, lent}
+use Rattle.refusals.specs.Given.{numbersOf, lent}
 use Rattle.policy.specs.CallLaws.{all-bytes, rep, sizes}
 use Rattle.policy.specs.LookLaws.{found-flash, found-disk}
 use Rattle.policy.proofs.look.found.Statement.{statement}

@@ -1,7 +1,7 @@
 -- By the place. Assumes nothing.
 use mathlib.Core.Path.{sym, ap, _∙_}
 use borrow.Author.Needs.{needs}
-use Rattle.policy.specs.Contract.{numbersOf, lent}
+use Rattle.refusals.specs.Given.{numbersOf, lent}
 use Rattle.policy.specs.Look.{answerAt}
 use Rattle.policy.specs.LookLaws.{look-answers}
 use Rattle.policy.proofs.look.look.Statement.{statement}

@@ -1,7 +1,7 @@
 -- By the refusal's number. Assumes nothing.
 use mathlib.Core.Path.{sym, _∙_}
 use borrow.Author.Needs.{needs}
-use Rattle.policy.specs.Contract.{numbersOf, lent}
+use Rattle.refusals.specs.Given.{numbersOf, lent}
 use Rattle.policy.specs.LookLaws.{where-refused}
 use Rattle.policy.proofs.look.place_of.Statement.{statement}
 use Rattle.policy.proofs.look.place_of.Tie as tie

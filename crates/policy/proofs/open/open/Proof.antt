@@ -1,8 +1,8 @@
 -- By the check's number: refused, nothing is touched; else both tables are made fresh, whose lengths the check has seen to. Assumes nothing.
 use mathlib.Core.Path.{sym, _∙_}
 use borrow.Author.Needs.{needs}
-use Rattle.policy.specs.Contract.{countersOf}
-use Rattle.policy.proofs.Refusing.{Opens, opens-with}
+use Rattle.refusals.specs.Given.{countersOf}
+use Rattle.refusals.proofs.Refusing.{Opens, opens-with}
 use Rattle.policy.proofs.Opening.{newBox, opening-refused, opening-done}
 use Rattle.policy.proofs.open.open.Statement.{statement}
 use Rattle.policy.proofs.open.open.Tie as tie

@@ -1,7 +1,7 @@
 -- The call made in the first parts of the buffers, and those put back. Assumes nothing.
 use mathlib.Core.Path.{ap, _∙_}
 use borrow.Author.Needs.{needs}
-use Rattle.policy.specs.Contract.{numbersOf, countersOf}
+use Rattle.refusals.specs.Given.{numbersOf, countersOf}
 use Rattle.answers.specs.Replay.{Done, asked, doing}
 use Rattle.replay.proofs.Boxing.{within-is, put-back}
 use Rattle.replay.proofs.line.call_box.Statement.{statement}

@@ -5,7 +5,7 @@ use native.Mathlib.Omega.{arith}
 use borrow.Author.Needs.{needs}
 use Rattle.block.specs.Blocks.{splice}
 use Rattle.paper.specs.Lent.{unfit}
-use Rattle.policy.specs.Contract.{numbersOf, countersOf}
+use Rattle.refusals.specs.Given.{numbersOf, countersOf}
 use Rattle.answers.specs.Replay.{boxNumbers, started}
 use Rattle.replay.specs.Memory.{memory, over, stateIn, stored, Holds}
 use Rattle.replay.specs.MemoryLaws.{opened-fits}

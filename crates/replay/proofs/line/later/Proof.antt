@@ -3,7 +3,8 @@ use mathlib.Core.Path.{ap₂, _∙_}
 use mathlib.Core.List.{[]}
 use native.Mathlib.Omega.{arith}
 use borrow.Author.Needs.{needs}
-use Rattle.policy.specs.Contract.{numbersOf, countersOf, answerOf}
+use Rattle.refusals.specs.Given.{numbersOf, countersOf}
+use Rattle.policy.specs.Contract.{answerOf}
 use Rattle.answers.specs.Replay.{asked, doing, answerText}
 use Rattle.replay.specs.Bytewise.{laterLine}
 use Rattle.replay.specs.Memory.{memory, within, stateIn, stored}

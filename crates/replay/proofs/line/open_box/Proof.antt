@@ -2,7 +2,7 @@
 use Prim.Native.Nat.{_*_}
 use native.Mathlib.Omega.{arith}
 use borrow.Author.Needs.{needs}
-use Rattle.policy.specs.Contract.{numbersOf, countersOf}
+use Rattle.refusals.specs.Given.{numbersOf, countersOf}
 use Rattle.answers.specs.Replay.{started}
 use Rattle.replay.proofs.Boxing.{first-length, put-back}
 use Rattle.replay.proofs.line.open_box.Statement.{statement}

@@ -1,6 +1,7 @@
 -- By the opening's number. Assumes nothing.
 use borrow.Author.Needs.{needs}
-use Rattle.policy.specs.Contract.{countersOf, numberOf}
+use Rattle.refusals.specs.Given.{countersOf}
+use Rattle.policy.specs.Contract.{numberOf}
 use Rattle.service.specs.Fields.{put8}
 use Rattle.service.proofs.Opening.{opened-state, refused-state}
 use Rattle.service.proofs.fields.write_opening.Statement.{statement}

@@ -1,6 +1,6 @@
 -- By the answer: refused, nothing is written; else the state and the answer. Assumes nothing.
 use borrow.Author.Needs.{needs}
-use Rattle.policy.specs.Contract.{countersOf}
+use Rattle.refusals.specs.Given.{countersOf}
 use Rattle.service.proofs.Noting.{noted-refused, noted-served}
 use Rattle.service.proofs.fields.write_outcome.Statement.{statement}
 use Rattle.service.proofs.fields.write_outcome.Tie as tie

@@ -1,0 +1,117 @@
+-- The refusals: what the checks, in their order, say of the number of a refusal. Assumes nothing.
+use mathlib.Core.Path.{_≡_, refl}
+use mathlib.Core.Bool.{Bool, true, false, not, _||_, cond}
+use mathlib.Core.List.{List, [], _∷_}
+use Prim.Native.Nat.{ℕ, _≤_, _*_}
+use native.Mathlib.Omega.{arith}
+use lib.Dec.{eqb, leb}
+use lib.ListN.{length}
+use borrow.Author.Tests.{eq-eqb, ne-eqb, le-leb}
+use Rattle.tables.specs.Sound.{addressesFit, blocksFit}
+use Rattle.tables.specs.Unsound.{elem, addressesUnsound, blocksUnsound, dirtyUncached}
+use Rattle.paper.specs.KeyedLaws.{by-test}
+use Rattle.paper.specs.Cache.{Counters}
+use Rattle.paper.specs.Lent.{Numbers, Lent, Ask, opening, calling, unfit, wrongBuffers, over, refusal}
+use Rattle.paper.specs.LentLaws.{Lengths, right-lengths}
+use Rattle.paper.specs.RefusalLaws.{exactly-opening}
+use Rattle.parts.specs.declared.BoxRecord.{BoxRecord}
+use Rattle.refusals.specs.Given.{numbersOf, lent}
+use Rattle.refusals.specs.Sizes.{Most, most}
+use Rattle.refusals.specs.Checks.{wrongLengths, tablesRefusal, stateRefusal}
+
+-- a number in a list, by its first element
+pub elem-yes : (s x : ℕ) (xs : List ℕ) → s ≡ x → true ≡ elem s (x ∷ xs)
+unfolding elem
+elem-yes s x xs e = rw (eq-eqb s x e) refl
+
+pub elem-no : (s x : ℕ) (xs : List ℕ) (z : Bool) → (s ≡ x → ⊥) → z ≡ elem s xs → z ≡ elem s (x ∷ xs)
+unfolding elem
+elem-no s x xs z n e = rw (ne-eqb s x n) e
+
+pub elem-last : (s x : ℕ) → eqb s x ≡ elem s (x ∷ [])
+unfolding elem
+elem-last s x = by-test (eqb s x) (λ e. rw e refl) (λ e. rw e refl)
+
+-- the two ways to say refusal 2 of the four buffers
+pub wrong-is : (b : BoxRecord) (disk flash addresses blocks : List ℕ) (k : Counters) → wrongLengths b (length disk) (length flash) (length addresses) (length blocks) ≡ wrongBuffers (numbersOf b) (lent b disk flash addresses blocks k)
+unfolding wrongLengths wrongBuffers
+wrong-is b disk flash addresses blocks k = refl
+
+-- a number that an opening gets, a call gets too
+pub refused-first : (N : Numbers) (t : Lent) (q : Ask) → (refusal N t opening ≡ 0 → ⊥) → refusal N t opening ≡ refusal N t (calling q)
+unfolding refusal
+refused-first N t q n =
+    by-test (unfit N)
+    (λ e. rw e refl)
+    (λ e. by-test (wrongBuffers N t) (λ f. rw (e, f) refl) (λ f. absurd (n (rw (e, f) refl))))
+
+-- what memory that an opening is not refused on is known to be
+pub record Opens (b : BoxRecord) (disk flash addresses blocks : List ℕ) (k : Counters) : Type 0 where
+  pub fit : unfit (numbersOf b) ≡ false
+  pub right : wrongBuffers (numbersOf b) (lent b disk flash addresses blocks k) ≡ false
+  pub most : Most b
+  pub lengths : Lengths (numbersOf b) (lent b disk flash addresses blocks k)
+
+pub opens-with : (b : BoxRecord) (disk flash addresses blocks : List ℕ) (k : Counters) → refusal (numbersOf b) (lent b disk flash addresses blocks k) opening ≡ 0 → Opens b disk flash addresses blocks k
+opens-with b disk flash addresses blocks k e =
+    let x = exactly-opening (numbersOf b) (lent b disk flash addresses blocks k) .gives-0 .0 e in
+    record { fit = x .0; right = x .1; most = most b (x .0); lengths = right-lengths (numbersOf b) (lent b disk flash addresses blocks k) (x .1) }
+
+-- 6, 7 and 8, of tables that the checks can be run on
+pub tables-are : (b : BoxRecord) (addresses blocks : List ℕ) → b .blocks ≤ 65536 → b .rows ≤ 1024 → b .slots ≤ 256 → length addresses ≡ b .rows * 40 → length blocks ≡ b .slots * 40
+    → cond (not (addressesFit (b .blocks) (b .rows) addresses) || addressesUnsound (b .blocks) (b .rows) (b .held) addresses) 6 (cond (not (blocksFit (b .slots) blocks) || blocksUnsound (b .slots) blocks) 7 (cond (dirtyUncached (b .held) (b .slots) addresses blocks) 8 0))
+    ≡ tablesRefusal b addresses blocks
+unfolding addressesFit blocksFit tablesRefusal
+tables-are b addresses blocks p r d la lb =
+    rw (le-leb (b .blocks) 65536 p, le-leb (b .rows) 1024 r, le-leb (b .slots) 256 d, eq-eqb (length addresses) (b .rows * 40) la, eq-eqb (length blocks) (b .slots * 40) lb) refl
+
+-- 9 comes after them
+pub state-tables : (b : BoxRecord) (addresses blocks : List ℕ) (k : Counters) → (tablesRefusal b addresses blocks ≡ 0 → ⊥) → tablesRefusal b addresses blocks ≡ stateRefusal b addresses blocks k
+unfolding tablesRefusal stateRefusal
+state-tables b addresses blocks k n =
+    by-test (addressesUnsound (b .blocks) (b .rows) (b .held) addresses)
+    (λ e. rw e refl)
+    (λ e. by-test (blocksUnsound (b .slots) blocks)
+    (λ f. rw (e, f) refl)
+    (λ f. by-test (dirtyUncached (b .held) (b .slots) addresses blocks)
+    (λ g. rw (e, f, g) refl)
+    (λ g. absurd (n (rw (e, f, g) refl)))))
+
+pub state-counters : (b : BoxRecord) (addresses blocks : List ℕ) (k : Counters) → tablesRefusal b addresses blocks ≡ 0 → cond (over k) 9 0 ≡ stateRefusal b addresses blocks k
+unfolding tablesRefusal stateRefusal
+state-counters b addresses blocks k =
+    by-test (addressesUnsound (b .blocks) (b .rows) (b .held) addresses)
+    (λ e. rw e (λ z. absurd (omega arith)))
+    (λ e. by-test (blocksUnsound (b .slots) blocks)
+    (λ f. rw (e, f) (λ z. absurd (omega arith)))
+    (λ f. by-test (dirtyUncached (b .held) (b .slots) addresses blocks)
+    (λ g. rw (e, f, g) (λ z. absurd (omega arith)))
+    (λ g. rw (e, f, g) (λ z. refl))))
+
+-- what is left of a refusal where 1, 2 and 3 are passed
+module _ (b : BoxRecord) (disk flash addresses blocks : List ℕ) (k : Counters) (o : Opens b disk flash addresses blocks k) where
+  pub access-rest : (a : ℕ) (l : List ℕ) → length l ≡ b .size → leb (b .blocks) a ≡ false → stateRefusal b addresses blocks k ≡ refusal (numbersOf b) (lent b disk flash addresses blocks k) (calling (Ask.read a l))
+  unfolding refusal stateRefusal
+  access-rest a l e p = rw (o .fit, o .right, eq-eqb (length l) (b .size) e, p) refl
+
+  -- a look has no 9, a flush no 3
+  pub look-rest : (a : ℕ) → leb (b .blocks) a ≡ false → tablesRefusal b addresses blocks ≡ refusal (numbersOf b) (lent b disk flash addresses blocks k) (calling (Ask.look a))
+  unfolding refusal tablesRefusal
+  look-rest a p = rw (o .fit, o .right, p) refl
+
+  pub flush-rest : stateRefusal b addresses blocks k ≡ refusal (numbersOf b) (lent b disk flash addresses blocks k) (calling Ask.flush)
+  unfolding refusal stateRefusal
+  flush-rest = rw (o .fit, o .right) refl
+
+  -- 2 for the lent block, and 3
+  pub access-2 : (a : ℕ) (l : List ℕ) → (length l ≡ b .size → ⊥) → 2 ≡ refusal (numbersOf b) (lent b disk flash addresses blocks k) (calling (Ask.read a l))
+  unfolding refusal
+  access-2 a l n = rw (o .fit, o .right, ne-eqb (length l) (b .size) n) refl
+
+  pub access-3 : (a : ℕ) (l : List ℕ) → length l ≡ b .size → leb (b .blocks) a ≡ true → 3 ≡ refusal (numbersOf b) (lent b disk flash addresses blocks k) (calling (Ask.read a l))
+  unfolding refusal
+  access-3 a l e p = rw (o .fit, o .right, eq-eqb (length l) (b .size) e, p) refl
+
+  pub look-3 : (a : ℕ) → leb (b .blocks) a ≡ true → 3 ≡ refusal (numbersOf b) (lent b disk flash addresses blocks k) (calling (Ask.look a))
+  unfolding refusal
+  look-3 a p = rw (o .fit, o .right, p) refl
