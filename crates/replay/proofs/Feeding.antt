@@ -14,11 +14,11 @@ use Rattle.lines.specs.Lines.{parsed}
 use Rattle.refusals.specs.Given.{countersOf}
 use Rattle.answers.specs.Put.{Put}
 use Rattle.answers.specs.Replay.{countersText}
-use Rattle.replay.specs.Bytewise.{State, quiet, keep, firstLine, laterLine, endLine, lastLine, atEnd}
-use Rattle.replay.specs.Memory.{Buffers, Held, Memory, After, over, stateIn, stored}
-use Rattle.replay.specs.declared.Session.{Session}
+use Rattle.session.specs.Bytewise.{State, quiet, keep, firstLine, laterLine, endLine, lastLine, atEnd}
+use Rattle.session.specs.Memory.{Buffers, Held, Memory, After, over, stateIn, stored}
+use Rattle.session.specs.declared.Session.{Session}
 use Rattle.answers.specs.PutLaws.{splice-next}
-use Rattle.replay.proofs.Boxing.{splice-first, over-same}
+use Rattle.session.proofs.Boxing.{splice-first, over-same}
 
 -- a session that keeps k bytes
 abbrev pub keeping : Session → ℕ → Session

@@ -1,3 +1,1 @@
-pub mod Boxing
-pub mod Lining
 pub mod Feeding

@@ -13,7 +13,7 @@ use Rattle.paper.specs.KeyedLaws.{by-test}
 use Rattle.paper.specs.Lent.{Numbers, Lent, refused}
 use Rattle.lines.specs.Lines.{onto, linesIn, lines, parsed}
 use Rattle.answers.specs.Replay.{boxRefusal, boxNumbers, started, asked, doing, answerText, next, laterLines, allLines, replay}
-use Rattle.replay.specs.Bytewise.{State, firstLine, laterLine, endLine, keep, byteIn, lastLine, atEnd, rest}
+use Rattle.session.specs.Bytewise.{State, firstLine, laterLine, endLine, keep, byteIn, lastLine, atEnd, rest}
 
 -- ---- the bytes kept of a line
 

@@ -5,10 +5,10 @@ use mathlib.Core.List.{List, [], _∷_, _++_}
 use Prim.Native.Nat.{ℕ}
 use lib.ListN.{take}
 use Rattle.answers.specs.Replay.{replay}
-use Rattle.replay.specs.Bytewise.{rest}
+use Rattle.session.specs.Bytewise.{rest}
 use Rattle.replay.specs.BytewiseLaws.{rest-replays}
-use Rattle.replay.specs.Memory.{Memory, After, fits, stateIn, fed, ended}
-use Rattle.replay.specs.MemoryLaws.{fed-state, fed-fits, fed-text, ended-text}
+use Rattle.session.specs.Memory.{Memory, After, fits, stateIn, fed, ended}
+use Rattle.session.specs.MemoryLaws.{fed-state, fed-fits, fed-text, ended-text}
 
 -- the text that a byte, or the end, puts into the output
 abbrev pub textOf : After → List ℕ

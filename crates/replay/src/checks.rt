@@ -1,7 +1,7 @@
 // The tests before a line is answered.
 use parts::BoxRecord;
 ghost use mathlib.Core.Path.{_≡_};
-ghost use Rattle.replay.specs.Memory.{lengthsFit, numbersFit};
+ghost use Rattle.session.specs.Memory.{lengthsFit, numbersFit};
 
 // Whether the buffers have their lengths.
 pub fn lengths_fit(

@@ -1,10 +1,10 @@
 // Replay byte by byte: a byte of the input in, the text of the finished line out.
-use crate::Fed;
-use crate::Session;
 use crate::checks;
-use crate::line;
 use answers::print;
 use counters::Counters;
+use session::Fed;
+use session::Session;
+use session::line;
 use parts::BoxRecord;
 ghost use mathlib.Core.Path.{_≡_};
 ghost use mathlib.Core.Bool.{cond};
@@ -15,8 +15,8 @@ ghost use lib.ListN.{length};
 ghost use Rattle.refusals.specs.Given.{countersOf};
 ghost use Rattle.answers.specs.Put.{Put};
 ghost use Rattle.answers.specs.Replay.{countersText};
-ghost use Rattle.replay.specs.Bytewise.{endLine, keep, quiet, lastLine};
-ghost use Rattle.replay.specs.Memory.{memory, Sized, Holds, fits, stateIn, stored, fed, ended, afterOf};
+ghost use Rattle.session.specs.Bytewise.{endLine, keep, quiet, lastLine};
+ghost use Rattle.session.specs.Memory.{memory, Sized, Holds, fits, stateIn, stored, fed, ended, afterOf};
 
 // A session before the first byte.
 pub fn begin() -> Session

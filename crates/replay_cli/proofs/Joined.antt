@@ -6,7 +6,7 @@ use native.Mathlib.Nat.{add-zero, add-suc}
 use native.Mathlib.Omega.{arith}
 use lib.ListN.{length, length-append, List·getD-append}
 use lib.Seq.{getD-append-add}
-use Rattle.replay.specs.Memory.{Memory, fed}
+use Rattle.session.specs.Memory.{Memory, fed}
 use Rattle.replay_cli.specs.Chunks.{fedFirst}
 
 front : (l m : List ℕ) (n : ℕ) (M : Memory) → n ≤ length l → fedFirst (l ++ m) n M ≡ fedFirst l n M

@@ -2,8 +2,8 @@
 use mathlib.Core.List.{List}
 use Prim.Native.Nat.{ℕ, zero, suc}
 use lib.ListN.{getD}
-use Rattle.replay.specs.Memory.{Memory, fed}
-use Rattle.replay.specs.declared.Session.{Session}
+use Rattle.session.specs.Memory.{Memory, fed}
+use Rattle.session.specs.declared.Session.{Session}
 
 abbrev pub first : Session
 first = record { stage = 0; kept = 0; number = 0; box_record = record { size = 0; blocks = 0; rows = 0; slots = 0; held = 0 }; counters = record { reads = 0; hits = 0; flash = 0; primary = 0 } }

@@ -1,13 +1,13 @@
 // Replays the list on standard input to standard output.
-use replay::Session;
 use replay::feed;
+use session::Session;
 ghost use mathlib.Core.Path.{_≡_};
 ghost use mathlib.Core.Bool.{_&&_};
 ghost use mathlib.Core.List.{List};
 ghost use Prim.Native.Nat.{ℕ};
 ghost use lib.Dec.{ltb, leb};
 ghost use lib.ListN.{length};
-ghost use Rattle.replay.specs.Memory.{memory, fed, ended};
+ghost use Rattle.session.specs.Memory.{memory, fed, ended};
 ghost use Rattle.replay_cli.specs.Chunks.{first, fedFirst};
 
 // Writes the first bytes of the output.

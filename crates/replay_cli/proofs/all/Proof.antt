@@ -4,7 +4,7 @@ use mathlib.Core.List.{List, [], _++_}
 use Prim.Native.Nat.{ℕ, _-_, _<_}
 use native.Mathlib.Omega.{arith}
 use lib.ListN.{length}
-use Rattle.replay.specs.Memory.{memory}
+use Rattle.session.specs.Memory.{memory}
 use Rattle.replay_cli.specs.Chunks.{first, fedFirst}
 use Rattle.replay_cli.proofs.Joined.{joined}
 use Rattle.replay_cli.proofs.all.Statement.{statement}

@@ -3,7 +3,7 @@ use mathlib.Core.Path.{_≡_, refl, sym, ap, _∙_}
 use Prim.Native.Nat.{ℕ, suc, _+_, _-_, _≤_, _<_}
 use native.Mathlib.Omega.{arith}
 use lib.ListN.{length, getD}
-use Rattle.replay.specs.Memory.{memory, fed}
+use Rattle.session.specs.Memory.{memory, fed}
 use Rattle.replay_cli.specs.Chunks.{fedFirst}
 use Rattle.replay_cli.proofs.run.Statement.{statement}
 use Rattle.replay_cli.proofs.run.Tie as tie

@@ -1,6 +1,6 @@
 -- What the byte leaves. Assumes nothing.
 use mathlib.Core.Path.{ap}
-use Rattle.replay.specs.Memory.{After}
+use Rattle.session.specs.Memory.{After}
 use borrow.Author.Needs.{needs}
 use Rattle.replay_cli.proofs.step.Statement.{statement}
 use Rattle.replay_cli.proofs.step.Tie as tie

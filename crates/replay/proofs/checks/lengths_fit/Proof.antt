@@ -1,7 +1,7 @@
 -- Each test in turn is one of the definition. Assumes nothing.
 use mathlib.Core.Path.{refl}
 use borrow.Author.Tests.{eq-eqb, ne-eqb}
-use Rattle.replay.specs.Memory.{lengthsFit}
+use Rattle.session.specs.Memory.{lengthsFit}
 use Rattle.replay.proofs.checks.lengths_fit.Statement.{statement}
 use Rattle.replay.proofs.checks.lengths_fit.Tie as tie
 

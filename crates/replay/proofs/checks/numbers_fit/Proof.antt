@@ -4,7 +4,7 @@ use native.Mathlib.Omega.{arith}
 use mir.Facts.{fits-lit}
 use borrow.Author.Tests.{le-leb, lt-leb}
 use Rattle.block.specs.Laws.{product-fits}
-use Rattle.replay.specs.Memory.{numbersFit}
+use Rattle.session.specs.Memory.{numbersFit}
 use Rattle.replay.proofs.checks.numbers_fit.Statement.{statement}
 use Rattle.replay.proofs.checks.numbers_fit.Tie as tie
 

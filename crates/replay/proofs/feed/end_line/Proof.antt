@@ -5,8 +5,8 @@ use native.Mathlib.Nat.{sub-zero}
 use native.Mathlib.Omega.{arith}
 use lib.ListN.{take}
 use Rattle.lines.specs.Lines.{parsed}
-use Rattle.replay.specs.Bytewise.{firstLine, laterLine}
-use Rattle.replay.specs.Memory.{memory, stateIn, stored}
+use Rattle.session.specs.Bytewise.{firstLine, laterLine}
+use Rattle.session.specs.Memory.{memory, stateIn, stored}
 use Rattle.replay.proofs.Feeding.{quiet-same, end-first, end-later, end-over}
 use borrow.Author.Needs.{needs}
 use Rattle.replay.proofs.feed.end_line.Statement.{statement}
@@ -14,8 +14,8 @@ use Rattle.replay.proofs.feed.end_line.Tie as tie
 use Rattle.replay.proofs.feed.end_line.Reads as reads
 use Rattle.replay.proofs.feed.end_line.Lts as lts
 use Rattle.lines.proofs.parse.parse.Reads as parse-reads
-use Rattle.replay.proofs.line.first.Reads as first-reads
-use Rattle.replay.proofs.line.later.Reads as later-reads
+use Rattle.session.proofs.line.first.Reads as first-reads
+use Rattle.session.proofs.line.later.Reads as later-reads
 
 returns : tie.Need-returns
 unfolding stateIn

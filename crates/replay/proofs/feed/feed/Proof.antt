@@ -1,9 +1,9 @@
 -- By whether the memory fits, and the byte. Assumes nothing.
 use mathlib.Core.Path.{refl, sym, _∙_}
 use borrow.Author.Tests.{eq-eqb, ne-eqb, not-true, not-false}
-use Rattle.replay.specs.Bytewise.{byteIn}
-use Rattle.replay.specs.Memory.{memory, fed}
-use Rattle.replay.specs.MemoryLaws.{fitting}
+use Rattle.session.specs.Bytewise.{byteIn}
+use Rattle.session.specs.Memory.{memory, fed}
+use Rattle.session.specs.MemoryLaws.{fitting}
 use borrow.Author.Needs.{needs}
 use Rattle.replay.proofs.feed.feed.Statement.{statement}
 use Rattle.replay.proofs.feed.feed.Tie as tie

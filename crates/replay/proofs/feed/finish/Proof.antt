@@ -1,8 +1,8 @@
 -- The last line, and the counters after it. Assumes nothing.
 use mathlib.Core.Path.{refl, sym, _∙_}
 use borrow.Author.Tests.{not-true, not-false}
-use Rattle.replay.specs.Memory.{memory, ended, afterOf}
-use Rattle.replay.specs.MemoryLaws.{fitting}
+use Rattle.session.specs.Memory.{memory, ended, afterOf}
+use Rattle.session.specs.MemoryLaws.{fitting}
 use Rattle.replay.proofs.Feeding.{end-is}
 use borrow.Author.Needs.{needs}
 use Rattle.replay.proofs.feed.finish.Statement.{statement}

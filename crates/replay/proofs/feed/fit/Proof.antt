@@ -1,7 +1,7 @@
 -- Each test in turn is one of the definition. Assumes nothing.
 use mathlib.Core.Path.{refl, sym, _∙_}
 use borrow.Author.Tests.{not-true, not-false}
-use Rattle.replay.specs.Memory.{fits}
+use Rattle.session.specs.Memory.{fits}
 use borrow.Author.Needs.{needs}
 use Rattle.replay.proofs.feed.fit.Statement.{statement}
 use Rattle.replay.proofs.feed.fit.Tie as tie

@@ -1,5 +1,5 @@
 -- By whether there is room. Assumes nothing.
-use Rattle.replay.specs.Memory.{memory}
+use Rattle.session.specs.Memory.{memory}
 use Rattle.replay.proofs.Feeding.{kept-more, kept-full}
 use borrow.Author.Needs.{needs}
 use Rattle.replay.proofs.feed.keep_byte.Statement.{statement}

@@ -3,7 +3,7 @@ use mathlib.Core.Path.{sym, ap, _∙_, subst}
 use Prim.Native.Nat.{_≤_}
 use native.Mathlib.Omega.{arith}
 use lib.Seq.{length-take-le}
-use Rattle.replay.specs.Memory.{memory, stateIn, stored}
+use Rattle.session.specs.Memory.{memory, stateIn, stored}
 use Rattle.replay.proofs.Feeding.{quiet-same, last-first, last-none, last-some}
 use borrow.Author.Needs.{needs}
 use Rattle.replay.proofs.feed.last_line.Statement.{statement}

@@ -4,11 +4,11 @@ use native.Mathlib.Omega.{arith}
 use borrow.Author.Needs.{needs}
 use Rattle.refusals.specs.Given.{numbersOf, countersOf}
 use Rattle.answers.specs.Replay.{started}
-use Rattle.replay.proofs.Boxing.{first-length, put-back}
-use Rattle.replay.proofs.line.open_box.Statement.{statement}
-use Rattle.replay.proofs.line.open_box.Tie as tie
-use Rattle.replay.proofs.line.open_box.Reads as reads
-use Rattle.replay.proofs.line.open_box.Lts as lts
+use Rattle.session.proofs.Boxing.{first-length, put-back}
+use Rattle.session.proofs.line.open_box.Statement.{statement}
+use Rattle.session.proofs.line.open_box.Tie as tie
+use Rattle.session.proofs.line.open_box.Reads as reads
+use Rattle.session.proofs.line.open_box.Lts as lts
 use Rattle.answers.proofs.start.start.Reads as start-reads
 
 start-requires : tie.Need-start-requires

@@ -14,9 +14,9 @@ use Rattle.parts.specs.declared.BoxRecord.{BoxRecord}
 use Rattle.refusals.specs.Given.{numbersOf, countersOf}
 use Rattle.answers.specs.Put.{Put}
 use Rattle.answers.specs.Replay.{boxRefusal, boxNumbers, started, answerText}
-use Rattle.replay.specs.Bytewise.{State, firstLine}
+use Rattle.session.specs.Bytewise.{State, firstLine}
 use Rattle.answers.specs.Done.{recordOf}
-use Rattle.replay.specs.Memory.{Buffers, Held, held, over, Memory, After, codeCounters, stored}
+use Rattle.session.specs.Memory.{Buffers, Held, held, over, Memory, After, codeCounters, stored}
 
 pub line-done : (M : Memory) (stage number : ℕ) (x : BoxRecord) (k : Code.Counters) (N : Numbers) (t : Lent) (text : List ℕ) (B : Buffers) (out : List ℕ) (r : ℕ)
     → numbersOf x ≡ N → held (x .held) (countersOf k) B ≡ over t (M .buffers) → Put 0 text (M .out) r out

@@ -7,17 +7,17 @@ use Rattle.block.specs.Blocks.{splice}
 use Rattle.paper.specs.Lent.{unfit}
 use Rattle.refusals.specs.Given.{numbersOf, countersOf}
 use Rattle.answers.specs.Replay.{boxNumbers, started}
-use Rattle.replay.specs.Memory.{memory, over, stateIn, stored, Holds}
-use Rattle.replay.specs.MemoryLaws.{opened-fits}
-use Rattle.replay.proofs.Boxing.{over-same}
-use Rattle.replay.proofs.Lining.{line-done, refused-is, begun-is}
-use Rattle.replay.proofs.line.first.Statement.{statement}
-use Rattle.replay.proofs.line.first.Tie as tie
-use Rattle.replay.proofs.line.first.Reads as reads
-use Rattle.replay.proofs.line.first.Lts as lts
+use Rattle.session.specs.Memory.{memory, over, stateIn, stored, Holds}
+use Rattle.session.specs.MemoryLaws.{opened-fits}
+use Rattle.session.proofs.Boxing.{over-same}
+use Rattle.session.proofs.Lining.{line-done, refused-is, begun-is}
+use Rattle.session.proofs.line.first.Statement.{statement}
+use Rattle.session.proofs.line.first.Tie as tie
+use Rattle.session.proofs.line.first.Reads as reads
+use Rattle.session.proofs.line.first.Lts as lts
 use Rattle.answers.proofs.boxes.box_of.Reads as box-of-reads
 use Rattle.answers.proofs.boxes.box_refusal.Reads as box-refusal-reads
-use Rattle.replay.proofs.line.open_box.Reads as open-box-reads
+use Rattle.session.proofs.line.open_box.Reads as open-box-reads
 use Rattle.answers.proofs.print.answer.Reads as answer-reads
 
 returns : tie.Need-returns

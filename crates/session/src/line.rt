@@ -20,8 +20,8 @@ ghost use Rattle.paper.specs.Lent.{unfit};
 ghost use Rattle.refusals.specs.Given.{numbersOf, countersOf};
 ghost use Rattle.policy.specs.Contract.{answerOf};
 ghost use Rattle.answers.specs.Replay.{started, asked, doing};
-ghost use Rattle.replay.specs.Bytewise.{firstLine, laterLine};
-ghost use Rattle.replay.specs.Memory.{buffers, within, held, over, memory, Sized, Holds, stateIn, stored, afterOf};
+ghost use Rattle.session.specs.Bytewise.{firstLine, laterLine};
+ghost use Rattle.session.specs.Memory.{buffers, within, held, over, memory, Sized, Holds, stateIn, stored, afterOf};
 
 // Opens a box of fitting numbers.
 fn open_box(

@@ -15,7 +15,7 @@ use Rattle.paper.specs.Cache.{Counters}
 use Rattle.paper.specs.Lent.{Lent}
 use Rattle.parts.specs.declared.BoxRecord.{BoxRecord}
 use Rattle.refusals.specs.Given.{lent}
-use Rattle.replay.specs.Memory.{buffers, held, within, over, Sized, Holds}
+use Rattle.session.specs.Memory.{buffers, held, within, over, Sized, Holds}
 
 -- a first part is as long as it says
 pub first-length : (n : ℕ) (d : List ℕ) → n ≤ length d → length (take (n - 0) d) ≡ n

@@ -12,9 +12,9 @@ use Rattle.refusals.specs.Given.{numbersOf, countersOf, lent}
 use Rattle.paper.specs.Cache.{Counters}
 use Rattle.paper.specs.Lent.{Lent}
 use Rattle.answers.specs.Done.{recordOf}
-use Rattle.replay.specs.Bytewise.{State, Printed, byteIn, atEnd}
-use Rattle.replay.specs.declared.Session.{Session}
-use Rattle.replay.specs.declared.Fed.{Fed}
+use Rattle.session.specs.Bytewise.{State, Printed, byteIn, atEnd}
+use Rattle.session.specs.declared.Session.{Session}
+use Rattle.session.specs.declared.Fed.{Fed}
 
 -- ---- the buffers of the box
 

@@ -1,0 +1,5 @@
+-- the replay byte by byte, and its state in lent buffers
+pub mod Bytewise
+pub mod Memory
+-- a state that is written over lent buffers is read back
+pub mod MemoryLaws
