@@ -21,9 +21,10 @@ use Rattle.refusals.specs.Given.{numbersOf, countersOf, lent}
 use Rattle.policy.specs.Look.{whereIs, answerAt, partAt}
 use Rattle.policy.specs.Look as Found
 use Rattle.policy.specs.LookLaws.{PartIn, where-in, look-answers, look-returns}
-use Rattle.service.specs.Fields.{get8, recordIn, countersIn, putAnswer, fitting}
-use Rattle.service.specs.FieldLaws.{word-read, second-read, third-read}
-use Rattle.service.specs.Left.{numberOf, LeftLook, startOf, placeIn, lentIn, leavesLook, shown, wordIn, Shows}
+use Rattle.fields.specs.Fields.{get8, recordIn, countersIn, putAnswer, fitting}
+use Rattle.fields.specs.FieldLaws.{word-read, second-read, third-read}
+use Rattle.fields.specs.Noted.{numberOf, LeftLook, startOf, placeIn}
+use Rattle.service.specs.Left.{lentIn, leavesLook, shown, wordIn, Shows}
 
 -- a place that is refused has a number
 pub numbered : (N : Numbers) (t : Lent) (a : ℕ) → whereIs N t a ≡ Refused 0 → ⊥

@@ -1,25 +1,17 @@
 -- An opening on bytes, from what the cache's opening tells and what is written of it. Assumes nothing.
-use mathlib.Core.Path.{_≡_, refl, sym, ap, _∙_}
+use mathlib.Core.Path.{_≡_, refl, ap, _∙_}
 use mathlib.Core.List.{List}
 use Prim.Native.Nat.{ℕ}
 use lib.ListN.{length}
 use borrow.Author.Tests.{eq-eqb, ne-eqb}
 use Rattle.counters.specs.declared.Counters as Code
-use Rattle.paper.specs.Cache.{Counters}
 use Rattle.parts.specs.declared.BoxRecord.{BoxRecord}
 use Rattle.policy.specs.declared.open.Begun.{Begun}
 use Rattle.refusals.specs.Given.{countersOf}
 use Rattle.policy.specs.Contract.{numberOf, Opened, begun, opens}
-use Rattle.service.specs.Fields.{put8, recordIn, countersIn, putState}
-use Rattle.service.specs.Left.{LeftOpen, freshRecord, opening, openedIn, leavesOpen}
-
--- what is written of an opening
-module _ (said number n : ℕ) (k : Counters) (s s′ : List ℕ) (e : number ≡ said) where
-  pub opened-state : number ≡ 0 → s′ ≡ putState n k s → (number ≡ said) × (s′ ≡ opening said n k s)
-  opened-state z es = (e, es ∙ rw (eq-eqb said 0 (sym e ∙ z)) refl)
-
-  pub refused-state : (number ≡ 0 → ⊥) → s′ ≡ put8 32 n s → (number ≡ said) × (s′ ≡ opening said n k s)
-  refused-state z es = (e, es ∙ rw (ne-eqb said 0 (λ w. z (e ∙ w))) refl)
+use Rattle.fields.specs.Fields.{recordIn, countersIn}
+use Rattle.fields.specs.Noted.{opening}
+use Rattle.service.specs.Left.{LeftOpen, freshRecord, openedIn, leavesOpen}
 
 module _ (s disk flash addresses blocks : List ℕ) where
   -- a wrong length: nothing is changed

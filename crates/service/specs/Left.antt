@@ -4,50 +4,21 @@ use mathlib.Core.Bool.{cond}
 use mathlib.Core.List.{List}
 use mathlib.Core.Option.{Option}
 use mathlib.Core.Path.{_≡_}
-use Prim.Native.Nat.{ℕ, _*_}
+use Prim.Native.Nat.{ℕ}
 use lib.Dec.{eqb}
 use lib.ListN.{length}
 use Rattle.block.specs.Blocks.{part}
-use Rattle.tables.specs.declared.FlashSlot.{FlashSlot}
-use Rattle.paper.specs.Cache.{Counters}
-use Rattle.paper.specs.Lent.{Numbers, Lent, Ask, Answer, refused, answered, After, lentBlock, call}
+use Rattle.paper.specs.Lent.{Lent, Ask, Answer, refused, answered, After, lentBlock, call}
 use Rattle.parts.specs.declared.BoxRecord.{BoxRecord}
-use Rattle.policy.specs.declared.look.Place.{Place}
-use Rattle.policy.specs.declared.look.Place.the-variants.{Refused, Flash, Disk}
 use Rattle.refusals.specs.Given.{numbersOf, countersOf, lent}
 use Rattle.policy.specs.Contract.{Opened, opens}
 use Rattle.policy.specs.Look.{whereIs}
-use Rattle.service.specs.Fields.{get8, put8, recordIn, countersIn, putState, putAnswer, wordNumber, fitting}
+use Rattle.fields.specs.Fields.{get8, recordIn, countersIn, wordNumber, fitting}
+use Rattle.fields.specs.Noted.{numberOf, stateAfter, answerAfter, opening, LeftLook, placeIn}
 
 -- what is lent, of the state's bytes and the four buffers
 abbrev pub lentIn : (state disk flash addresses blocks : List ℕ) → Lent
 lentIn s disk flash addresses blocks = lent (recordIn s) disk flash addresses blocks (countersOf (countersIn s))
-
--- ---- what an answer of the paper is in numbers and bytes
-
--- the number returned: that of the refusal, 0 where the call is served
-abbrev pub numberOf : Answer → ℕ
-numberOf (refused k) = k
-numberOf (answered w f p) = 0
-
--- the state: a refused call keeps it
-abbrev pub stateAfter : Answer → ℕ → Counters → List ℕ → List ℕ
-stateAfter (refused k) n c s = s
-stateAfter (answered w f p) n c s = putState n c s
-
--- the answer's bytes: a refused call keeps them
-abbrev pub answerAfter : Answer → List ℕ → List ℕ
-answerAfter (refused k) l = l
-answerAfter (answered w f p) l = putAnswer (wordNumber w) f p l
-
--- the number, the state and the answer's bytes
-pub record Noted : Type 0 where
-  pub number : ℕ
-  pub state : List ℕ
-  pub answer : List ℕ
-
-abbrev pub noted : Answer → ℕ → Counters → (state answer : List ℕ) → Noted
-noted a n c s l = record { number = numberOf a; state = stateAfter a n c s; answer = answerAfter a l }
 
 -- ---- the calls
 
@@ -95,10 +66,6 @@ pub record LeftOpen : Type 0 where
 abbrev pub freshRecord : List ℕ → BoxRecord
 freshRecord s = record { size = get8 s 0; blocks = get8 s 8; rows = get8 s 16; slots = get8 s 24; held = 0 }
 
--- the state: a refused opening writes n alone
-abbrev pub opening : (number n : ℕ) → Counters → List ℕ → List ℕ
-opening number n k s = cond (eqb number 0) (putState n k s) (put8 32 n s)
-
 unfoldable pub openedIn : List ℕ → Opened → LeftOpen
 openedIn s x =
     record {
@@ -115,22 +82,6 @@ leavesOpen s disk flash addresses blocks =
     (record { number = 2; state = s; addresses = addresses; blocks = blocks })
 
 -- ---- look
-
-pub record LeftLook : Type 0 where
-  pub number : ℕ
-  pub answer : List ℕ
-
--- where the part starts
-abbrev pub startOf : (B a : ℕ) → Place → ℕ
-startOf B a (Refused k) = 0
-startOf B a (Flash s) = s .0 * B
-startOf B a Disk = a * B
-
--- a refused look keeps the answer's bytes
-abbrev pub placeIn : (B a : ℕ) → List ℕ → Place → LeftLook
-placeIn B a l (Refused k) = record { number = k; answer = l }
-placeIn B a l (Flash s) = record { number = 0; answer = putAnswer 5 (s .0 * B) B l }
-placeIn B a l Disk = record { number = 0; answer = putAnswer 6 (a * B) B l }
 
 unfoldable pub leavesLook : ℕ → (state disk flash addresses blocks answer : List ℕ) → LeftLook
 leavesLook a s disk flash addresses blocks l =

@@ -1,14 +1,12 @@
 // The service that C calls: numbers and byte slices. Each call reads the box record and the counters in the state's bytes,
 // does the cache's call, and writes what it tells into the state and the answer.
-mod fields;
-
 use tables::SourceAddress;
 ghost use mathlib.Core.Path.{_≡_};
 ghost use mathlib.Core.Option.{Option};
 ghost use mathlib.Core.Bool.{true};
 ghost use Rattle.paper.specs.Lent.{Ask, call};
 ghost use Rattle.refusals.specs.Given.{numbersOf};
-ghost use Rattle.service.specs.Fields.{recordIn, fitting};
+ghost use Rattle.fields.specs.Fields.{recordIn, fitting};
 ghost use Rattle.service.specs.Left.{lentIn, leaves, leavesOpen, leavesLook, Shows};
 
 // Reads the block at `address` into `block`.

@@ -8,8 +8,8 @@ use borrow.Author.Needs.{needs}
 use borrow.Author.Tests.{not-true, not-false}
 use Rattle.paper.specs.RowBytes.{Bytes}
 use Rattle.policy.specs.CallLaws.{all-bytes}
-use Rattle.service.specs.Fields.{fitting}
-use Rattle.service.specs.FieldLaws.{get8-below}
+use Rattle.fields.specs.Fields.{fitting}
+use Rattle.fields.specs.FieldLaws.{get8-below}
 use Rattle.service.proofs.Noting.{lengths}
 use Rattle.service.proofs.Looked.{not-looked, starts-below, looked, looked-shows}
 use Rattle.service.proofs.mindavehu_look.Statement.{statement}

@@ -4,7 +4,7 @@ use mathlib.Core.Bool.{true}
 use borrow.Author.Needs.{needs}
 use borrow.Author.Tests.{not-true, not-false}
 use Rattle.paper.specs.Lent.{Ask}
-use Rattle.service.specs.Fields.{fitting}
+use Rattle.fields.specs.Fields.{fitting}
 use Rattle.service.proofs.Noting.{lengths, unchanged, changed}
 use Rattle.service.proofs.mindavehu_write_through.Statement.{statement}
 use Rattle.service.proofs.mindavehu_write_through.Tie as tie

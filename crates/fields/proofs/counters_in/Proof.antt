@@ -1,8 +1,8 @@
 -- Each counter is the eight bytes at its place. Assumes nothing.
 use borrow.Author.Needs.{needs}
-use Rattle.service.specs.Fields.{get8}
-use Rattle.service.proofs.fields.counters_in.Statement.{statement}
-use Rattle.service.proofs.fields.counters_in.Tie as tie
+use Rattle.fields.specs.Fields.{get8}
+use Rattle.fields.proofs.counters_in.Statement.{statement}
+use Rattle.fields.proofs.counters_in.Tie as tie
 
 returns : tie.Need-returns
 unfolding get8

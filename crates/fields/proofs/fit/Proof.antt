@@ -1,7 +1,7 @@
 -- By the state's length. Assumes nothing.
-use Rattle.service.proofs.Noting.{fitting-is, not-fitting}
-use Rattle.service.proofs.fields.fit.Statement.{statement}
-use Rattle.service.proofs.fields.fit.Tie as tie
+use Rattle.fields.proofs.Writing.{fitting-is, not-fitting}
+use Rattle.fields.proofs.fit.Statement.{statement}
+use Rattle.fields.proofs.fit.Tie as tie
 
 returns : tie.Need-returns
 returns c = not-fitting _ _ (c .if1 .taken)

@@ -1,8 +1,8 @@
 -- Five numbers written one after the other. Assumes nothing.
 use borrow.Author.Needs.{needs}
-use Rattle.service.specs.Fields.{put8, putState}
-use Rattle.service.proofs.fields.put_state.Statement.{statement}
-use Rattle.service.proofs.fields.put_state.Tie as tie
+use Rattle.fields.specs.Fields.{put8, putState}
+use Rattle.fields.proofs.put_state.Statement.{statement}
+use Rattle.fields.proofs.put_state.Tie as tie
 
 returns : tie.Need-returns
 unfolding putState put8

@@ -1,9 +1,9 @@
 -- By the answer: refused, nothing is written; else the state and the answer. Assumes nothing.
 use borrow.Author.Needs.{needs}
 use Rattle.refusals.specs.Given.{countersOf}
-use Rattle.service.proofs.Noting.{noted-refused, noted-served}
-use Rattle.service.proofs.fields.write_outcome.Statement.{statement}
-use Rattle.service.proofs.fields.write_outcome.Tie as tie
+use Rattle.fields.proofs.Writing.{noted-refused, noted-served}
+use Rattle.fields.proofs.write_outcome.Statement.{statement}
+use Rattle.fields.proofs.write_outcome.Tie as tie
 
 returns : tie.Need-returns
 returns c =

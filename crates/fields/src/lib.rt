@@ -15,8 +15,8 @@ ghost use Rattle.refusals.specs.Given.{countersOf};
 ghost use Rattle.policy.specs.Contract.{wordOf, answerOf, numberOf};
 ghost use Rattle.block.specs.Blocks.{splice};
 ghost use Rattle.tables.specs.Rows.{le8};
-ghost use Rattle.service.specs.Fields.{lowBytes, recordIn, countersIn, putState, putAnswer, wordNumber, fitting};
-ghost use Rattle.service.specs.Left.{noted, opening, startOf, placeIn};
+ghost use Rattle.fields.specs.Fields.{lowBytes, recordIn, countersIn, putState, putAnswer, wordNumber, fitting};
+ghost use Rattle.fields.specs.Noted.{noted, opening, startOf, placeIn};
 
 // A byte, widened.
 fn wide(x: u8) -> u64
@@ -26,7 +26,7 @@ fn wide(x: u8) -> u64
 }
 
 // The number in the eight bytes from index `at` on, little-endian.
-pub(crate) fn get8(s: &[u8], at: usize) -> u64
+pub fn get8(s: &[u8], at: usize) -> u64
     requires { ⌜ at + 8 ≤ length (now s) ⌝ }
     ensures { λ r. ⌜ r ≡ le8 (now (s .entry)) at ⌝ }
 {
@@ -41,7 +41,7 @@ pub(crate) fn get8(s: &[u8], at: usize) -> u64
 }
 
 // Writes the eight bytes of `v` from index `at` on, little-endian.
-pub(crate) fn put8(s: &mut [u8], at: usize, v: u64)
+pub fn put8(s: &mut [u8], at: usize, v: u64)
     requires { ⌜ at + 8 ≤ length (now s) ⌝ }
     ensures { λ _. ⌜ now (s .exit) ≡ splice at (lowBytes 8 v) (now (s .entry)) ⌝ }
 {
@@ -59,7 +59,7 @@ pub(crate) fn put8(s: &mut [u8], at: usize, v: u64)
 }
 
 // Whether the state has 72 bytes and the answer 24.
-pub(crate) fn fit(state: &[u8], answer: &[u8]) -> bool
+pub fn fit(state: &[u8], answer: &[u8]) -> bool
     ensures { λ r. ⌜ r ≡ fitting (now (state .entry)) (now (answer .entry)) ⌝ }
 {
     if state.len() != 72 {
@@ -69,7 +69,7 @@ pub(crate) fn fit(state: &[u8], answer: &[u8]) -> bool
 }
 
 // The box record in the state.
-pub(crate) fn record_in(state: &[u8]) -> BoxRecord
+pub fn record_in(state: &[u8]) -> BoxRecord
     requires { ⌜ length (now state) ≡ 72 ⌝ }
     ensures { λ r. ⌜ r ≡ recordIn (now (state .entry)) ⌝ }
 {
@@ -83,7 +83,7 @@ pub(crate) fn record_in(state: &[u8]) -> BoxRecord
 }
 
 // The counters in the state.
-pub(crate) fn counters_in(state: &[u8]) -> Counters
+pub fn counters_in(state: &[u8]) -> Counters
     requires { ⌜ length (now state) ≡ 72 ⌝ }
     ensures { λ r. ⌜ r ≡ countersIn (now (state .entry)) ⌝ }
 {
@@ -96,7 +96,7 @@ pub(crate) fn counters_in(state: &[u8]) -> Counters
 }
 
 // Writes n and the counters into the state.
-pub(crate) fn put_state(state: &mut [u8], held: usize, c: Counters)
+pub fn put_state(state: &mut [u8], held: usize, c: Counters)
     requires { ⌜ length (now state) ≡ 72 ⌝ }
     ensures { λ _. ⌜ now (state .exit) ≡ putState held (countersOf c) (now (state .entry)) ⌝ }
 {
@@ -108,7 +108,7 @@ pub(crate) fn put_state(state: &mut [u8], held: usize, c: Counters)
 }
 
 // Writes an answer's three numbers.
-pub(crate) fn put_answer(answer: &mut [u8], word: u64, second: usize, third: usize)
+pub fn put_answer(answer: &mut [u8], word: u64, second: usize, third: usize)
     requires { ⌜ length (now answer) ≡ 24 ⌝ }
     ensures { λ _. ⌜ now (answer .exit) ≡ putAnswer word second third (now (answer .entry)) ⌝ }
 {
@@ -118,7 +118,7 @@ pub(crate) fn put_answer(answer: &mut [u8], word: u64, second: usize, third: usi
 }
 
 // The number of a word.
-pub(crate) fn word_number(w: Word) -> u64
+pub fn word_number(w: Word) -> u64
     ensures { λ r. ⌜ r ≡ wordNumber (wordOf w) ⌝ }
 {
     match w {
@@ -133,7 +133,7 @@ pub(crate) fn word_number(w: Word) -> u64
 }
 
 // Writes what a call tells into the state and the answer. The number of the refusal, 0 where the call was served.
-pub(crate) fn write_outcome(state: &mut [u8], answer: &mut [u8], o: Outcome) -> u32
+pub fn write_outcome(state: &mut [u8], answer: &mut [u8], o: Outcome) -> u32
     requires { ⌜ (length (now state) ≡ 72) × (length (now answer) ≡ 24) ⌝ }
     ensures { λ r. ⌜ record { number = r; state = now (state .exit); answer = now (answer .exit) }
         ≡ noted (answerOf (o .answer)) (o .box_record .held) (countersOf (o .counters)) (now (state .entry)) (now (answer .entry)) ⌝ }
@@ -152,7 +152,7 @@ pub(crate) fn write_outcome(state: &mut [u8], answer: &mut [u8], o: Outcome) -> 
 }
 
 // Writes what an opening tells into the state: n alone where it was refused. The number of the refusal, 0 where the box is open.
-pub(crate) fn write_opening(state: &mut [u8], o: Begun) -> u32
+pub fn write_opening(state: &mut [u8], o: Begun) -> u32
     requires { ⌜ length (now state) ≡ 72 ⌝ }
     ensures { λ r. ⌜ (r ≡ numberOf (o .answer)) × (now (state .exit) ≡ opening (numberOf (o .answer)) (o .box_record .held) (countersOf (o .counters)) (now (state .entry))) ⌝ }
 {
@@ -179,7 +179,7 @@ fn opening_number(a: Opening) -> u32
 }
 
 // Writes the place of a look's part into the answer. The number of the refusal, 0 where the look was served.
-pub(crate) fn write_place(answer: &mut [u8], size: usize, address: SourceAddress, p: Place) -> u32
+pub fn write_place(answer: &mut [u8], size: usize, address: SourceAddress, p: Place) -> u32
     requires { ⌜ (length (now answer) ≡ 24) × (startOf size (address .0) p < 2 ^ 64) ⌝ }
     ensures { λ r. ⌜ record { number = r; answer = now (answer .exit) } ≡ placeIn size (address .0) (now (answer .entry)) p ⌝ }
 {

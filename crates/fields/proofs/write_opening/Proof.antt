@@ -2,10 +2,10 @@
 use borrow.Author.Needs.{needs}
 use Rattle.refusals.specs.Given.{countersOf}
 use Rattle.policy.specs.Contract.{numberOf}
-use Rattle.service.specs.Fields.{put8}
-use Rattle.service.proofs.Opening.{opened-state, refused-state}
-use Rattle.service.proofs.fields.write_opening.Statement.{statement}
-use Rattle.service.proofs.fields.write_opening.Tie as tie
+use Rattle.fields.specs.Fields.{put8}
+use Rattle.fields.proofs.Writing.{opened-state, refused-state}
+use Rattle.fields.proofs.write_opening.Statement.{statement}
+use Rattle.fields.proofs.write_opening.Tie as tie
 
 returns : tie.Need-returns
 returns c =

@@ -4,10 +4,10 @@ use Prim.Native.Nat.{_<_, _^_}
 use native.Mathlib.Omega.{arith}
 use borrow.Author.Needs.{needs}
 use Rattle.policy.specs.declared.look.Place.{Place}
-use Rattle.service.specs.Left.{startOf}
-use Rattle.service.proofs.Noting.{placed-refused, placed-flash, placed-disk}
-use Rattle.service.proofs.fields.write_place.Statement.{statement}
-use Rattle.service.proofs.fields.write_place.Tie as tie
+use Rattle.fields.specs.Noted.{startOf}
+use Rattle.fields.proofs.Writing.{placed-refused, placed-flash, placed-disk}
+use Rattle.fields.proofs.write_place.Statement.{statement}
+use Rattle.fields.proofs.write_place.Tie as tie
 
 mul-put-answer : tie.Need-mul-put-answer
 mul-put-answer c =

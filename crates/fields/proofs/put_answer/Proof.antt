@@ -1,8 +1,8 @@
 -- Three numbers written one after the other. Assumes nothing.
 use borrow.Author.Needs.{needs}
-use Rattle.service.specs.Fields.{put8, putAnswer}
-use Rattle.service.proofs.fields.put_answer.Statement.{statement}
-use Rattle.service.proofs.fields.put_answer.Tie as tie
+use Rattle.fields.specs.Fields.{put8, putAnswer}
+use Rattle.fields.proofs.put_answer.Statement.{statement}
+use Rattle.fields.proofs.put_answer.Tie as tie
 
 returns : tie.Need-returns
 unfolding putAnswer put8

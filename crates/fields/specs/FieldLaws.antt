@@ -12,7 +12,7 @@ use Rattle.block.specs.Laws.{length-splice}
 use Rattle.paper.specs.Cache.{Counters}
 use Rattle.parts.specs.declared.BoxRecord.{BoxRecord}
 use Rattle.refusals.specs.Given.{countersOf}
-use Rattle.service.specs.Fields.{lowBytes, get8, put8, recordIn, countersIn, putState, putAnswer}
+use Rattle.fields.specs.Fields.{lowBytes, get8, put8, recordIn, countersIn, putState, putAnswer}
 
 -- ---- a list written over another
 

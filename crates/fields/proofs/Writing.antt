@@ -1,0 +1,59 @@
+-- The lengths, and what is written of an answer, a look's place and an opening. Assumes nothing.
+use mathlib.Core.Path.{_≡_, refl, sym, ap, _∙_}
+use mathlib.Core.Bool.{false}
+use mathlib.Core.List.{List}
+use Prim.Native.Nat.{ℕ, _*_}
+use lib.Dec.{eqb}
+use lib.ListN.{length}
+use borrow.Author.Tests.{ne-eqb, eq-eqb}
+use Rattle.tables.specs.declared.FlashSlot.{FlashSlot}
+use Rattle.paper.specs.Cache.{Counters}
+use Rattle.policy.specs.declared.Word.{Word}
+use Rattle.policy.specs.declared.Answer.{Answer}
+use Rattle.policy.specs.declared.Answer.the-variants.{Refused, Answered}
+use Rattle.policy.specs.declared.look.Place.{Place}
+use Rattle.policy.specs.declared.look.Place.the-variants.{Refused as NoPlace, Flash, Disk}
+use Rattle.policy.specs.Contract.{wordOf, answerOf}
+use Rattle.fields.specs.Fields.{put8, putState, putAnswer, wordNumber, fitting}
+use Rattle.fields.specs.Noted.{Noted, noted, LeftLook, placeIn, opening}
+
+-- ---- the lengths
+
+pub fitting-is : (s l : List ℕ) → length s ≡ 72 → eqb (length l) 24 ≡ fitting s l
+unfolding fitting
+fitting-is s l h = rw (eq-eqb (length s) 72 h) refl
+
+pub not-fitting : (s l : List ℕ) → (length s ≡ 72 → ⊥) → false ≡ fitting s l
+unfolding fitting
+not-fitting s l h = rw (ne-eqb (length s) 72 h) refl
+
+-- ---- what is written of an answer
+
+module _ (a : Answer) (n : ℕ) (k : Counters) (s l : List ℕ) where
+  pub noted-refused : (number : ℕ) → a ≡ Refused number → _≡_ {A = Noted} (record { number = number; state = s; answer = l }) (noted (answerOf a) n k s l)
+  noted-refused number e = rw e refl
+
+  pub noted-served : (w : Word) (f p u : ℕ) (s′ l′ : List ℕ) → a ≡ Answered w f p → s′ ≡ putState n k s → u ≡ wordNumber (wordOf w) → l′ ≡ putAnswer u f p l
+      → _≡_ {A = Noted} (record { number = 0; state = s′; answer = l′ }) (noted (answerOf a) n k s l)
+  noted-served w f p u s′ l′ e es eu el = rw e (λ i. record { number = 0; state = es i; answer = (el ∙ ap (λ (x : ℕ). putAnswer x f p l) eu) i })
+
+-- ---- what is written of a look's place
+
+module _ (p : Place) (B a : ℕ) (l : List ℕ) where
+  pub placed-refused : (number : ℕ) → p ≡ NoPlace number → _≡_ {A = LeftLook} (record { number = number; answer = l }) (placeIn B a l p)
+  placed-refused number e = rw e refl
+
+  pub placed-flash : (s : FlashSlot) (l′ : List ℕ) → p ≡ Flash s → l′ ≡ putAnswer 5 (s .0 * B) B l → _≡_ {A = LeftLook} (record { number = 0; answer = l′ }) (placeIn B a l p)
+  placed-flash s l′ e el = rw e (λ i. record { number = 0; answer = el i })
+
+  pub placed-disk : (l′ : List ℕ) → p ≡ Disk → l′ ≡ putAnswer 6 (a * B) B l → _≡_ {A = LeftLook} (record { number = 0; answer = l′ }) (placeIn B a l p)
+  placed-disk l′ e el = rw e (λ i. record { number = 0; answer = el i })
+
+-- ---- what is written of an opening
+
+module _ (said number n : ℕ) (k : Counters) (s s′ : List ℕ) (e : number ≡ said) where
+  pub opened-state : number ≡ 0 → s′ ≡ putState n k s → (number ≡ said) × (s′ ≡ opening said n k s)
+  opened-state z es = (e, es ∙ rw (eq-eqb said 0 (sym e ∙ z)) refl)
+
+  pub refused-state : (number ≡ 0 → ⊥) → s′ ≡ put8 32 n s → (number ≡ said) × (s′ ≡ opening said n k s)
+  refused-state z es = (e, es ∙ rw (ne-eqb said 0 (λ w. z (e ∙ w))) refl)
