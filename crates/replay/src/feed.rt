@@ -3,7 +3,6 @@ use crate::Fed;
 use crate::Session;
 use crate::checks;
 use crate::line;
-use answers::print;
 use counters::Counters;
 use step::BoxRecord;
 ghost use mathlib.Core.Path.{_≡_};
@@ -13,8 +12,8 @@ ghost use Prim.Native.Nat.{ℕ, _≤_};
 ghost use lib.Dec.{eqb};
 ghost use lib.ListN.{length};
 ghost use Rattle.refusals.specs.Given.{countersOf};
-ghost use Rattle.answers.specs.Put.{Put};
-ghost use Rattle.answers.specs.Replay.{countersText};
+ghost use Rattle.print.specs.Put.{Put};
+ghost use Rattle.print.specs.Texts.{countersText};
 ghost use Rattle.replay.specs.Bytewise.{endLine, keep, quiet, lastLine};
 ghost use Rattle.replay.specs.Memory.{memory, Sized, Holds, fits, stateIn, stored, fed, ended, afterOf};
 
