@@ -1,4 +1,3 @@
-pub mod Digits
 pub mod Doing
 pub mod Filling
 pub mod Starting

@@ -1,5 +1,4 @@
 // What each line of a list does and prints.
 pub mod boxes;
 pub mod call;
-pub mod print;
 pub mod start;

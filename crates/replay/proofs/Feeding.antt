@@ -12,12 +12,12 @@ use borrow.Author.Tests.{eq-eqb, ne-eqb, lt-ltb, le-ltb}
 use Rattle.block.specs.Blocks.{splice}
 use Rattle.lines.specs.Lines.{parsed}
 use Rattle.refusals.specs.Given.{countersOf}
-use Rattle.answers.specs.Put.{Put}
-use Rattle.answers.specs.Replay.{countersText}
+use Rattle.print.specs.Put.{Put}
+use Rattle.print.specs.Texts.{countersText}
 use Rattle.session.specs.Bytewise.{State, quiet, keep, firstLine, laterLine, endLine, lastLine, atEnd}
 use Rattle.session.specs.Memory.{Buffers, Held, Memory, After, over, stateIn, stored}
 use Rattle.session.specs.declared.Session.{Session}
-use Rattle.answers.specs.PutLaws.{splice-next}
+use Rattle.print.specs.PutLaws.{splice-next}
 use Rattle.session.proofs.Boxing.{splice-first, over-same}
 
 -- a session that keeps k bytes

@@ -12,7 +12,8 @@ use borrow.Author.Tests.{ltb-true, ltb-false}
 use Rattle.paper.specs.KeyedLaws.{by-test}
 use Rattle.paper.specs.Lent.{Numbers, Lent, refused}
 use Rattle.lines.specs.Lines.{onto, linesIn, lines, parsed}
-use Rattle.answers.specs.Replay.{boxRefusal, boxNumbers, started, asked, doing, answerText, next, laterLines, allLines, replay}
+use Rattle.print.specs.Texts.{answerText}
+use Rattle.answers.specs.Replay.{boxRefusal, boxNumbers, started, asked, doing, next, laterLines, allLines, replay}
 use Rattle.session.specs.Bytewise.{State, firstLine, laterLine, endLine, keep, byteIn, lastLine, atEnd, rest}
 
 -- ---- the bytes kept of a line

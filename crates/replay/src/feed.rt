@@ -1,6 +1,5 @@
 // Replay byte by byte: a byte of the input in, the text of the finished line out.
 use crate::checks;
-use answers::print;
 use counters::Counters;
 use session::Fed;
 use session::Session;
@@ -13,8 +12,8 @@ ghost use Prim.Native.Nat.{ℕ, _≤_};
 ghost use lib.Dec.{eqb};
 ghost use lib.ListN.{length};
 ghost use Rattle.refusals.specs.Given.{countersOf};
-ghost use Rattle.answers.specs.Put.{Put};
-ghost use Rattle.answers.specs.Replay.{countersText};
+ghost use Rattle.print.specs.Put.{Put};
+ghost use Rattle.print.specs.Texts.{countersText};
 ghost use Rattle.session.specs.Bytewise.{endLine, keep, quiet, lastLine};
 ghost use Rattle.session.specs.Memory.{memory, Sized, Holds, fits, stateIn, stored, fed, ended, afterOf};
 

@@ -1,1 +1,3 @@
 pub mod Chunks
+-- inputs beside their whole outputs, by computation on the definition
+pub mod Examples

@@ -12,8 +12,9 @@ use Rattle.paper.specs.Cache.{Counters}
 use Rattle.paper.specs.Lent.{Numbers, Lent, refused}
 use Rattle.parts.specs.declared.BoxRecord.{BoxRecord}
 use Rattle.refusals.specs.Given.{numbersOf, countersOf}
-use Rattle.answers.specs.Put.{Put}
-use Rattle.answers.specs.Replay.{boxRefusal, boxNumbers, started, answerText}
+use Rattle.print.specs.Put.{Put}
+use Rattle.print.specs.Texts.{answerText}
+use Rattle.answers.specs.Replay.{boxRefusal, boxNumbers, started}
 use Rattle.session.specs.Bytewise.{State, firstLine}
 use Rattle.answers.specs.Done.{recordOf}
 use Rattle.session.specs.Memory.{Buffers, Held, held, over, Memory, After, codeCounters, stored}

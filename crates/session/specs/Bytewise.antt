@@ -7,7 +7,8 @@ use lib.ListN.{length}
 use Rattle.paper.specs.Lent.{Numbers, Lent, refused}
 use Rattle.lines.specs.Lines.{parsed}
 use Rattle.lines.specs.declared.Command.{Command}
-use Rattle.answers.specs.Replay.{boxRefusal, boxNumbers, started, asked, doing, answerText, countersText, next}
+use Rattle.print.specs.Texts.{answerText, countersText}
+use Rattle.answers.specs.Replay.{boxRefusal, boxNumbers, started, asked, doing, next}
 
 -- The stage is 0 before line 1 has ended, 1 while the box is open, and above that when nothing more is printed. Of a line 33 bytes are kept:
 -- so many show that it is too long.

@@ -27,8 +27,9 @@ use Rattle.refusals.specs.Sizes.{most}
 use Rattle.lines.specs.Lines.{parsed}
 use Rattle.lines.specs.declared.Command.{Command}
 use Rattle.lines.specs.declared.Command.the-variants.{Box, Read, Look, Flush, Through, Back, Invalidate, Unformed}
-use Rattle.answers.specs.Replay.{large, boxRefusal, boxNumbers, startDisk, started, asked, doing, askText, wordText, countsText, answerText}
-use Rattle.answers.specs.DecimalLaws.{decimal-length}
+use Rattle.print.specs.Texts.{askText, wordText, countsText, answerText}
+use Rattle.answers.specs.Replay.{large, boxRefusal, boxNumbers, startDisk, started, asked, doing}
+use Rattle.print.specs.DecimalLaws.{decimal-length}
 use Rattle.session.specs.Bytewise.{State, Printed, firstLine, laterLine, endLine, keep, byteIn, atEnd}
 use Rattle.answers.specs.Done.{recordOf}
 use Rattle.session.specs.Memory.{Memory, Sized, Holds, lengthsFit, numbersFit, fits, over, stateIn, stored, fed, ended}

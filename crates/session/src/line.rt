@@ -3,7 +3,6 @@ use crate::Fed;
 use crate::Session;
 use answers::boxes;
 use answers::call;
-use answers::print;
 use answers::start;
 use counters::Counters;
 use lines::Command;

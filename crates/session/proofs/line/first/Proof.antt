@@ -18,7 +18,7 @@ use Rattle.session.proofs.line.first.Lts as lts
 use Rattle.answers.proofs.boxes.box_of.Reads as box-of-reads
 use Rattle.answers.proofs.boxes.box_refusal.Reads as box-refusal-reads
 use Rattle.session.proofs.line.open_box.Reads as open-box-reads
-use Rattle.answers.proofs.print.answer.Reads as answer-reads
+use Rattle.print.proofs.answer.Reads as answer-reads
 
 returns : tie.Need-returns
 unfolding stateIn

@@ -5,7 +5,8 @@ use native.Mathlib.Omega.{arith}
 use borrow.Author.Needs.{needs}
 use Rattle.refusals.specs.Given.{numbersOf, countersOf}
 use Rattle.policy.specs.Contract.{answerOf}
-use Rattle.answers.specs.Replay.{asked, doing, answerText}
+use Rattle.print.specs.Texts.{answerText}
+use Rattle.answers.specs.Replay.{asked, doing}
 use Rattle.session.specs.Bytewise.{laterLine}
 use Rattle.session.specs.Memory.{memory, within, stateIn, stored}
 use Rattle.session.proofs.Lining.{line-done}
@@ -14,7 +15,7 @@ use Rattle.session.proofs.line.later.Tie as tie
 use Rattle.session.proofs.line.later.Reads as reads
 use Rattle.session.proofs.line.later.Lts as lts
 use Rattle.session.proofs.line.call_box.Reads as call-box-reads
-use Rattle.answers.proofs.print.answer.Reads as answer-reads
+use Rattle.print.proofs.answer.Reads as answer-reads
 use Rattle.std.proofs.num.wrapping_add_u64.Reads as wrapping-add-u64-reads
 
 returns : tie.Need-returns

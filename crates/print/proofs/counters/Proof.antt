@@ -1,14 +1,14 @@
 -- The texts one after the other. Assumes nothing.
 use borrow.Author.Needs.{needs}
-use Rattle.answers.specs.Replay.{countersText}
+use Rattle.print.specs.Texts.{countersText}
 use native.Mathlib.Omega.{arith}
-use Rattle.answers.specs.PutLaws.{put-next}
-use Rattle.answers.proofs.print.counters.Statement.{statement}
-use Rattle.answers.proofs.print.counters.Tie as tie
-use Rattle.answers.proofs.print.counters.Reads as reads
-use Rattle.answers.proofs.print.counters.Lts as lts
-use Rattle.answers.proofs.print.named.Reads as named-reads
-use Rattle.answers.proofs.print.text.Reads as text-reads
+use Rattle.print.specs.PutLaws.{put-next}
+use Rattle.print.proofs.counters.Statement.{statement}
+use Rattle.print.proofs.counters.Tie as tie
+use Rattle.print.proofs.counters.Reads as reads
+use Rattle.print.proofs.counters.Lts as lts
+use Rattle.print.proofs.named.Reads as named-reads
+use Rattle.print.proofs.text.Reads as text-reads
 
 returns : tie.Need-returns
 unfolding countersText

@@ -6,7 +6,7 @@ use native.Mathlib.Nat.{add-zero, add-assoc}
 use lib.ListN.{length, take, drop, length-append, take-append-drop}
 use lib.Seq.{length-take-le, take-at, drop-append-add, drop-drop}
 use Rattle.block.specs.Blocks.{splice}
-use Rattle.answers.specs.Put.{Put}
+use Rattle.print.specs.Put.{Put}
 
 -- a text after a text
 pub splice-next : (at : ℕ) (s t d : List ℕ) → at ≤ length d → splice (at + length s) t (splice at s d) ≡ splice at (s ++ t) d

@@ -10,8 +10,8 @@ ghost use Rattle.lines.specs.Text.{ascii, decimal as decimalOf};
 ghost use Rattle.refusals.specs.Given.{countersOf};
 ghost use Rattle.policy.specs.Contract.{answerOf, wordOf};
 ghost use Rattle.policy.specs.declared.Answer.the-variants.{Refused, Answered};
-ghost use Rattle.answers.specs.Put.{Put};
-ghost use Rattle.answers.specs.Replay.{askText, wordText, countsText, answerText, countersText};
+ghost use Rattle.print.specs.Put.{Put};
+ghost use Rattle.print.specs.Texts.{askText, wordText, countsText, answerText, countersText};
 
 // A text.
 pub fn text(out: &mut [u8], at: usize, s: &[u8]) -> usize

@@ -1,15 +1,15 @@
 -- The texts one after the other. Assumes nothing.
 use borrow.Author.Needs.{needs}
 use native.Mathlib.Omega.{arith}
-use Rattle.answers.specs.PutLaws.{put-next}
-use Rattle.answers.proofs.print.answered.Statement.{statement}
-use Rattle.answers.proofs.print.answered.Tie as tie
-use Rattle.answers.proofs.print.answered.Reads as reads
-use Rattle.answers.proofs.print.answered.Lts as lts
-use Rattle.answers.proofs.print.ask.Reads as ask-reads
-use Rattle.answers.proofs.print.counts.Reads as counts-reads
-use Rattle.answers.proofs.print.decimal.Reads as decimal-reads
-use Rattle.answers.proofs.print.word.Reads as word-reads
+use Rattle.print.specs.PutLaws.{put-next}
+use Rattle.print.proofs.answered.Statement.{statement}
+use Rattle.print.proofs.answered.Tie as tie
+use Rattle.print.proofs.answered.Reads as reads
+use Rattle.print.proofs.answered.Lts as lts
+use Rattle.print.proofs.ask.Reads as ask-reads
+use Rattle.print.proofs.counts.Reads as counts-reads
+use Rattle.print.proofs.decimal.Reads as decimal-reads
+use Rattle.print.proofs.word.Reads as word-reads
 
 returns : tie.Need-returns
 returns c =

@@ -1,13 +1,13 @@
 -- The texts one after the other. Assumes nothing.
 use borrow.Author.Needs.{needs}
 use native.Mathlib.Omega.{arith}
-use Rattle.answers.specs.PutLaws.{put-next}
-use Rattle.answers.proofs.print.named.Statement.{statement}
-use Rattle.answers.proofs.print.named.Tie as tie
-use Rattle.answers.proofs.print.named.Reads as reads
-use Rattle.answers.proofs.print.named.Lts as lts
-use Rattle.answers.proofs.print.decimal.Reads as decimal-reads
-use Rattle.answers.proofs.print.text.Reads as text-reads
+use Rattle.print.specs.PutLaws.{put-next}
+use Rattle.print.proofs.named.Statement.{statement}
+use Rattle.print.proofs.named.Tie as tie
+use Rattle.print.proofs.named.Reads as reads
+use Rattle.print.proofs.named.Lts as lts
+use Rattle.print.proofs.decimal.Reads as decimal-reads
+use Rattle.print.proofs.text.Reads as text-reads
 
 returns : tie.Need-returns
 returns c =

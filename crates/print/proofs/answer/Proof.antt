@@ -1,13 +1,13 @@
 -- By the answer. Assumes nothing.
 use borrow.Author.Needs.{needs}
-use Rattle.answers.specs.Replay.{answerText}
+use Rattle.print.specs.Texts.{answerText}
 use native.Mathlib.Omega.{arith}
-use Rattle.answers.proofs.print.answer.Statement.{statement}
-use Rattle.answers.proofs.print.answer.Tie as tie
-use Rattle.answers.proofs.print.answer.Reads as reads
-use Rattle.answers.proofs.print.answer.Lts as lts
-use Rattle.answers.proofs.print.answered.Reads as answered-reads
-use Rattle.answers.proofs.print.refused.Reads as refused-reads
+use Rattle.print.proofs.answer.Statement.{statement}
+use Rattle.print.proofs.answer.Tie as tie
+use Rattle.print.proofs.answer.Reads as reads
+use Rattle.print.proofs.answer.Lts as lts
+use Rattle.print.proofs.answered.Reads as answered-reads
+use Rattle.print.proofs.refused.Reads as refused-reads
 
 returns : tie.Need-returns
 unfolding answerText

@@ -1,12 +1,12 @@
 -- By the word. Assumes nothing.
 use borrow.Author.Needs.{needs}
-use Rattle.answers.specs.Replay.{wordText}
+use Rattle.print.specs.Texts.{wordText}
 use native.Mathlib.Omega.{arith}
-use Rattle.answers.proofs.print.word.Statement.{statement}
-use Rattle.answers.proofs.print.word.Tie as tie
-use Rattle.answers.proofs.print.word.Reads as reads
-use Rattle.answers.proofs.print.word.Lts as lts
-use Rattle.answers.proofs.print.text.Reads as text-reads
+use Rattle.print.proofs.word.Statement.{statement}
+use Rattle.print.proofs.word.Tie as tie
+use Rattle.print.proofs.word.Reads as reads
+use Rattle.print.proofs.word.Lts as lts
+use Rattle.print.proofs.text.Reads as text-reads
 
 returns : tie.Need-returns
 unfolding wordText

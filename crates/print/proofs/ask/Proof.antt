@@ -1,13 +1,13 @@
 -- By the call. Assumes nothing.
 use borrow.Author.Needs.{needs}
 use native.Mathlib.Omega.{arith}
-use Rattle.answers.specs.Replay.{askText}
-use Rattle.answers.proofs.print.ask.Statement.{statement}
-use Rattle.answers.proofs.print.ask.Tie as tie
-use Rattle.answers.proofs.print.ask.Reads as reads
-use Rattle.answers.proofs.print.ask.Lts as lts
-use Rattle.answers.proofs.print.named.Reads as named-reads
-use Rattle.answers.proofs.print.text.Reads as text-reads
+use Rattle.print.specs.Texts.{askText}
+use Rattle.print.proofs.ask.Statement.{statement}
+use Rattle.print.proofs.ask.Tie as tie
+use Rattle.print.proofs.ask.Reads as reads
+use Rattle.print.proofs.ask.Lts as lts
+use Rattle.print.proofs.named.Reads as named-reads
+use Rattle.print.proofs.text.Reads as text-reads
 
 returns : tie.Need-returns
 unfolding askText

@@ -6,13 +6,13 @@ use native.Mathlib.Omega.{arith}
 use denote.Ref.{now}
 use lib.ListN.{length}
 use Rattle.block.specs.Blocks.{splice}
-use Rattle.answers.proofs.Digits.{spelled, decimal-length}
-use Rattle.answers.proofs.print.decimal.Statement.{statement}
-use Rattle.answers.proofs.print.decimal.Tie as tie
-use Rattle.answers.proofs.print.decimal.Reads as reads
-use Rattle.answers.proofs.print.decimal.Lts as lts
+use Rattle.print.proofs.Digits.{spelled, decimal-length}
+use Rattle.print.proofs.decimal.Statement.{statement}
+use Rattle.print.proofs.decimal.Tie as tie
+use Rattle.print.proofs.decimal.Reads as reads
+use Rattle.print.proofs.decimal.Lts as lts
 use Rattle.io.proofs.decimal.Reads as decimal-reads
-use Rattle.answers.proofs.print.text.Reads as text-reads
+use Rattle.print.proofs.text.Reads as text-reads
 
 text-requires : tie.Need-text-requires
 text-requires c κs =

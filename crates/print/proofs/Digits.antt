@@ -10,7 +10,7 @@ use borrow.Author.Tests.{lt-ltb, le-ltb, leb-true, leb-false}
 use Rattle.io.specs.Digits.{digits, glyph, Fewest}
 use Rattle.paper.specs.KeyedLaws.{by-test}
 use Rattle.lines.specs.Text.{decimalIn, decimal}
-pub use Rattle.answers.specs.DecimalLaws.{decimal-length}
+pub use Rattle.print.specs.DecimalLaws.{decimal-length}
 
 glyph-is : (n : ℕ) → glyph (n % 10) ≡ 48 + n % 10
 glyph-is n = rw (lt-ltb (n % 10) 10 (omega arith))

@@ -1,0 +1,8 @@
+-- the texts of the definition
+pub mod Texts
+-- what the contracts say
+pub mod Put
+-- texts put one after the other
+pub mod PutLaws
+-- a number has at most 20 digits
+pub mod DecimalLaws
