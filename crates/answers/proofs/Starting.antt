@@ -11,8 +11,8 @@ use Rattle.paper.specs.Lent.{Numbers, Lent, opening, unfit, wrongBuffers, refus
 use Rattle.paper.specs.RefusalLaws.{exactly-opening, opened-is}
 use Rattle.parts.specs.declared.BoxRecord.{BoxRecord}
 use Rattle.refusals.specs.Given.{numbersOf, countersOf, lent}
-use Rattle.policy.specs.Contract.{Opened, begun, opens}
-use Rattle.policy.specs.declared.open.Begun.{Begun}
+use Rattle.open.specs.Contract.{Opened, begun, opens}
+use Rattle.open.specs.declared.Begun.{Begun}
 use Rattle.answers.specs.Replay.{startDisk, started}
 use Rattle.answers.specs.Done.{recordOf}
 

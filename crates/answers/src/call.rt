@@ -112,7 +112,7 @@ fn look(
     ensures { λ r. ⌜ doneOf r (now (disk .entry)) (now (flash .entry)) (now (addresses .entry)) (now (blocks .entry))
         ≡ doing (numbersOf b) (lent b (now (disk .entry)) (now (flash .entry)) (now (addresses .entry)) (now (blocks .entry)) (countersOf c)) (Option.some (Ask.look (a .0))) ⌝ }
 {
-    let answer = policy::look::look(b, a, disk, flash, addresses, blocks);
+    let answer = look::look(b, a, disk, flash, addresses, blocks);
     Outcome {
         answer: answer,
         box_record: b,

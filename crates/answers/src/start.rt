@@ -1,7 +1,7 @@
 // The box as a list begins with it.
 use counters::Counters;
+use open::Begun;
 use parts::BoxRecord;
-use policy::open::Begun;
 ghost use mathlib.Core.Path.{_≡_};
 ghost use mathlib.Core.Bool.{false};
 ghost use Prim.Native.Nat.{_*_, _≤_};
@@ -56,7 +56,7 @@ pub fn start(
         flash: 0,
         primary: 0,
     };
-    policy::open::open(
+    open::open(
         b.size,
         b.blocks,
         b.rows,

@@ -11,8 +11,8 @@ use Rattle.paper.specs.Cache.{Counters}
 use Rattle.policy.specs.declared.Word.{Word}
 use Rattle.policy.specs.declared.Answer.{Answer}
 use Rattle.policy.specs.declared.Answer.the-variants.{Refused, Answered}
-use Rattle.policy.specs.declared.look.Place.{Place}
-use Rattle.policy.specs.declared.look.Place.the-variants.{Refused as NoPlace, Flash, Disk}
+use Rattle.look.specs.declared.Place.{Place}
+use Rattle.look.specs.declared.Place.the-variants.{Refused as NoPlace, Flash, Disk}
 use Rattle.policy.specs.Contract.{wordOf, answerOf}
 use Rattle.fields.specs.Fields.{put8, putState, putAnswer, wordNumber, fitting}
 use Rattle.fields.specs.Noted.{Noted, noted, LeftLook, placeIn, opening}

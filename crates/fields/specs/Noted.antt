@@ -5,8 +5,8 @@ use Prim.Native.Nat.{ℕ, _*_}
 use lib.Dec.{eqb}
 use Rattle.paper.specs.Cache.{Counters}
 use Rattle.paper.specs.Lent.{Answer, refused, answered}
-use Rattle.policy.specs.declared.look.Place.{Place}
-use Rattle.policy.specs.declared.look.Place.the-variants.{Refused, Flash, Disk}
+use Rattle.look.specs.declared.Place.{Place}
+use Rattle.look.specs.declared.Place.the-variants.{Refused, Flash, Disk}
 use Rattle.fields.specs.Fields.{put8, putState, putAnswer, wordNumber}
 
 -- ---- what an answer of the paper is in numbers and bytes

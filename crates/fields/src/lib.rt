@@ -1,18 +1,19 @@
 // Numbers in bytes: the fields of the state and of an answer.
 use counters::Counters;
+use look::Place;
+use open::Begun;
+use open::Opening;
 use parts::BoxRecord;
 use policy::Answer;
 use policy::Word;
 use policy::calls::Outcome;
-use policy::look::Place;
-use policy::open::Begun;
-use policy::open::Opening;
 use tables::SourceAddress;
 ghost use mathlib.Core.Path.{_≡_};
 ghost use Prim.Native.Nat.{_+_, _*_, _≤_, _<_, _^_};
 ghost use lib.ListN.{length};
 ghost use Rattle.refusals.specs.Given.{countersOf};
-ghost use Rattle.policy.specs.Contract.{wordOf, answerOf, numberOf};
+ghost use Rattle.policy.specs.Contract.{wordOf, answerOf};
+ghost use Rattle.open.specs.Contract.{numberOf};
 ghost use Rattle.block.specs.Blocks.{splice};
 ghost use Rattle.tables.specs.Rows.{le8};
 ghost use Rattle.fields.specs.Fields.{lowBytes, recordIn, countersIn, putState, putAnswer, wordNumber, fitting};

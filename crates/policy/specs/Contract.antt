@@ -4,17 +4,14 @@ use mathlib.Core.List.{List, []}
 use mathlib.Core.Option.{Option}
 use Prim.Native.Nat.{ℕ}
 use Rattle.parts.specs.declared.BoxRecord.{BoxRecord}
+use Rattle.refusals.specs.Given.{numbersOf, countersOf, lent}
 use Rattle.policy.specs.declared.Word as CodeWord
 use Rattle.policy.specs.declared.Word.the-variants.{Hit, Miss, Same, New, Cache, Disk, Done}
 use Rattle.policy.specs.declared.Answer as CodeAnswer
 use Rattle.policy.specs.declared.Answer.the-variants.{Refused, Answered}
 use Rattle.policy.specs.declared.calls.Outcome.{Outcome}
-use Rattle.policy.specs.declared.open.Opening.{Opening}
-use Rattle.policy.specs.declared.open.Opening.the-variants.{Refused as OpeningRefused, Open}
-use Rattle.policy.specs.declared.open.Begun.{Begun}
-use Rattle.paper.specs.Cache.{Counters, Word, hit, miss, sameBlock, newBlock, fromCache, fromDisk, done}
-use Rattle.refusals.specs.Given.{numbersOf, countersOf, lent}
-use Rattle.paper.specs.Lent.{Numbers, Lent, Ask, Answer, refused, answered, After, call, opening, refusal, opened}
+use Rattle.paper.specs.Cache.{Word, hit, miss, sameBlock, newBlock, fromCache, fromDisk, done}
+use Rattle.paper.specs.Lent.{Numbers, Lent, Ask, Answer, refused, answered, After, call}
 
 -- "Where an answer is an enum, the promises use a definition. That definition gives this paper's number and values for each of the enum's cases."
 abbrev pub wordOf : CodeWord.Word → Word
@@ -45,23 +42,3 @@ told r disk flash addresses blocks block =
 -- the paper's call on what is lent
 abbrev pub called : BoxRecord → Lent → Ask → Told
 called b t q = record { numbers = numbersOf b; after = call (numbersOf b) t q }
-
--- ---- opening
-
-abbrev pub numberOf : Opening → ℕ
-numberOf (OpeningRefused k) = k
-numberOf Open = 0
-
--- what an opening tells and leaves: its number, 0 where the box is open, the numbers of the box record, and what is lent
-pub record Opened : Type 0 where
-  pub number : ℕ
-  pub numbers : Numbers
-  pub lent : Lent
-
-abbrev pub begun : Begun → (disk flash addresses blocks : List ℕ) → Opened
-begun r disk flash addresses blocks = record { number = numberOf (r .answer); numbers = numbersOf (r .box_record); lent = lent (r .box_record) disk flash addresses blocks (countersOf (r .counters)) }
-
-abbrev pub opens : BoxRecord → (disk flash addresses blocks : List ℕ) → Counters → Opened
-opens b disk flash addresses blocks k =
-    let t = lent b disk flash addresses blocks k in
-    record { number = refusal (numbersOf b) t opening; numbers = numbersOf b; lent = opened (numbersOf b) t }

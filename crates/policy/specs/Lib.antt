@@ -1,6 +1,4 @@
 -- what the contracts of the calls say, in the paper's words
 pub mod Contract
-pub mod Look
--- promises: what the calls find in lent bytes, and what a look finds there
+-- promises: what the calls find in lent bytes
 pub mod CallLaws
-pub mod LookLaws

@@ -1,7 +1,5 @@
 // The cache on lent bytes.
 pub mod calls;
-pub mod look;
-pub mod open;
 
 // The word of an answer.
 pub enum Word {

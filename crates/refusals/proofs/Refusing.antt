@@ -12,11 +12,9 @@ use Rattle.tables.specs.Unsound.{elem, addressesUnsound, blocksUnsound, dirtyUn
 use Rattle.paper.specs.KeyedLaws.{by-test}
 use Rattle.paper.specs.Cache.{Counters}
 use Rattle.paper.specs.Lent.{Numbers, Lent, Ask, opening, calling, unfit, wrongBuffers, over, refusal}
-use Rattle.paper.specs.LentLaws.{Lengths, right-lengths}
-use Rattle.paper.specs.RefusalLaws.{exactly-opening}
 use Rattle.parts.specs.declared.BoxRecord.{BoxRecord}
 use Rattle.refusals.specs.Given.{numbersOf, lent}
-use Rattle.refusals.specs.Sizes.{Most, most}
+use Rattle.refusals.specs.Sizes.{Opens}
 use Rattle.refusals.specs.Checks.{wrongLengths, tablesRefusal, stateRefusal}
 
 -- a number in a list, by its first element
@@ -44,18 +42,6 @@ refused-first N t q n =
     by-test (unfit N)
     (λ e. rw e refl)
     (λ e. by-test (wrongBuffers N t) (λ f. rw (e, f) refl) (λ f. absurd (n (rw (e, f) refl))))
-
--- what memory that an opening is not refused on is known to be
-pub record Opens (b : BoxRecord) (disk flash addresses blocks : List ℕ) (k : Counters) : Type 0 where
-  pub fit : unfit (numbersOf b) ≡ false
-  pub right : wrongBuffers (numbersOf b) (lent b disk flash addresses blocks k) ≡ false
-  pub most : Most b
-  pub lengths : Lengths (numbersOf b) (lent b disk flash addresses blocks k)
-
-pub opens-with : (b : BoxRecord) (disk flash addresses blocks : List ℕ) (k : Counters) → refusal (numbersOf b) (lent b disk flash addresses blocks k) opening ≡ 0 → Opens b disk flash addresses blocks k
-opens-with b disk flash addresses blocks k e =
-    let x = exactly-opening (numbersOf b) (lent b disk flash addresses blocks k) .gives-0 .0 e in
-    record { fit = x .0; right = x .1; most = most b (x .0); lengths = right-lengths (numbersOf b) (lent b disk flash addresses blocks k) (x .1) }
 
 -- 6, 7 and 8, of tables that the checks can be run on
 pub tables-are : (b : BoxRecord) (addresses blocks : List ℕ) → b .blocks ≤ 65536 → b .rows ≤ 1024 → b .slots ≤ 256 → length addresses ≡ b .rows * 40 → length blocks ≡ b .slots * 40

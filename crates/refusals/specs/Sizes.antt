@@ -1,4 +1,4 @@
--- Numbers that pass 1 are not too large. By the tests. Assumes nothing.
+-- Numbers that pass 1 are not too large, and memory that passes 1 and 2 has its lengths. By the tests. Assumes nothing.
 use mathlib.Core.Path.{_≡_, refl}
 use mathlib.Core.Bool.{true, false, not, _||_}
 use mathlib.Core.List.{List, [], _∷_}
@@ -8,10 +8,13 @@ use lib.Dec.{eqb}
 use borrow.Author.Tests.{eqb-true, not-false}
 use Rattle.tables.specs.Unsound.{elem}
 use Rattle.paper.specs.KeyedLaws.{All, by-test, clash, or-false-left}
-use Rattle.paper.specs.Lent.{between, unfit}
+use Rattle.paper.specs.Cache.{Counters}
+use Rattle.paper.specs.Lent.{between, unfit, opening, wrongBuffers, refusal}
+use Rattle.paper.specs.LentLaws.{Lengths, right-lengths}
+use Rattle.paper.specs.RefusalLaws.{exactly-opening}
 use Rattle.paper.specs.CallLaws.{fits}
 use Rattle.parts.specs.declared.BoxRecord.{BoxRecord}
-use Rattle.refusals.specs.Given.{numbersOf}
+use Rattle.refusals.specs.Given.{numbersOf, lent}
 use Rattle.refusals.specs.Checks.{sizes}
 
 elem-most : (m s : ℕ) (xs : List ℕ) → All (λ x. x ≤ m) xs → elem s xs ≡ true → s ≤ m
@@ -41,3 +44,15 @@ most b h =
       rows = f .m-most;
       slots = f .d-most;
     }
+
+-- what memory that an opening is not refused on is known to be
+pub record Opens (b : BoxRecord) (disk flash addresses blocks : List ℕ) (k : Counters) : Type 0 where
+  pub fit : unfit (numbersOf b) ≡ false
+  pub right : wrongBuffers (numbersOf b) (lent b disk flash addresses blocks k) ≡ false
+  pub most : Most b
+  pub lengths : Lengths (numbersOf b) (lent b disk flash addresses blocks k)
+
+pub opens-with : (b : BoxRecord) (disk flash addresses blocks : List ℕ) (k : Counters) → refusal (numbersOf b) (lent b disk flash addresses blocks k) opening ≡ 0 → Opens b disk flash addresses blocks k
+opens-with b disk flash addresses blocks k e =
+    let x = exactly-opening (numbersOf b) (lent b disk flash addresses blocks k) .gives-0 .0 e in
+    record { fit = x .0; right = x .1; most = most b (x .0); lengths = right-lengths (numbersOf b) (lent b disk flash addresses blocks k) (x .1) }

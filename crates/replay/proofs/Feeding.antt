@@ -18,7 +18,7 @@ use Rattle.session.specs.Bytewise.{State, quiet, keep, firstLine, laterLine, en
 use Rattle.session.specs.Memory.{Buffers, Held, Memory, After, over, stateIn, stored}
 use Rattle.session.specs.declared.Session.{Session}
 use Rattle.print.specs.PutLaws.{splice-next}
-use Rattle.session.proofs.Boxing.{splice-first, over-same}
+use Rattle.session.specs.BufferLaws.{splice-first, over-same}
 
 -- a session that keeps k bytes
 abbrev pub keeping : Session → ℕ → Session

@@ -1,10 +1,10 @@
 // Replay byte by byte: a byte of the input in, the text of the finished line out.
 use crate::checks;
 use counters::Counters;
+use parts::BoxRecord;
 use session::Fed;
 use session::Session;
 use session::line;
-use parts::BoxRecord;
 ghost use mathlib.Core.Path.{_≡_};
 ghost use mathlib.Core.Bool.{cond};
 ghost use mathlib.Core.List.{List, [], _++_};

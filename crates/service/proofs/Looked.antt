@@ -15,12 +15,12 @@ use Rattle.paper.specs.Cache.{AddressRow, BlockRow, Counters, rowWithBlock}
 use Rattle.paper.specs.Engine.{Fixed, engine}
 use Rattle.paper.specs.Lent.{Numbers, Lent, Ask, After, Answer, calling, refusal, boxIn, call}
 use Rattle.parts.specs.declared.BoxRecord.{BoxRecord}
-use Rattle.policy.specs.declared.look.Place.{Place}
-use Rattle.policy.specs.declared.look.Place.the-variants.{Refused, Flash, Disk}
+use Rattle.look.specs.declared.Place.{Place}
+use Rattle.look.specs.declared.Place.the-variants.{Refused, Flash, Disk}
 use Rattle.refusals.specs.Given.{numbersOf, countersOf, lent}
-use Rattle.policy.specs.Look.{whereIs, answerAt, partAt}
-use Rattle.policy.specs.Look as Found
-use Rattle.policy.specs.LookLaws.{PartIn, where-in, look-answers, look-returns}
+use Rattle.look.specs.Look.{whereIs, answerAt, partAt}
+use Rattle.look.specs.Look as Found
+use Rattle.look.specs.LookLaws.{PartIn, where-in, look-answers, look-returns}
 use Rattle.fields.specs.Fields.{get8, recordIn, countersIn, putAnswer, fitting}
 use Rattle.fields.specs.FieldLaws.{word-read, second-read, third-read}
 use Rattle.fields.specs.Noted.{numberOf, LeftLook, startOf, placeIn}

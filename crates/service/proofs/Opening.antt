@@ -6,9 +6,9 @@ use lib.ListN.{length}
 use borrow.Author.Tests.{eq-eqb, ne-eqb}
 use Rattle.counters.specs.declared.Counters as Code
 use Rattle.parts.specs.declared.BoxRecord.{BoxRecord}
-use Rattle.policy.specs.declared.open.Begun.{Begun}
+use Rattle.open.specs.declared.Begun.{Begun}
 use Rattle.refusals.specs.Given.{countersOf}
-use Rattle.policy.specs.Contract.{numberOf, Opened, begun, opens}
+use Rattle.open.specs.Contract.{numberOf, Opened, begun, opens}
 use Rattle.fields.specs.Fields.{recordIn, countersIn}
 use Rattle.fields.specs.Noted.{opening}
 use Rattle.service.specs.Left.{LeftOpen, freshRecord, openedIn, leavesOpen}

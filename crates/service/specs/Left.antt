@@ -11,8 +11,8 @@ use Rattle.block.specs.Blocks.{part}
 use Rattle.paper.specs.Lent.{Lent, Ask, Answer, refused, answered, After, lentBlock, call}
 use Rattle.parts.specs.declared.BoxRecord.{BoxRecord}
 use Rattle.refusals.specs.Given.{numbersOf, countersOf, lent}
-use Rattle.policy.specs.Contract.{Opened, opens}
-use Rattle.policy.specs.Look.{whereIs}
+use Rattle.open.specs.Contract.{Opened, opens}
+use Rattle.look.specs.Look.{whereIs}
 use Rattle.fields.specs.Fields.{get8, recordIn, countersIn, wordNumber, fitting}
 use Rattle.fields.specs.Noted.{numberOf, stateAfter, answerAfter, opening, LeftLook, placeIn}
 

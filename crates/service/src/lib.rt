@@ -184,7 +184,7 @@ pub extern "C" fn mindavehu_look(
     }
     let b = fields::record_in(state);
     let a = SourceAddress(address);
-    let p = policy::look::place_of(b, a, disk, flash, addresses, blocks);
+    let p = look::place_of(b, a, disk, flash, addresses, blocks);
     fields::write_place(answer, b.size, a, p)
 }
 
@@ -205,7 +205,7 @@ pub extern "C" fn mindavehu_open(
     }
     let b = fields::record_in(state);
     let c = fields::counters_in(state);
-    let o = policy::open::open(
+    let o = open::open(
         b.size,
         b.blocks,
         b.rows,

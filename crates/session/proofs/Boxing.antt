@@ -1,21 +1,19 @@
 -- The box in the first bytes of the buffers: lent as parts of them, and put back. By the laws of `take` and `drop`.
-use mathlib.Core.Path.{_≡_, refl, sym, ap, ap₂, _∙_}
-use mathlib.Core.List.{List, _++_, append-nil}
-use Prim.Native.Nat.{ℕ, _-_, _*_, _≤_, min}
-use native.Mathlib.Nat.{sub-zero, zero-add, min-eq-left, min-eq-right}
+use mathlib.Core.Path.{_≡_, refl, sym, ap, _∙_}
+use mathlib.Core.List.{List, _++_}
+use Prim.Native.Nat.{ℕ, _-_, _*_, _≤_}
+use native.Mathlib.Nat.{sub-zero, zero-add}
 use native.Mathlib.Omega.{arith}
-use lib.Dec.{leb}
-use lib.ListN.{length, take, drop, length-take, take-append-drop}
-use lib.Seq.{length-take-le, take-all, drop-length}
-use borrow.Author.Tests.{leb-true, leb-false}
+use lib.ListN.{length, take, drop}
+use lib.Seq.{length-take-le}
 use borrow.Rule.Slice.PartMut.{putMid}
 use Rattle.block.specs.Blocks.{splice}
-use Rattle.paper.specs.KeyedLaws.{by-test}
 use Rattle.paper.specs.Cache.{Counters}
 use Rattle.paper.specs.Lent.{Lent}
 use Rattle.parts.specs.declared.BoxRecord.{BoxRecord}
 use Rattle.refusals.specs.Given.{lent}
 use Rattle.session.specs.Memory.{buffers, held, within, over, Sized, Holds}
+use Rattle.session.specs.BufferLaws.{same-buffers}
 
 -- a first part is as long as it says
 pub first-length : (n : ℕ) (d : List ℕ) → n ≤ length d → length (take (n - 0) d) ≡ n
@@ -25,9 +23,6 @@ first-length n d h = ap (λ k. length (take k d)) (sub-zero n) ∙ length-take-l
 first-back : (n : ℕ) (d y : List ℕ) → n ≤ length d → length y ≡ length (take (n - 0) d) → putMid 0 (n - 0) d y ≡ splice 0 y d
 unfolding splice
 first-back n d y h e = ap (λ k. y ++ drop k d) (sub-zero n ∙ sym (zero-add (length y) ∙ e ∙ first-length n d h))
-
-same-buffers : {d d′ f f′ a a′ e e′ : List ℕ} → d ≡ d′ → f ≡ f′ → a ≡ a′ → e ≡ e′ → buffers d f a e ≡ buffers d′ f′ a′ e′
-same-buffers p q r s = cc
 
 -- what is lent to a call as parts is what the buffers hold
 pub within-is : (b : BoxRecord) (k : Counters) (d f a e : List ℕ)
@@ -43,18 +38,3 @@ unfolding over
 put-back b r k t d f a e d′ f′ a′ e′ h z ld lf la le i =
     ap (held (r .held) k) (same-buffers (first-back (b .blocks * b .size) d d′ (omega arith) ld) (first-back (b .slots * b .size) f f′ (omega arith) lf) (first-back (b .rows * 40) a a′ (omega arith) la) (first-back (b .slots * 40) e e′ (omega arith) le))
     ∙ ap (λ x. over x (buffers d f a e)) i
-
-pub splice-first : (n : ℕ) (d : List ℕ) → splice 0 (take n d) d ≡ d
-unfolding splice
-splice-first n d = ap (λ k. take n d ++ drop k d) (zero-add (length (take n d)) ∙ length-take n d) ∙ back n d
-  where
-    back : (n : ℕ) (d : List ℕ) → take n d ++ drop (min n (length d)) d ≡ d
-    back n d = by-test (leb n (length d))
-        (λ y. ap (λ k. take n d ++ drop k d) (min-eq-left (leb-true n (length d) y)) ∙ take-append-drop n d)
-        (λ y. let h : length d ≤ n = omega (arith, leb-false n (length d) y) in
-        ap₂ (λ l k. l ++ drop k d) (take-all n d h) (min-eq-right h) ∙ ap (λ l. d ++ l) (drop-length d) ∙ append-nil d)
-
--- what the buffers hold, written over them
-pub over-same : (b : BoxRecord) (k : Counters) (d f a e : List ℕ) → held (b .held) k (buffers d f a e) ≡ over (within b (buffers d f a e) k) (buffers d f a e)
-unfolding over
-over-same b k d f a e = ap (held (b .held) k) (same-buffers (sym (splice-first (b .blocks * b .size) d)) (sym (splice-first (b .slots * b .size) f)) (sym (splice-first (b .rows * 40) a)) (sym (splice-first (b .slots * 40) e)))

@@ -1,7 +1,7 @@
 -- By the opening's number. Assumes nothing.
 use borrow.Author.Needs.{needs}
 use Rattle.refusals.specs.Given.{countersOf}
-use Rattle.policy.specs.Contract.{numberOf}
+use Rattle.open.specs.Contract.{numberOf}
 use Rattle.fields.specs.Fields.{put8}
 use Rattle.fields.proofs.Writing.{opened-state, refused-state}
 use Rattle.fields.proofs.write_opening.Statement.{statement}

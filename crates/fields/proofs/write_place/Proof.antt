@@ -3,7 +3,7 @@ use mathlib.Core.Path.{subst}
 use Prim.Native.Nat.{_<_, _^_}
 use native.Mathlib.Omega.{arith}
 use borrow.Author.Needs.{needs}
-use Rattle.policy.specs.declared.look.Place.{Place}
+use Rattle.look.specs.declared.Place.{Place}
 use Rattle.fields.specs.Noted.{startOf}
 use Rattle.fields.proofs.Writing.{placed-refused, placed-flash, placed-disk}
 use Rattle.fields.proofs.write_place.Statement.{statement}

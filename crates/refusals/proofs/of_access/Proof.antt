@@ -4,7 +4,8 @@ use native.Mathlib.Omega.{arith}
 use borrow.Author.Needs.{needs}
 use Rattle.paper.specs.Lent.{Ask}
 use Rattle.refusals.specs.Given.{numbersOf, countersOf, lent}
-use Rattle.refusals.proofs.Refusing.{Opens, opens-with, refused-first, access-2, access-3, access-rest}
+use Rattle.refusals.specs.Sizes.{Opens, opens-with}
+use Rattle.refusals.proofs.Refusing.{refused-first, access-2, access-3, access-rest}
 use Rattle.refusals.proofs.of_access.Statement.{statement}
 use Rattle.refusals.proofs.of_access.Tie as tie
 

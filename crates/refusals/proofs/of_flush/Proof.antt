@@ -5,7 +5,8 @@ use lib.ListN.{length-replicate}
 use borrow.Author.Needs.{needs}
 use Rattle.paper.specs.Lent.{Ask}
 use Rattle.refusals.specs.Given.{numbersOf, countersOf, lent}
-use Rattle.refusals.proofs.Refusing.{Opens, opens-with, refused-first, flush-rest}
+use Rattle.refusals.specs.Sizes.{Opens, opens-with}
+use Rattle.refusals.proofs.Refusing.{refused-first, flush-rest}
 use Rattle.refusals.proofs.of_flush.Statement.{statement}
 use Rattle.refusals.proofs.of_flush.Tie as tie
 

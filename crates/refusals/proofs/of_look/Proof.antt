@@ -6,7 +6,8 @@ use borrow.Author.Needs.{needs}
 use Rattle.paper.specs.Cache.{Counters, noCounts}
 use Rattle.paper.specs.Lent.{Ask}
 use Rattle.refusals.specs.Given.{numbersOf, lent}
-use Rattle.refusals.proofs.Refusing.{Opens, opens-with, refused-first, look-3, look-rest}
+use Rattle.refusals.specs.Sizes.{Opens, opens-with}
+use Rattle.refusals.proofs.Refusing.{refused-first, look-3, look-rest}
 use Rattle.refusals.proofs.of_look.Statement.{statement}
 use Rattle.refusals.proofs.of_look.Tie as tie
 

@@ -7,7 +7,7 @@ use Rattle.answers.proofs.start.start.Statement.{statement}
 use Rattle.answers.proofs.start.start.Tie as tie
 use Rattle.answers.proofs.start.start.Reads as reads
 use Rattle.answers.proofs.start.start.Lts as lts
-use Rattle.policy.proofs.open.open.Reads as open-reads
+use Rattle.open.proofs.open.Reads as open-reads
 use Rattle.answers.proofs.start.fill.Reads as fill-reads
 use Rattle.answers.proofs.start.fill_disk.Reads as fill-disk-reads
 

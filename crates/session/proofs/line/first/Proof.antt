@@ -9,7 +9,7 @@ use Rattle.refusals.specs.Given.{numbersOf, countersOf}
 use Rattle.answers.specs.Replay.{boxNumbers, started}
 use Rattle.session.specs.Memory.{memory, over, stateIn, stored, Holds}
 use Rattle.session.specs.MemoryLaws.{opened-fits}
-use Rattle.session.proofs.Boxing.{over-same}
+use Rattle.session.specs.BufferLaws.{over-same}
 use Rattle.session.proofs.Lining.{line-done, refused-is, begun-is}
 use Rattle.session.proofs.line.first.Statement.{statement}
 use Rattle.session.proofs.line.first.Tie as tie

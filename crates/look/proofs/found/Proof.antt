@@ -4,10 +4,10 @@ use Rattle.paper.specs.Cache.{noCounts}
 use Rattle.paper.specs.Lent.{Ask, boxIn}
 use Rattle.paper.specs.RowBytes.{Bytes}
 use Rattle.refusals.specs.Given.{numbersOf, lent}
 use Rattle.policy.specs.CallLaws.{all-bytes, rep, sizes}
-use Rattle.policy.specs.LookLaws.{found-flash, found-disk}
-use Rattle.policy.proofs.look.found.Statement.{statement}
-use Rattle.policy.proofs.look.found.Tie as tie
+use Rattle.look.specs.LookLaws.{found-flash, found-disk}
+use Rattle.look.proofs.found.Statement.{statement}
+use Rattle.look.proofs.found.Tie as tie
 
 abbrev start : tie.After-shared-slice-known4 → tie.Start
 start c = c .before .before .before .before

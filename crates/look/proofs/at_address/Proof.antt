@@ -1,9 +1,9 @@
 -- The part of the slice is the block. Assumes nothing.
 use borrow.Author.Needs.{needs}
 use Rattle.block.specs.Laws.{part-is}
-use Rattle.policy.proofs.look.in_slot.Statement.{statement}
-use Rattle.policy.proofs.look.in_slot.Tie as tie
+use Rattle.look.proofs.at_address.Statement.{statement}
+use Rattle.look.proofs.at_address.Tie as tie
 
-pub in-slot-spec : {M : Type 1} → statement M
-in-slot-spec =
+pub at-address-spec : {M : Type 1} → statement M
+at-address-spec =
     tie.close (tie.spec (λ c. search needs) (λ c. search needs) (λ c. search needs) (λ c. search needs) (λ c. search needs) (λ c. search needs) (λ c. part-is _ _ _))

@@ -17,14 +17,14 @@ use Rattle.paper.specs.RowBytes.{Bytes}
 use Rattle.paper.specs.RefusalLaws.{served-is, keeps}
 use Rattle.paper.specs.CallLaws.{served-finds}
 use Rattle.parts.specs.declared.BoxRecord.{BoxRecord}
-use Rattle.policy.specs.declared.look.Place.{Place}
-use Rattle.policy.specs.declared.look.Place.the-variants.{Refused, Flash, Disk}
+use Rattle.look.specs.declared.Place.{Place}
+use Rattle.look.specs.declared.Place.the-variants.{Refused, Flash, Disk}
 use Rattle.parts.specs.Rep.{Rep, noRow}
 use Rattle.refusals.specs.Given.{numbersOf, lent}
-use Rattle.policy.specs.Look.{placeIn, whereIs, answerAt, partAt}
+use Rattle.look.specs.Look.{placeIn, whereIs, answerAt, partAt}
 use Rattle.parts.specs.CopyLaws.{part-block, parts-length, block-ends, slot-some, slotOf-below}
 use Rattle.serve.specs.ServeLaws.{hit-row, found-hit, found-miss}
 use Rattle.policy.specs.CallLaws.{rep, address-fits}
 
 -- a look that is not refused
 module _ (b : BoxRecord) (disk flash addrs blocks : List ℕ) (k : Counters) (a : ℕ) (e : refusal (numbersOf b) (lent b disk flash addrs blocks k) (calling (Ask.look a)) ≡ 0) (ba : Bytes addrs) (bb : Bytes blocks) where

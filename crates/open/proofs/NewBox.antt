@@ -8,9 +8,9 @@ use Rattle.paper.specs.Cache.{noCounts}
 use Rattle.paper.specs.Lent.{opening, refusal, fresh, unopened, opened}
 use Rattle.paper.specs.RefusalLaws.{refused-opening, opened-is}
 use Rattle.parts.specs.declared.BoxRecord.{BoxRecord}
-use Rattle.policy.specs.declared.open.Opening.the-variants.{Refused, Open}
+use Rattle.open.specs.declared.Opening.the-variants.{Refused, Open}
 use Rattle.refusals.specs.Given.{numbersOf, countersOf, lent}
-use Rattle.policy.specs.Contract.{begun, opens}
+use Rattle.open.specs.Contract.{begun, opens}
 
 abbrev pub newBox : ℕ → ℕ → ℕ → ℕ → BoxRecord
 newBox size blocks rows slots = record { size = size; blocks = blocks; rows = rows; slots = slots; held = 0 }

@@ -4,11 +4,11 @@ use native.Mathlib.Omega.{arith}
 use borrow.Author.Needs.{needs}
 use Rattle.paper.specs.Cache.{noCounts}
 use Rattle.paper.specs.RowBytes.{Bytes}
-use Rattle.policy.specs.Look.{partAt}
+use Rattle.look.specs.Look.{partAt}
 use Rattle.policy.specs.CallLaws.{all-bytes}
-use Rattle.policy.specs.LookLaws.{PartIn, where-in, look-returns}
-use Rattle.policy.proofs.look.look_part.Statement.{statement}
-use Rattle.policy.proofs.look.look_part.Tie as tie
+use Rattle.look.specs.LookLaws.{PartIn, where-in, look-returns}
+use Rattle.look.proofs.look_part.Statement.{statement}
+use Rattle.look.proofs.look_part.Tie as tie
 
 abbrev start : tie.After-shared-slice-known4 → tie.Start
 start c = c .before .before .before .before

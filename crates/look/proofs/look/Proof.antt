@@ -2,10 +2,10 @@
 use mathlib.Core.Path.{sym, ap, _∙_}
 use borrow.Author.Needs.{needs}
 use Rattle.refusals.specs.Given.{numbersOf, lent}
-use Rattle.policy.specs.Look.{answerAt}
-use Rattle.policy.specs.LookLaws.{look-answers}
-use Rattle.policy.proofs.look.look.Statement.{statement}
-use Rattle.policy.proofs.look.look.Tie as tie
+use Rattle.look.specs.Look.{answerAt}
+use Rattle.look.specs.LookLaws.{look-answers}
+use Rattle.look.proofs.look.Statement.{statement}
+use Rattle.look.proofs.look.Tie as tie
 
 returns : tie.Need-returns
 unfolding answerAt

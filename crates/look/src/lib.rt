@@ -1,8 +1,8 @@
 // Look: the answer, and the block itself as a part of the flash or of the disk. Nothing is moved or counted.
-use crate::Answer;
-use crate::Word;
 use parts::BoxRecord;
 use parts::rows;
+use policy::Answer;
+use policy::Word;
 use tables::FlashSlot;
 use tables::SourceAddress;
 ghost use mathlib.Core.Path.{_≡_};
@@ -12,8 +12,8 @@ ghost use Rattle.paper.specs.Cache.{Counters};
 ghost use Rattle.paper.specs.Lent.{Ask, calling, refusal, call};
 ghost use Rattle.block.specs.Blocks.{part};
 ghost use Rattle.refusals.specs.Given.{numbersOf, lent};
 ghost use Rattle.policy.specs.Contract.{answerOf};
-ghost use Rattle.policy.specs.Look.{whereIs};
+ghost use Rattle.look.specs.Look.{whereIs};
 
 // Where the block of an address is, or the number of the refusal.
 pub enum Place {

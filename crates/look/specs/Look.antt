@@ -8,8 +8,8 @@ use Rattle.block.specs.Blocks.{part}
 use Rattle.paper.specs.Cache.{AddressRow, BlockRow, fromCache, fromDisk, rowWithBlock, slotOf}
 use Rattle.paper.specs.Engine.{Fixed, engine}
 use Rattle.paper.specs.Lent.{Numbers, Lent, Ask, calling, refusal, boxIn, Answer, refused, answered}
-use Rattle.policy.specs.declared.look.Place.{Place}
-use Rattle.policy.specs.declared.look.Place.the-variants.{Refused, Flash, Disk}
+use Rattle.look.specs.declared.Place.{Place}
+use Rattle.look.specs.declared.Place.the-variants.{Refused, Flash, Disk}
 
 -- the place of a row's block, where there is a row with its block
 unfoldable pub placeIn : (B : ℕ) → List (BlockRow (Fixed 32)) → Option (AddressRow (Fixed 32)) → Place

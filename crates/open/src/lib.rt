@@ -3,7 +3,7 @@ use counters::Counters;
 use parts::BoxRecord;
 ghost use mathlib.Core.Path.{_≡_};
 ghost use Rattle.refusals.specs.Given.{countersOf};
-ghost use Rattle.policy.specs.Contract.{begun, opens};
+ghost use Rattle.open.specs.Contract.{begun, opens};
 
 // The answer of an opening.
 pub enum Opening {

@@ -2,10 +2,10 @@
 use mathlib.Core.Path.{sym, _∙_}
 use borrow.Author.Needs.{needs}
 use Rattle.refusals.specs.Given.{countersOf}
-use Rattle.refusals.proofs.Refusing.{Opens, opens-with}
-use Rattle.policy.proofs.Opening.{newBox, opening-refused, opening-done}
-use Rattle.policy.proofs.open.open.Statement.{statement}
-use Rattle.policy.proofs.open.open.Tie as tie
+use Rattle.refusals.specs.Sizes.{Opens, opens-with}
+use Rattle.open.proofs.NewBox.{newBox, opening-refused, opening-done}
+use Rattle.open.proofs.open.Statement.{statement}
+use Rattle.open.proofs.open.Tie as tie
 
 abbrev start : tie.Else1 → tie.Start
 start c = c .before .before .before .before .before .before .before .before

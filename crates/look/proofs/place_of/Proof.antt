@@ -2,9 +2,9 @@
 use mathlib.Core.Path.{sym, _∙_}
 use borrow.Author.Needs.{needs}
 use Rattle.refusals.specs.Given.{numbersOf, lent}
-use Rattle.policy.specs.LookLaws.{where-refused}
-use Rattle.policy.proofs.look.place_of.Statement.{statement}
-use Rattle.policy.proofs.look.place_of.Tie as tie
+use Rattle.look.specs.LookLaws.{where-refused}
+use Rattle.look.proofs.place_of.Statement.{statement}
+use Rattle.look.proofs.place_of.Tie as tie
 
 returns : tie.Need-returns
 returns c k =

@@ -1,0 +1,30 @@
+-- What an opening promises: the code's types in the paper's words.
+-- Assumes nothing.
+use mathlib.Core.List.{List}
+use Prim.Native.Nat.{ℕ}
+use Rattle.paper.specs.Cache.{Counters}
+use Rattle.paper.specs.Lent.{Numbers, Lent, opening, refusal, opened}
+use Rattle.parts.specs.declared.BoxRecord.{BoxRecord}
+use Rattle.refusals.specs.Given.{numbersOf, countersOf, lent}
+use Rattle.open.specs.declared.Opening.{Opening}
+use Rattle.open.specs.declared.Opening.the-variants.{Refused, Open}
+use Rattle.open.specs.declared.Begun.{Begun}
+
+-- "Where an answer is an enum, the promises use a definition. That definition gives this paper's number and values for each of the enum's cases."
+abbrev pub numberOf : Opening → ℕ
+numberOf (Refused k) = k
+numberOf Open = 0
+
+-- what an opening tells and leaves: its number, 0 where the box is open, the numbers of the box record, and what is lent
+pub record Opened : Type 0 where
+  pub number : ℕ
+  pub numbers : Numbers
+  pub lent : Lent
+
+abbrev pub begun : Begun → (disk flash addresses blocks : List ℕ) → Opened
+begun r disk flash addresses blocks = record { number = numberOf (r .answer); numbers = numbersOf (r .box_record); lent = lent (r .box_record) disk flash addresses blocks (countersOf (r .counters)) }
+
+abbrev pub opens : BoxRecord → (disk flash addresses blocks : List ℕ) → Counters → Opened
+opens b disk flash addresses blocks k =
+    let t = lent b disk flash addresses blocks k in
+    record { number = refusal (numbersOf b) t opening; numbers = numbersOf b; lent = opened (numbersOf b) t }
