@@ -1,5 +1,5 @@
 -- What is written into the state and the answer is what is read there, and nothing else is changed. Assumes nothing.
-use mathlib.Core.Path.{_≡_, refl, sym, ap, _∙_}
+use mathlib.Core.Path.{_≡_, sym, ap, _∙_}
 use mathlib.Core.List.{List, _++_}
 use Prim.Native.Nat.{ℕ, _+_, _-_, _*_, _/_, _%_, _^_, _≤_, _<_}
 use native.Mathlib.Nat.{div-add-mod}
@@ -10,7 +10,6 @@ use Rattle.tables.specs.Rows.{le8}
 use Rattle.block.specs.Blocks.{splice}
 use Rattle.block.specs.Laws.{length-splice}
 use Rattle.paper.specs.Cache.{Counters}
-use Rattle.parts.specs.declared.BoxRecord.{BoxRecord}
 use Rattle.refusals.specs.Given.{countersOf}
 use Rattle.fields.specs.Fields.{lowBytes, get8, put8, recordIn, countersIn, putState, putAnswer}
 

@@ -1,6 +1,5 @@
 // The numbers in the words of a line: decimals, and two hexadecimal digits.
 use crate::words;
-ghost use mathlib.Core.Path.{_≡_};
 ghost use mathlib.Core.List.{[]};
 ghost use Prim.Native.Nat.{_≤_};
 ghost use lib.ListN.{length, getD};

@@ -1,7 +1,7 @@
 // The words of a line.
 ghost use mathlib.Core.Path.{_≡_};
 ghost use mathlib.Core.List.{[]};
-ghost use Prim.Native.Nat.{_+_, _-_, _≤_};
+ghost use Prim.Native.Nat.{_-_, _≤_};
 ghost use lib.ListN.{length, take, drop, getD};
 ghost use Rattle.lines.specs.Text.{same};
 ghost use Rattle.lines.specs.Lines.{words};

@@ -4,7 +4,7 @@ use mathlib.Core.List.{List, [], _∷_}
 use Prim.Native.Nat.{ℕ}
 use lib.Dec.{eqb, ltb}
 use lib.ListN.{length, getD, take}
-use Rattle.tables.specs.Rows.{rows, rowAt}
+use Rattle.tables.specs.Rows.{rows, rowAt, le4}
 use Rattle.tables.specs.Index.{Places}
 use Rattle.paper.specs.Cache.{AddressRow, BlockRow, blockRow, known}
 use Rattle.paper.specs.Engine.{Fixed, fit, engine}
@@ -25,6 +25,10 @@ victimPlace B rows [] used = orFirst (indexWhere (λ u. not (known (engine B) (u
 -- `places` has the place of the block row of each of the first n address rows
 abbrev pub Placed : (n d : ℕ) → (addrs blocks places : List ℕ) → Type 0
 Placed n d addrs blocks places = Places (rows d blocks) (rows n addrs) (take n places)
+
+-- the slot of the block row at a place, 0 where there is none
+abbrev pub slotIn : List ℕ → ℕ → ℕ → ℕ
+slotIn blocks d j = cond (ltb j d) (le4 (rowAt blocks j) 32) 0
 
 -- no block row is free: the first one is used
 abbrev pub full : List ℕ → Bool

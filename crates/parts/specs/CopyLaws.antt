@@ -1,27 +1,32 @@
 -- A block copied to the disk, and what a row's copy leaves. Assumes nothing.
 use mathlib.Core.Path.{_≡_, refl, sym, ap, ap₂, _∙_}
 use mathlib.Core.Bool.{Bool, true, false, _&&_}
-use mathlib.Core.List.{List, [], _∷_}
+use mathlib.Core.List.{List, [], _∷_, map}
 use Prim.Native.Nat.{ℕ, suc, zero, _≤_, _<_, _+_, _*_}
 use native.Mathlib.Nat.{le-of-suc-le-suc}
 use native.Mathlib.Omega.{arith}
-use lib.Dec.{eqb}
-use lib.ListN.{length, getD, set, take, drop}
-use lib.Seq.{take-at, drop-append-add}
+use lib.Dec.{eqb, ltb}
+use lib.ListN.{length, getD, set, take, drop, length-map, List·getD-map}
+use lib.Seq.{take-at, drop-append-add, getD-take}
+use borrow.Author.Tests.{ltb-true, ltb-false, le-ltb}
 use Rattle.block.specs.Blocks.{part, splice}
 use Rattle.parts.specs.declared.BoxRecord.{BoxRecord}
-use Rattle.tables.specs.Rows.{rowAt, le4}
+use Rattle.tables.specs.Rows.{rows, rowAt, le4}
+use Rattle.tables.specs.Index.{code, placeIn}
+use Rattle.tables.specs.declared.Found.{Found}
+use Rattle.tables.specs.declared.Found.the-variants.{At, Nothing}
 use Rattle.paper.specs.KeyedLaws.{All, by-test}
 use Rattle.paper.specs.Cache.{AddressRow, BlockRow, Box, slotOf, blockOf, blockRow}
 use Rattle.paper.specs.Engine.{Fixed, engine}
 use Rattle.paper.specs.Lent.{join}
 use Rattle.paper.specs.Parts.{length-join, join-set}
-use Rattle.paper.specs.Layout.{Blocks, Parts}
+use Rattle.paper.specs.Layout.{Addrs, Blocks, Parts}
 use Rattle.parts.specs.Rep.{Rep, Copied, copiedRow, noRow}
+use Rattle.parts.specs.Asked.{slotIn, Placed}
 use Rattle.paper.specs.Index.{indexWhere, slotOf-yes, slotOf-no}
 use Rattle.parts.specs.MoveLaws.{row-is, slot-is, address-is, address-below, dirty-is, cleaned-row}
-use Rattle.tables.specs.Find.{hasFingerprint}
-use Rattle.parts.specs.TableLaws.{has-fp}
+use Rattle.tables.specs.Find.{findFrom, hasFingerprint, caches}
+use Rattle.parts.specs.TableLaws.{addrBytes, rows-addrs, fp-of, has-fp, block-index}
 
 -- block k of the bytes
 join-part : (n : ℕ) (bs : List (Fixed n)) (k : ℕ) (z : Fixed n) → k < length bs → take n (drop (k * n) (join bs)) ≡ (getD bs k z) .0
@@ -91,6 +96,30 @@ module _ (B d : ℕ) (t : List ℕ) (free : List ℕ) (used : List (BlockRow (Fi
       let kb : k < length used = omega (arith, h .count, e) in
       let z : BlockRow (Fixed 32) = blockRow f 0 in
       er ∙ ap (λ (x : ℕ). le4 (rowAt t x) 32) e ∙ slot-is d t free used h k kb z ∙ sym (slotOf-yes (engine B) f used z kb)
+
+  pub slot-placed : slotIn t d j ≡ slotOf (engine B) f used
+  slot-placed = by-test (ltb j d) (λ y. rw y (slot-some (ltb-true j d y) (le4 (rowAt t j) 32) refl)) (λ y. rw y (slot-none (ltb-false j d y)))
+
+-- the same by what `places` has for a row: its block row, or 256
+slot-coded : (B d : ℕ) (t free : List ℕ) (used : List (BlockRow (Fixed 32))) (g : List ℕ) (q : Fixed 32) → Blocks d t free used → d ≤ 256 → q .0 ≡ g → (f : Found) → findFrom (caches g) 0 (rows d t) ≡ f
+    → slotIn t d (code f) ≡ slotOf (engine B) q used
+slot-coded B d t free used g q h b e (At i) x = slot-placed B d t free used q h i (block-index d t free used h g q e (At i) x)
+slot-coded B d t free used g q h b e Nothing x = rw (le-ltb 256 d b) (slot-none B d t free used q h d (block-index d t free used h g q e Nothing x) (omega arith))
+
+map-at : {A : Type 0} (f : A → ℕ) (l : List A) (i : ℕ) (z : A) → i < length l → getD (map f l) i 0 ≡ f (getD l i z)
+map-at f [] i z h = absurd (omega arith)
+map-at f (x ∷ xs) zero z h = refl
+map-at f (x ∷ xs) (suc i) z h = map-at f xs i z (le-of-suc-le-suc h)
+
+pub slot-of-row : (B P m n d : ℕ) (addrs blocks places : List ℕ) (l : List (AddressRow (Fixed 32))) (free : List ℕ) (used : List (BlockRow (Fixed 32))) → Addrs P m n addrs l → Blocks d blocks free used → d ≤ 256
+    → Placed n d addrs blocks places → (i : ℕ) → i < n → slotIn blocks d (getD places i 0) ≡ slotOf (engine B) (getD l i noRow .fingerprint) used
+unfolding placeIn
+slot-of-row B P m n d addrs blocks places l free used h k b p i li =
+    let r : AddressRow (Fixed 32) = getD l i noRow in
+    let e : getD places i 0 ≡ code (findFrom (caches (take 32 (drop 4 (addrBytes r)))) 0 (rows d blocks))
+    = sym (getD-take n places i 0 li) ∙ ap (λ (x : List ℕ). getD x i 0) (p ∙ ap (map (placeIn (rows d blocks))) (rows-addrs P m n addrs l h))
+    ∙ map-at (placeIn (rows d blocks)) (map addrBytes l) i (addrBytes noRow) (omega (arith, length-map l addrBytes, h .count)) ∙ ap (placeIn (rows d blocks)) (List·getD-map addrBytes l i noRow) in
+    ap (slotIn blocks d) e ∙ slot-coded B d blocks free used (take 32 (drop 4 (addrBytes r))) (r .fingerprint) k b (sym (fp-of r)) (findFrom (caches (take 32 (drop 4 (addrBytes r)))) 0 (rows d blocks)) refl
 
 -- a row's block and its place on the disk are there
 pub copy-fits : (b : BoxRecord) (disk flash addrs blocks : List ℕ) (s : Box (Fixed 32) (Fixed (b .size))) → Rep b disk flash addrs blocks s → (i : ℕ) → i < b .held → (a k : ℕ) → a ≡ le4 (rowAt addrs i) 0 → k < b .slots

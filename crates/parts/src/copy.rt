@@ -5,26 +5,62 @@ ghost use mathlib.Core.Path.{_≡_};
 ghost use mathlib.Core.Bool.{true};
 ghost use mathlib.Core.List.{List};
 ghost use Prim.Native.Nat.{ℕ, _*_, _<_, _≤_};
-ghost use lib.ListN.{length};
+ghost use lib.ListN.{length, getD};
 ghost use Rattle.paper.specs.Cache.{BlockRow, Box, slotOf};
 ghost use Rattle.paper.specs.Engine.{Fixed, engine};
 ghost use Rattle.paper.specs.Layout.{Blocks};
-ghost use Rattle.parts.specs.Rep.{Rep, Lent, LentWith, copiedRow, copiedRows};
+ghost use Rattle.parts.specs.Rep.{Rep, Lent, LentWith, noRow, copiedRow, copiedRows};
+ghost use Rattle.parts.specs.Asked.{slotIn, Placed};
 use crate::rows;
+
+// The slot of the block row at `place` among `d`, 0 where there is none.
+pub fn slot_in(t: &[u8], d: usize, place: usize) -> FlashSlot
+    requires { ⌜ length (now t) ≡ d * 40 ⌝ }
+    ensures { λ r. ⌜ r .0 ≡ slotIn (now (t .entry)) d place ⌝ }
+{
+    if d <= place {
+        return FlashSlot(0);
+    }
+    tables::find::slot_at(t, place)
+}
 
 // The slot of the fingerprint `g`, 0 where it is not cached.
 pub fn slot_for(t: &[u8], d: usize, g: &[u8]) -> FlashSlot
     requires { ⌜ (length (now t) ≡ d * 40) × (length (now g) ≡ 32) ⌝ }
     ensures { λ r. ⌜ ((B : ℕ) (free : List ℕ) (used : List (BlockRow (Fixed 32))) (f : Fixed 32) → Blocks d (now (t .entry)) free used → f .0 ≡ now (g .entry) → r .0 ≡ slotOf (engine B) f used) ⌝ }
 {
-    let j = rows::place_of(t, d, g);
-    if d <= j {
-        return FlashSlot(0);
-    }
-    tables::find::slot_at(t, j)
+    slot_in(t, d, rows::place_of(t, d, g))
 }
 
-// Copies the block of row `i` to its disk address and makes the row clean, if it is dirty. How many blocks that is.
+// Copies the block of row `i`, which is in `slot`, to its disk address and makes the row clean, if it is dirty. How many blocks that is.
+pub fn copy_row(
+    b: BoxRecord,
+    i: usize,
+    disk: &mut [u8],
+    flash: &[u8],
+    addrs: &mut [u8],
+    blocks: &[u8],
+    slot: FlashSlot,
+) -> usize
+    requires { ⌜ (i < b .held) × (slot .0 < b .slots) × (b .held ≤ b .rows) × (length (now addrs) ≡ b .rows * 40) ⌝ }
+    requires { ⌜ Lent b (now disk) (now flash) (now addrs) (now blocks) ⌝ }
+    ensures { λ r. ⌜ r ≤ 1 ⌝ }
+    ensures { λ r. ⌜ ((s : Box (Fixed 32) (Fixed (b .size))) → Rep b (now (disk .entry)) (now (flash .entry)) (now (addrs .entry)) (now (blocks .entry)) s
+        → slotOf (engine (b .size)) (getD (s .rows) i noRow .fingerprint) (s .used) ≡ slot .0
+        → record { count = r; disk = now (disk .exit); addrs = now (addrs .exit) } ≡ copiedRow b (λ f. true) s i) ⌝ }
+{
+    if !tables::find::flag_at(addrs, i) {
+        return 0;
+    }
+    let k = slot.0;
+    let x = tables::find::address_at(addrs, i);
+    let a = x.0;
+    block::copy_block(flash, k as usize, disk, a as usize, b.size);
+    tables::put::set_clean(addrs, i);
+    1
+}
+
+// The same, where the slot has to be found.
 pub fn flush_row(
     b: BoxRecord,
     i: usize,
@@ -45,12 +81,7 @@ pub fn flush_row(
     let at = i * 40 + 4;
     let end = at + 32;
     let slot = slot_for(blocks, b.slots, &addrs[at..end]);
-    let k = slot.0;
-    let x = tables::find::address_at(addrs, i);
-    let a = x.0;
-    block::copy_block(flash, k as usize, disk, a as usize, b.size);
-    tables::put::set_clean(addrs, i);
-    1
+    copy_row(b, i, disk, flash, addrs, blocks, slot)
 }
 
 // The same of row `i` if it also has the fingerprint `g`, whose block is in `slot`.
@@ -85,16 +116,18 @@ pub fn clean_row(
     1
 }
 
-// The same of every held row, oldest first.
+// The same of every held row, oldest first; `places` has the place of the block row of each.
 pub fn flush_rows(
     b: BoxRecord,
     disk: &mut [u8],
     flash: &[u8],
     addrs: &mut [u8],
     blocks: &[u8],
+    places: &[u16],
 ) -> usize
-    requires { ⌜ (0 < b .slots) × (b .held ≤ b .rows) × (length (now addrs) ≡ b .rows * 40) × (length (now blocks) ≡ b .slots * 40) ⌝ }
+    requires { ⌜ (0 < b .slots) × (b .slots ≤ 256) × (b .held ≤ b .rows) × (length (now addrs) ≡ b .rows * 40) × (length (now blocks) ≡ b .slots * 40) × (b .held ≤ length (now places)) ⌝ }
     requires { ⌜ Lent b (now disk) (now flash) (now addrs) (now blocks) ⌝ }
+    requires { ⌜ Placed (b .held) (b .slots) (now addrs) (now blocks) (now places) ⌝ }
     ensures { λ r. ⌜ r ≤ b .held ⌝ }
     ensures { λ r. ⌜ ((s : Box (Fixed 32) (Fixed (b .size))) → Rep b (now (disk .entry)) (now (flash .entry)) (now (addrs .entry)) (now (blocks .entry)) s
         → record { count = r; disk = now (disk .exit); addrs = now (addrs .exit) } ≡ copiedRows b (λ f. true) s (b .held)) ⌝ }
@@ -102,7 +135,8 @@ pub fn flush_rows(
     let mut count = 0;
     let mut i = 0;
     while i < b.held {
-        count += flush_row(b, i, disk, flash, addrs, blocks);
+        let slot = slot_in(blocks, b.slots, places[i] as usize);
+        count += copy_row(b, i, disk, flash, addrs, blocks, slot);
         i += 1;
     }
     count

@@ -188,10 +188,11 @@ pub fn flush(
     ensures { λ r. ⌜ told r (now (disk .exit)) (now (flash .entry)) (now (addresses .exit)) (now (blocks .entry)) Option.none
         ≡ called b (lent b (now (disk .entry)) (now (flash .entry)) (now (addresses .entry)) (now (blocks .entry)) (countersOf c)) Ask.flush ⌝ }
 {
-    let number = refusals::of_flush(b, disk, flash, addresses, blocks, c);
+    let mut places = [0u16; 1024];
+    let number = refusals::of_flush(b, disk, flash, addresses, blocks, c, &mut places);
     if number != 0 {
         return refused(number, b, c);
     }
-    let s = serve::serve_flush(b, disk, flash, addresses, blocks);
+    let s = serve::serve_flush(b, disk, flash, addresses, blocks, &places);
     answered(b, Word::Done, s, c, 0, 0)
 }

@@ -213,13 +213,15 @@ pub fn of_flush(
     addresses: &[u8],
     blocks: &[u8],
     c: counters::Counters,
+    places: &mut [u16],
 ) -> u32
+    requires { ⌜ length (now places) ≡ 1024 ⌝ }
     ensures { λ r. ⌜ r ≡ refusal (numbersOf b) (lent b (now (disk .entry)) (now (flash .entry)) (now (addresses .entry)) (now (blocks .entry)) (countersOf c)) (calling Ask.flush) ⌝ }
+    ensures { λ r. ⌜ (r ≡ 0 → Placed (b .held) (b .slots) (now (addresses .entry)) (now (blocks .entry)) (now (places .exit))) ⌝ }
 {
     let first = of_opening(b, disk, flash, addresses, blocks);
     if first != 0 {
         return first;
     }
-    let mut places = [0u16; 1024];
-    of_state(b, addresses, blocks, c, &mut places)
+    of_state(b, addresses, blocks, c, places)
 }

@@ -61,15 +61,17 @@ pub fn serve_flush(
     flash: &[u8],
     addrs: &mut [u8],
     blocks: &[u8],
+    places: &[u16],
 ) -> Served
-    requires { ⌜ (0 < b .slots) × (b .held ≤ b .rows) × (length (now addrs) ≡ b .rows * 40) × (length (now blocks) ≡ b .slots * 40) ⌝ }
+    requires { ⌜ (0 < b .slots) × (b .slots ≤ 256) × (b .held ≤ b .rows) × (length (now addrs) ≡ b .rows * 40) × (length (now blocks) ≡ b .slots * 40) × (b .held ≤ length (now places)) ⌝ }
     requires { ⌜ ((s : Box (Fixed 32) (Fixed (b .size))) × Rep b (now disk) (now flash) (now addrs) (now blocks) s) ⌝ }
+    requires { ⌜ Placed (b .held) (b .slots) (now addrs) (now blocks) (now places) ⌝ }
     ensures { λ r. ⌜ (r .flashed ≤ 1) × (r .primary ≤ 2 + b .rows) ⌝ }
     ensures { λ r. ⌜ ((s : Box (Fixed 32) (Fixed (b .size))) (lent : List ℕ) → Rep b (now (disk .entry)) (now (flash .entry)) (now (addrs .entry)) (now (blocks .entry)) s
         → record { yes = r .yes; held = r .held; left = (record { flashed = r .flashed; primary = r .primary; disk = now (disk .exit); flash = now (flash .entry); addrs = now (addrs .exit); blocks = now (blocks .entry) }); block = lent }
         ≡ leaves b lent (serve (engine (b .size)) (b .rows) s Call.flush)) ⌝ }
 {
-    let count = copy::flush_rows(b, disk, flash, addrs, blocks);
+    let count = copy::flush_rows(b, disk, flash, addrs, blocks, places);
     Served {
         yes: true,
         held: b.held,

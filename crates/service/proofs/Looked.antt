@@ -1,9 +1,8 @@
 -- A look on bytes, from the place that the cache finds and what is written of it. Assumes nothing.
 use mathlib.Core.Path.{_≡_, refl, sym, ap, _∙_, subst}
-use mathlib.Core.Bool.{Bool, true, false, cond}
+use mathlib.Core.Bool.{true, false, cond}
 use mathlib.Core.List.{List}
-use mathlib.Core.Option.{Option, none, some}
-use Prim.Native.Nat.{ℕ, _+_, _*_, _^_, _≤_, _<_}
+use Prim.Native.Nat.{ℕ, _*_, _^_, _<_}
 use native.Mathlib.Omega.{arith}
 use lib.Dec.{eqb}
 use lib.ListN.{length}
@@ -11,9 +10,9 @@ use borrow.Author.Tests.{eqb-false}
 use Rattle.block.specs.Blocks.{part}
 use Rattle.paper.specs.KeyedLaws.{by-test, by-option}
 use Rattle.paper.specs.RowBytes.{Bytes}
-use Rattle.paper.specs.Cache.{AddressRow, BlockRow, Counters, rowWithBlock}
-use Rattle.paper.specs.Engine.{Fixed, engine}
-use Rattle.paper.specs.Lent.{Numbers, Lent, Ask, After, Answer, calling, refusal, boxIn, call}
+use Rattle.paper.specs.Cache.{Counters, rowWithBlock}
+use Rattle.paper.specs.Engine.{engine}
+use Rattle.paper.specs.Lent.{Numbers, Lent, Ask, calling, refusal, boxIn, call}
 use Rattle.parts.specs.declared.BoxRecord.{BoxRecord}
 use Rattle.look.specs.declared.Place.{Place}
 use Rattle.look.specs.declared.Place.the-variants.{Refused, Flash, Disk}
@@ -21,7 +20,7 @@ use Rattle.refusals.specs.Given.{numbersOf, countersOf, lent}
 use Rattle.look.specs.Look.{whereIs, answerAt, partAt}
 use Rattle.look.specs.Look as Found
 use Rattle.look.specs.LookLaws.{PartIn, where-in, look-answers, look-returns}
-use Rattle.fields.specs.Fields.{get8, recordIn, countersIn, putAnswer, fitting}
+use Rattle.fields.specs.Fields.{get8, recordIn, countersIn, fitting}
 use Rattle.fields.specs.FieldLaws.{word-read, second-read, third-read}
 use Rattle.fields.specs.Noted.{numberOf, LeftLook, startOf, placeIn}
 use Rattle.service.specs.Left.{lentIn, leavesLook, shown, wordIn, Shows}

@@ -1,12 +1,8 @@
 use borrow.Author.Needs.{needs}
-use mathlib.Core.Path.{_≡_, _∙_, ap}
-use native.Mathlib.Omega.{arith}
+use mathlib.Core.Path.{_∙_}
 use Rattle.block.specs.Laws.{part-is}
 use Rattle.block.proofs.copy_block.Statement.{statement}
 use Rattle.block.proofs.copy_block.Tie as tie
-use Rattle.block.proofs.copy_block.Reads as reads
-use Rattle.block.proofs.copy_block.Lts as lts
-use Rattle.block.proofs.put.Reads as put-reads
 
 mul-a : tie.Need-mul-a
 mul-a c = search needs

@@ -1,11 +1,7 @@
 use borrow.Author.Needs.{needs}
-use native.Mathlib.Omega.{arith}
 use Rattle.block.specs.Laws.{put-mid}
 use Rattle.block.proofs.put.Statement.{statement}
 use Rattle.block.proofs.put.Tie as tie
-use Rattle.block.proofs.put.Reads as reads
-use Rattle.block.proofs.put.Lts as lts
-use Rattle.block.proofs.copy_all.Reads as copy-all-reads
 
 add-end : tie.Need-add-end
 add-end c = search needs

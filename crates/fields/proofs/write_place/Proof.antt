@@ -1,7 +1,6 @@
 -- By the place; where the part starts is a number of 64 bits. Assumes nothing.
 use mathlib.Core.Path.{subst}
 use Prim.Native.Nat.{_<_, _^_}
-use native.Mathlib.Omega.{arith}
 use borrow.Author.Needs.{needs}
 use Rattle.look.specs.declared.Place.{Place}
 use Rattle.fields.specs.Noted.{startOf}

@@ -4,10 +4,6 @@ use Rattle.print.specs.Texts.{answerText}
 use native.Mathlib.Omega.{arith}
 use Rattle.print.proofs.answer.Statement.{statement}
 use Rattle.print.proofs.answer.Tie as tie
-use Rattle.print.proofs.answer.Reads as reads
-use Rattle.print.proofs.answer.Lts as lts
-use Rattle.print.proofs.answered.Reads as answered-reads
-use Rattle.print.proofs.refused.Reads as refused-reads
 
 returns : tie.Need-returns
 unfolding answerText

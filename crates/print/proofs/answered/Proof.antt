@@ -4,12 +4,6 @@ use native.Mathlib.Omega.{arith}
 use Rattle.print.specs.PutLaws.{put-next}
 use Rattle.print.proofs.answered.Statement.{statement}
 use Rattle.print.proofs.answered.Tie as tie
-use Rattle.print.proofs.answered.Reads as reads
-use Rattle.print.proofs.answered.Lts as lts
-use Rattle.print.proofs.ask.Reads as ask-reads
-use Rattle.print.proofs.counts.Reads as counts-reads
-use Rattle.print.proofs.decimal.Reads as decimal-reads
-use Rattle.print.proofs.word.Reads as word-reads
 
 returns : tie.Need-returns
 returns c =

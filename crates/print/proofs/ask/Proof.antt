@@ -4,10 +4,6 @@ use native.Mathlib.Omega.{arith}
 use Rattle.print.specs.Texts.{askText}
 use Rattle.print.proofs.ask.Statement.{statement}
 use Rattle.print.proofs.ask.Tie as tie
-use Rattle.print.proofs.ask.Reads as reads
-use Rattle.print.proofs.ask.Lts as lts
-use Rattle.print.proofs.named.Reads as named-reads
-use Rattle.print.proofs.text.Reads as text-reads
 
 returns : tie.Need-returns
 unfolding askText

@@ -5,10 +5,6 @@ use native.Mathlib.Omega.{arith}
 use Rattle.print.specs.PutLaws.{put-next}
 use Rattle.print.proofs.counters.Statement.{statement}
 use Rattle.print.proofs.counters.Tie as tie
-use Rattle.print.proofs.counters.Reads as reads
-use Rattle.print.proofs.counters.Lts as lts
-use Rattle.print.proofs.named.Reads as named-reads
-use Rattle.print.proofs.text.Reads as text-reads
 
 returns : tie.Need-returns
 unfolding countersText

@@ -9,10 +9,6 @@ use Rattle.block.specs.Blocks.{splice}
 use Rattle.print.proofs.Digits.{spelled, decimal-length}
 use Rattle.print.proofs.decimal.Statement.{statement}
 use Rattle.print.proofs.decimal.Tie as tie
-use Rattle.print.proofs.decimal.Reads as reads
-use Rattle.print.proofs.decimal.Lts as lts
-use Rattle.io.proofs.decimal.Reads as decimal-reads
-use Rattle.print.proofs.text.Reads as text-reads
 
 text-requires : tie.Need-text-requires
 text-requires c κs =

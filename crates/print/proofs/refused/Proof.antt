@@ -4,11 +4,6 @@ use native.Mathlib.Omega.{arith}
 use Rattle.print.specs.PutLaws.{put-next}
 use Rattle.print.proofs.refused.Statement.{statement}
 use Rattle.print.proofs.refused.Tie as tie
-use Rattle.print.proofs.refused.Reads as reads
-use Rattle.print.proofs.refused.Lts as lts
-use Rattle.print.proofs.decimal.Reads as decimal-reads
-use Rattle.print.proofs.named.Reads as named-reads
-use Rattle.print.proofs.text.Reads as text-reads
 
 returns : tie.Need-returns
 returns c =

@@ -4,9 +4,6 @@ use Rattle.print.specs.Texts.{wordText}
 use native.Mathlib.Omega.{arith}
 use Rattle.print.proofs.word.Statement.{statement}
 use Rattle.print.proofs.word.Tie as tie
-use Rattle.print.proofs.word.Reads as reads
-use Rattle.print.proofs.word.Lts as lts
-use Rattle.print.proofs.text.Reads as text-reads
 
 returns : tie.Need-returns
 unfolding wordText

@@ -1,7 +1,5 @@
 -- What the opening's check gives, then the tables and the counters; a flush has no 3. Assumes nothing.
 use mathlib.Core.Path.{sym, _∙_}
-use Prim.Native.Nat.{ℕ}
-use lib.ListN.{length-replicate}
 use borrow.Author.Needs.{needs}
 use Rattle.paper.specs.Lent.{Ask}
 use Rattle.refusals.specs.Given.{numbersOf, countersOf, lent}
@@ -11,7 +9,7 @@ use Rattle.refusals.proofs.of_flush.Statement.{statement}
 use Rattle.refusals.proofs.of_flush.Tie as tie
 
 abbrev start : tie.Else1 → tie.Start
-start c = c .before .before .before .before .before .before
+start c = c .before .before .before .before .before .before .before
 
 -- what the first check leaves
 opens : (c : tie.Else1) → (let a = start c .args in Opens (a .b) (a .disk .now) (a .flash .now) (a .addresses .now) (a .blocks .now) (countersOf (a .c)))
@@ -21,21 +19,21 @@ opens c =
 
 returns : tie.Need-returns
 returns c =
-    let a = c .before .before .before .before .before .before .args in
+    let a = c .before .before .before .before .before .before .before .args in
     let e = c .before .of-opening .ensures (countersOf (a .c)) in
-    e ∙ refused-first (numbersOf (a .b)) (lent (a .b) (a .disk .now) (a .flash .now) (a .addresses .now) (a .blocks .now) (countersOf (a .c))) Ask.flush (λ z. c .if1 .taken (e ∙ z))
+    (e ∙ refused-first (numbersOf (a .b)) (lent (a .b) (a .disk .now) (a .flash .now) (a .addresses .now) (a .blocks .now) (countersOf (a .c))) Ask.flush (λ z. c .if1 .taken (e ∙ z)), λ z. absurd (c .if1 .taken z))
 
 of-state-requires : tie.Need-of-state-requires
 of-state-requires c κs =
     let o = opens (c .before) in
-    (o .most .blocks, o .most .rows, o .most .slots, o .lengths .addresses, o .lengths .blocks, length-replicate {A = ℕ} 1024 0)
+    (o .most .blocks, o .most .rows, o .most .slots, o .lengths .addresses, o .lengths .blocks, start (c .before) .pre)
 
 returns-2 : tie.Need-returns-2
 returns-2 c =
-    let t = c .before in
+    let t = c .before .before in
     let e = t .before .before in
     let a = start e .args in
-    t .of-state .ensures .0 ∙ flush-rest (a .b) (a .disk .now) (a .flash .now) (a .addresses .now) (a .blocks .now) (countersOf (a .c)) (opens e)
+    (t .of-state .ensures .0 ∙ flush-rest (a .b) (a .disk .now) (a .flash .now) (a .addresses .now) (a .blocks .now) (countersOf (a .c)) (opens e), t .of-state .ensures .1)
 
 pub of-flush-spec : {M : Type 1} → statement M
-of-flush-spec = tie.close (tie.spec (λ c κs. search needs) returns (λ c. search needs) of-state-requires returns-2)
+of-flush-spec = tie.close (tie.spec (λ c κs. search needs) returns of-state-requires (λ c. search needs) returns-2)

@@ -9,10 +9,6 @@ use Rattle.replay_cli.specs.Chunks.{first, fedFirst}
 use Rattle.replay_cli.proofs.Joined.{joined}
 use Rattle.replay_cli.proofs.all.Statement.{statement}
 use Rattle.replay_cli.proofs.all.Tie as tie
-use Rattle.replay_cli.proofs.all.Reads as reads
-use Rattle.replay_cli.proofs.all.Lts as lts
-use Rattle.replay.proofs.feed.begin.Reads as begin-reads
-use Rattle.replay_cli.proofs.turn.Reads as turn-reads
 
 abbrev Inv-loop : tie.InvT-loop
 Inv-loop chunk₀ line₀ disk₀ flash₀ addresses₀ blocks₀ out₀ s₀ more₀ turns₀ chunk line disk flash addresses blocks out s more turns =

@@ -4,8 +4,6 @@ use native.Mathlib.Omega.{arith}
 use borrow.Author.Tests.{lt-ltb}
 use Rattle.replay_cli.proofs.goes_on.Statement.{statement}
 use Rattle.replay_cli.proofs.goes_on.Tie as tie
-use Rattle.replay_cli.proofs.goes_on.Reads as reads
-use Rattle.replay_cli.proofs.goes_on.Lts as lts
 
 returns : tie.Need-returns
 returns c = rw (c .if1 .taken) refl

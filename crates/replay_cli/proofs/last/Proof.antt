@@ -4,10 +4,6 @@ use Rattle.session.specs.Memory.{After}
 use borrow.Author.Needs.{needs}
 use Rattle.replay_cli.proofs.last.Statement.{statement}
 use Rattle.replay_cli.proofs.last.Tie as tie
-use Rattle.replay_cli.proofs.last.Reads as reads
-use Rattle.replay_cli.proofs.last.Lts as lts
-use Rattle.replay.proofs.feed.finish.Reads as finish-reads
-use Rattle.replay_cli.proofs.write.Reads as write-reads
 
 returns : tie.Need-returns
 returns c = ap (λ (x : After). x .memory) (c .before .before .before .before .before .before .before .before .before .before .before .before .before .finish .ensures)

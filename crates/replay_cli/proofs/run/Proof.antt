@@ -7,9 +7,6 @@ use Rattle.session.specs.Memory.{memory, fed}
 use Rattle.replay_cli.specs.Chunks.{fedFirst}
 use Rattle.replay_cli.proofs.run.Statement.{statement}
 use Rattle.replay_cli.proofs.run.Tie as tie
-use Rattle.replay_cli.proofs.run.Reads as reads
-use Rattle.replay_cli.proofs.run.Lts as lts
-use Rattle.replay_cli.proofs.step.Reads as step-reads
 
 abbrev Inv-loop : tie.InvT-loop
 Inv-loop chunk line₀ disk₀ flash₀ addresses₀ blocks₀ out₀ t₀ i₀ line disk flash addresses blocks out t i =

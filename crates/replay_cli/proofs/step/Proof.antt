@@ -4,10 +4,6 @@ use Rattle.session.specs.Memory.{After}
 use borrow.Author.Needs.{needs}
 use Rattle.replay_cli.proofs.step.Statement.{statement}
 use Rattle.replay_cli.proofs.step.Tie as tie
-use Rattle.replay_cli.proofs.step.Reads as reads
-use Rattle.replay_cli.proofs.step.Lts as lts
-use Rattle.replay.proofs.feed.feed.Reads as feed-reads
-use Rattle.replay_cli.proofs.write.Reads as write-reads
 
 returns : tie.Need-returns
 returns c = ap (λ (x : After). x .memory) (c .before .before .before .before .before .before .before .before .before .before .before .before .before .before .before .feed .ensures)

@@ -5,9 +5,6 @@ use Rattle.paper.specs.Lent.{Ask}
 use Rattle.answers.proofs.Doing.{call-done, block-filled}
 use Rattle.answers.proofs.call.back.Statement.{statement}
 use Rattle.answers.proofs.call.back.Tie as tie
-use Rattle.answers.proofs.call.back.Reads as reads
-use Rattle.answers.proofs.call.back.Lts as lts
-use Rattle.policy.proofs.calls.write_back.Reads as write-back-reads
 
 returns : tie.Need-returns
 returns c =

@@ -5,15 +5,6 @@ use Rattle.answers.specs.Replay.{asked, doing}
 use Rattle.answers.proofs.Doing.{call-done}
 use Rattle.answers.proofs.call.call.Statement.{statement}
 use Rattle.answers.proofs.call.call.Tie as tie
-use Rattle.answers.proofs.call.call.Reads as reads
-use Rattle.answers.proofs.call.call.Lts as lts
-use Rattle.policy.proofs.calls.flush.Reads as flush-reads
-use Rattle.answers.proofs.call.back.Reads as back-reads
-use Rattle.answers.proofs.call.invalidate.Reads as invalidate-reads
-use Rattle.answers.proofs.call.look.Reads as look-reads
-use Rattle.answers.proofs.call.read.Reads as read-reads
-use Rattle.answers.proofs.call.through.Reads as through-reads
-use Rattle.answers.proofs.call.unformed.Reads as unformed-reads
 
 returns : tie.Need-returns
 unfolding asked

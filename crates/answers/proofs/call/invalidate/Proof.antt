@@ -5,9 +5,6 @@ use Rattle.paper.specs.Lent.{Ask}
 use Rattle.answers.proofs.Doing.{call-done, block-filled}
 use Rattle.answers.proofs.call.invalidate.Statement.{statement}
 use Rattle.answers.proofs.call.invalidate.Tie as tie
-use Rattle.answers.proofs.call.invalidate.Reads as reads
-use Rattle.answers.proofs.call.invalidate.Lts as lts
-use Rattle.policy.proofs.calls.write_invalidate.Reads as write-invalidate-reads
 
 returns : tie.Need-returns
 returns c =

@@ -7,9 +7,6 @@ use Rattle.policy.specs.CallLaws.{all-bytes}
 use Rattle.answers.proofs.Doing.{look-done}
 use Rattle.answers.proofs.call.look.Statement.{statement}
 use Rattle.answers.proofs.call.look.Tie as tie
-use Rattle.answers.proofs.call.look.Reads as reads
-use Rattle.answers.proofs.call.look.Lts as lts
-use Rattle.look.proofs.look.Reads as look-reads
 
 returns : tie.Need-returns
 returns c =

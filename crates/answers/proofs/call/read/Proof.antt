@@ -5,9 +5,6 @@ use Rattle.paper.specs.Lent.{Ask}
 use Rattle.answers.proofs.Doing.{call-done, block-filled}
 use Rattle.answers.proofs.call.read.Statement.{statement}
 use Rattle.answers.proofs.call.read.Tie as tie
-use Rattle.answers.proofs.call.read.Reads as reads
-use Rattle.answers.proofs.call.read.Lts as lts
-use Rattle.policy.proofs.calls.read.Reads as read-reads
 
 returns : tie.Need-returns
 returns c =

@@ -5,9 +5,6 @@ use Rattle.paper.specs.Lent.{Ask}
 use Rattle.answers.proofs.Doing.{call-done, block-filled}
 use Rattle.answers.proofs.call.through.Statement.{statement}
 use Rattle.answers.proofs.call.through.Tie as tie
-use Rattle.answers.proofs.call.through.Reads as reads
-use Rattle.answers.proofs.call.through.Lts as lts
-use Rattle.policy.proofs.calls.write_through.Reads as write-through-reads
 
 returns : tie.Need-returns
 returns c =

@@ -6,8 +6,6 @@ use lib.ListN.{length, take, replicate, length-set}
 use Rattle.answers.proofs.Filling.{fill-next, fill-done}
 use Rattle.answers.proofs.start.fill.Statement.{statement}
 use Rattle.answers.proofs.start.fill.Tie as tie
-use Rattle.answers.proofs.start.fill.Reads as reads
-use Rattle.answers.proofs.start.fill.Lts as lts
 
 abbrev Inv-loop : tie.InvT-loop
 Inv-loop s₀ x i₀ s i = (i ≤ length s) × (length s ≡ length s₀) × (take i s ≡ replicate i x)

@@ -10,9 +10,6 @@ use Rattle.answers.specs.Replay.{startDisk}
 use Rattle.answers.proofs.Filling.{block-in, disk-next, length-mid, disk-done}
 use Rattle.answers.proofs.start.fill_disk.Statement.{statement}
 use Rattle.answers.proofs.start.fill_disk.Tie as tie
-use Rattle.answers.proofs.start.fill_disk.Reads as reads
-use Rattle.answers.proofs.start.fill_disk.Lts as lts
-use Rattle.answers.proofs.start.fill.Reads as fill-reads
 
 abbrev Inv-loop : tie.InvT-loop
 Inv-loop disk₀ size blocks k₀ disk k = (k ≤ blocks) × (length disk ≡ length disk₀) × (take (k * size) disk ≡ startDisk size k)

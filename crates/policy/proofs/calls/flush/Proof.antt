@@ -2,7 +2,9 @@
 use mathlib.Core.Path.{_≡_, refl, sym, ap, _∙_}
 use mathlib.Core.List.{[]}
 use mathlib.Core.Option.{none}
+use Prim.Native.Nat.{ℕ}
 use native.Mathlib.Omega.{arith}
+use lib.ListN.{length-replicate}
 use borrow.Author.Needs.{needs}
 use Rattle.paper.specs.Cache.{serve, flushed}
 use Rattle.paper.specs.Lent.{Ask, calling, refusal, callOf, boxIn}
@@ -14,34 +16,42 @@ use Rattle.policy.specs.CallLaws.{all-bytes, rep, sizes, finish, keep, f
 use Rattle.policy.proofs.calls.flush.Statement.{statement}
 use Rattle.policy.proofs.calls.flush.Tie as tie
 
+of-flush-requires : tie.Need-of-flush-requires
+of-flush-requires c κs = length-replicate {A = ℕ} 1024 0
+
 -- the refusal is 0
-zero : (c : tie.Else1) → (let a = c .before .before .before .before .before .before .before .before .args in refusal (numbersOf (a .b)) (lent (a .b) (a .disk .now) (a .flash .now) (a .addresses .now) (a .blocks .now) (countersOf (a .c))) (calling Ask.flush) ≡ 0)
-zero c = sym (c .before .of-flush .ensures) ∙ c .if1 .left
+zero : (c : tie.Else1) → (let a = c .before .before .before .before .before .before .before .before .before .before .args in refusal (numbersOf (a .b)) (lent (a .b) (a .disk .now) (a .flash .now) (a .addresses .now) (a .blocks .now) (countersOf (a .c))) (calling Ask.flush) ≡ 0)
+zero c = sym (c .before .before .of-flush .ensures .0) ∙ c .if1 .left
 
 returns : tie.Need-returns
 returns c =
-    let x = c .before .before in
-    let a = x .before .before .before .before .before .before .before .args in
+    let x = c .before .before .before in
+    let a = x .before .before .before .before .before .before .before .before .args in
     ap (λ r. told r (a .disk .now) (a .flash .now) (a .addresses .now) (a .blocks .now) none) (c .refused .ensures)
-    ∙ keep (a .b) (a .disk .now) (a .flash .now) (a .addresses .now) (a .blocks .now) (a .c) Ask.flush (x .of-flush .result) (x .of-flush .ensures) (c .before .if1 .taken)
+    ∙ keep (a .b) (a .disk .now) (a .flash .now) (a .addresses .now) (a .blocks .now) (a .c) Ask.flush (x .of-flush .result) (x .of-flush .ensures .0) (c .before .if1 .taken)
 
 serve-flush-requires : tie.Need-serve-flush-requires
 serve-flush-requires c κs =
-    let e = c .before .before in
-    let s = e .before .before .before .before in
+    let e = c .before .before .before in
+    let w = e .before .before in
+    let s = e .before .before .before .before .before .before in
     let a = s .before .before .before .before .args in
     let z = zero e in
     let x = all-bytes (a .addresses .now) (λ i. omega (arith, s .before .slice-known2 .given i)) in
     let y = all-bytes (a .blocks .now) (λ i. omega (arith, s .shared-slice-known2 .given i)) in
     let k = countersOf (a .c) in
+    let o = served-finds (numbersOf (a .b)) (lent (a .b) (a .disk .now) (a .flash .now) (a .addresses .now) (a .blocks .now) k) Ask.flush z in
     let l = sizes (a .b) (a .disk .now) (a .flash .now) (a .addresses .now) (a .blocks .now) k Ask.flush z x y in
-    ((l .1, l .2, l .3, l .4), (boxIn (numbersOf (a .b)) (lent (a .b) (a .disk .now) (a .flash .now) (a .addresses .now) (a .blocks .now) k), rep (a .b) (a .disk .now) (a .flash .now) (a .addresses .now) (a .blocks .now) k Ask.flush z x y))
+    let n = w .of-flush .kept .1 .1 .1 .1 .1 .1 .0 ∙ length-replicate {A = ℕ} 1024 0 in (
+      (l .1, o .fits .d-most, l .2, l .3, l .4, omega (arith, l .2, l .5, n)),
+      ((boxIn (numbersOf (a .b)) (lent (a .b) (a .disk .now) (a .flash .now) (a .addresses .now) (a .blocks .now) k), rep (a .b) (a .disk .now) (a .flash .now) (a .addresses .now) (a .blocks .now) k Ask.flush z x y), w .of-flush .ensures .1 (e .if1 .left)),
+    )
 
 answered-requires : tie.Need-answered-requires
 answered-requires c κs =
     let r = c .before .before .before .before in
-    let e = r .before .before .before in
-    let a = e .before .before .before .before .before .before .before .before .args in
+    let e = r .before .before .before .before in
+    let a = e .before .before .before .before .before .before .before .before .before .before .args in
     let o = served-finds (numbersOf (a .b)) (lent (a .b) (a .disk .now) (a .flash .now) (a .addresses .now) (a .blocks .now) (countersOf (a .c))) Ask.flush (zero e) in
     fitting (a .c) (a .b .rows) 0 0 (r .serve-flush .result .flashed) (r .serve-flush .result .primary) (o .counters) (o .fits .m-most) (omega arith) (omega arith) (r .serve-flush .ensures .0 .0) (r .serve-flush .ensures .0 .1)
 
@@ -49,8 +59,8 @@ returns-2 : tie.Need-returns-2
 unfolding callOf serve flushed
 returns-2 c =
     let r = c .before .before .before .before .before in
-    let e = r .before .before .before in
-    let s = e .before .before .before .before in
+    let e = r .before .before .before .before in
+    let s = e .before .before .before .before .before .before in
     let a = s .before .before .before .before .args in
     let z = zero e in
     let x = all-bytes (a .addresses .now) (λ i. omega (arith, s .before .slice-known2 .given i)) in
@@ -66,11 +76,13 @@ pub flush-spec : {M : Type 1} → statement M
 flush-spec =
     tie.close
     (tie.spec
-    (λ c κs. search needs)
+    (λ c. search needs)
+    of-flush-requires
     (λ c κs. search needs)
     (λ c. search needs)
     (λ c. search needs)
     returns
+    (λ c. search needs)
     serve-flush-requires
     answered-requires
     (λ c. search needs)

@@ -11,11 +11,6 @@ use Rattle.replay.proofs.Feeding.{quiet-same, end-first, end-later, end
 use borrow.Author.Needs.{needs}
 use Rattle.replay.proofs.feed.end_line.Statement.{statement}
 use Rattle.replay.proofs.feed.end_line.Tie as tie
-use Rattle.replay.proofs.feed.end_line.Reads as reads
-use Rattle.replay.proofs.feed.end_line.Lts as lts
-use Rattle.lines.proofs.parse.parse.Reads as parse-reads
-use Rattle.session.proofs.line.first.Reads as first-reads
-use Rattle.session.proofs.line.later.Reads as later-reads
 
 returns : tie.Need-returns
 unfolding stateIn

@@ -7,11 +7,6 @@ use Rattle.session.specs.MemoryLaws.{fitting}
 use borrow.Author.Needs.{needs}
 use Rattle.replay.proofs.feed.feed.Statement.{statement}
 use Rattle.replay.proofs.feed.feed.Tie as tie
-use Rattle.replay.proofs.feed.feed.Reads as reads
-use Rattle.replay.proofs.feed.feed.Lts as lts
-use Rattle.replay.proofs.feed.end_line.Reads as end-line-reads
-use Rattle.replay.proofs.feed.fit.Reads as fit-reads
-use Rattle.replay.proofs.feed.keep_byte.Reads as keep-byte-reads
 
 returns : tie.Need-returns
 unfolding fed

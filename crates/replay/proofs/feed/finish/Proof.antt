@@ -7,11 +7,6 @@ use Rattle.replay.proofs.Feeding.{end-is}
 use borrow.Author.Needs.{needs}
 use Rattle.replay.proofs.feed.finish.Statement.{statement}
 use Rattle.replay.proofs.feed.finish.Tie as tie
-use Rattle.replay.proofs.feed.finish.Reads as reads
-use Rattle.replay.proofs.feed.finish.Lts as lts
-use Rattle.replay.proofs.feed.fit.Reads as fit-reads
-use Rattle.replay.proofs.feed.last_counters.Reads as last-counters-reads
-use Rattle.replay.proofs.feed.last_line.Reads as last-line-reads
 
 returns : tie.Need-returns
 unfolding ended

@@ -5,10 +5,6 @@ use Rattle.session.specs.Memory.{fits}
 use borrow.Author.Needs.{needs}
 use Rattle.replay.proofs.feed.fit.Statement.{statement}
 use Rattle.replay.proofs.feed.fit.Tie as tie
-use Rattle.replay.proofs.feed.fit.Reads as reads
-use Rattle.replay.proofs.feed.fit.Lts as lts
-use Rattle.replay.proofs.checks.lengths_fit.Reads as lengths-fit-reads
-use Rattle.replay.proofs.checks.numbers_fit.Reads as numbers-fit-reads
 
 returns : tie.Need-returns
 unfolding fits

@@ -4,8 +4,6 @@ use Rattle.replay.proofs.Feeding.{kept-more, kept-full}
 use borrow.Author.Needs.{needs}
 use Rattle.replay.proofs.feed.keep_byte.Statement.{statement}
 use Rattle.replay.proofs.feed.keep_byte.Tie as tie
-use Rattle.replay.proofs.feed.keep_byte.Reads as reads
-use Rattle.replay.proofs.feed.keep_byte.Lts as lts
 
 returns : tie.Need-returns
 returns c = λ d f b e o. kept-more (memory (c .before .args .s) (c .before .args .line .now) d f b e o) (c .before .args .x) (c .before .pre .0) (c .if1 .taken)

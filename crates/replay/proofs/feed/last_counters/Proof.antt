@@ -5,9 +5,6 @@ use Rattle.print.specs.PutLaws.{put-none}
 use borrow.Author.Needs.{needs}
 use Rattle.replay.proofs.feed.last_counters.Statement.{statement}
 use Rattle.replay.proofs.feed.last_counters.Tie as tie
-use Rattle.replay.proofs.feed.last_counters.Reads as reads
-use Rattle.replay.proofs.feed.last_counters.Lts as lts
-use Rattle.print.proofs.counters.Reads as counters-reads
 
 returns : tie.Need-returns
 returns c = rw (ne-eqb _ _ (c .if1 .taken)) (refl, put-none (c .before .before .before .before .args .f .filled) (c .before .before .before .before .args .out .now))

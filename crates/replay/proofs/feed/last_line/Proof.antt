@@ -8,9 +8,6 @@ use Rattle.replay.proofs.Feeding.{quiet-same, last-first, last-none, la
 use borrow.Author.Needs.{needs}
 use Rattle.replay.proofs.feed.last_line.Statement.{statement}
 use Rattle.replay.proofs.feed.last_line.Tie as tie
-use Rattle.replay.proofs.feed.last_line.Reads as reads
-use Rattle.replay.proofs.feed.last_line.Lts as lts
-use Rattle.replay.proofs.feed.end_line.Reads as end-line-reads
 
 returns : tie.Need-returns
 unfolding stateIn

@@ -6,9 +6,6 @@ use Rattle.answers.specs.Replay.{Done, asked, doing}
 use Rattle.session.proofs.Boxing.{within-is, put-back}
 use Rattle.session.proofs.line.call_box.Statement.{statement}
 use Rattle.session.proofs.line.call_box.Tie as tie
-use Rattle.session.proofs.line.call_box.Reads as reads
-use Rattle.session.proofs.line.call_box.Lts as lts
-use Rattle.answers.proofs.call.call.Reads as call-reads
 
 returns : tie.Need-returns
 returns c =

@@ -13,12 +13,6 @@ use Rattle.session.specs.BufferLaws.{over-same}
 use Rattle.session.proofs.Lining.{line-done, refused-is, begun-is}
 use Rattle.session.proofs.line.first.Statement.{statement}
 use Rattle.session.proofs.line.first.Tie as tie
-use Rattle.session.proofs.line.first.Reads as reads
-use Rattle.session.proofs.line.first.Lts as lts
-use Rattle.answers.proofs.boxes.box_of.Reads as box-of-reads
-use Rattle.answers.proofs.boxes.box_refusal.Reads as box-refusal-reads
-use Rattle.session.proofs.line.open_box.Reads as open-box-reads
-use Rattle.print.proofs.answer.Reads as answer-reads
 
 returns : tie.Need-returns
 unfolding stateIn

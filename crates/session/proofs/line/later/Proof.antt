@@ -12,11 +12,6 @@ use Rattle.session.specs.Memory.{memory, within, stateIn, stored}
 use Rattle.session.proofs.Lining.{line-done}
 use Rattle.session.proofs.line.later.Statement.{statement}
 use Rattle.session.proofs.line.later.Tie as tie
-use Rattle.session.proofs.line.later.Reads as reads
-use Rattle.session.proofs.line.later.Lts as lts
-use Rattle.session.proofs.line.call_box.Reads as call-box-reads
-use Rattle.print.proofs.answer.Reads as answer-reads
-use Rattle.std.proofs.num.wrapping_add_u64.Reads as wrapping-add-u64-reads
 
 returns : tie.Need-returns
 unfolding stateIn laterLine

@@ -7,9 +7,6 @@ use Rattle.answers.specs.Replay.{started}
 use Rattle.session.proofs.Boxing.{first-length, put-back}
 use Rattle.session.proofs.line.open_box.Statement.{statement}
 use Rattle.session.proofs.line.open_box.Tie as tie
-use Rattle.session.proofs.line.open_box.Reads as reads
-use Rattle.session.proofs.line.open_box.Lts as lts
-use Rattle.answers.proofs.start.start.Reads as start-reads
 
 start-requires : tie.Need-start-requires
 start-requires c κs =

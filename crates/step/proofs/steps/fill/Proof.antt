@@ -1,7 +1,7 @@
 -- The block goes to its part of the flash, the fingerprint to its row. Assumes nothing.
 use mathlib.Core.Path.{sym, ap, _∙_}
 use mathlib.Core.List.{List, [], _∷_, _++_}
-use Prim.Native.Nat.{ℕ, _+_, _*_}
+use Prim.Native.Nat.{ℕ, _*_}
 use lib.ListN.{getD}
 use Rattle.block.specs.Blocks.{splice}
 use Rattle.tables.specs.Rows.{rows, flat, removeAt, filled}
