@@ -85,6 +85,11 @@ module _ (b : BoxRecord) (disk flash addrs blocks : List ℕ) (s : Box (Fixed 32
       let r = cleaned-row (b .blocks) (b .rows) (b .held) addrs (s .rows) (h .rows-are) i l noRow in
       rw d (λ j. record { count = 1; disk = c j; addrs = r j })
 
+-- a row that is chosen
+pub copied-chosen : (b : BoxRecord) (chosen : Fixed 32 → Bool) (s : Box (Fixed 32) (Fixed (b .size))) (i : ℕ) → chosen (getD (s .rows) i noRow .fingerprint) ≡ true → copiedRow b (λ f. true) s i ≡ copiedRow b chosen s i
+unfolding copiedRow
+copied-chosen b chosen s i e = rw e refl
+
 -- slot_for
 module _ (B d : ℕ) (t : List ℕ) (free : List ℕ) (used : List (BlockRow (Fixed 32))) (f : Fixed 32) (h : Blocks d t free used) (j : ℕ) (e : j ≡ length free + indexWhere (λ u. engine 0 .same f (u .fingerprint)) used) where
   pub slot-none : d ≤ j → 0 ≡ slotOf (engine B) f used

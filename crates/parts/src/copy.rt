@@ -108,12 +108,7 @@ pub fn clean_row(
     if !tables::find::fingerprint_is(addrs, i, g) {
         return 0;
     }
-    let k = slot.0;
-    let x = tables::find::address_at(addrs, i);
-    let a = x.0;
-    block::copy_block(flash, k as usize, disk, a as usize, b.size);
-    tables::put::set_clean(addrs, i);
-    1
+    copy_row(b, i, disk, flash, addrs, blocks, slot)
 }
 
 // The same of every held row, oldest first; `places` has the place of the block row of each.
