@@ -7,8 +7,8 @@ use native.Mathlib.Omega.{arith}
 use native.Mathlib.Nat.{add-zero, zero-add, not-suc-le-zero, le-of-suc-le-suc}
 use native.Mathlib.Numerals.{add-one}
 use lib.Dec.{eqb}
-use lib.ListN.{length, getD, set, take, drop, length-drop, drop-of-length-le}
-use lib.Seq.{take-suc-set, take-take, take-paste, paste, drop-cons}
+use lib.ListN.{length, getD, set, take, drop, length-drop}
+use lib.Seq.{take-suc-set, take-take, take-paste, paste}
 use borrow.Author.Tests.{eq-eqb, ne-eqb}
 use Rattle.tables.specs.Rows.{rows, rowAt, removeAt}
 use Rattle.tables.specs.Find.{findFrom, pick, every, caches, hasFingerprint, same, absent, isUsed}
@@ -155,23 +155,3 @@ forgot out n i h l =
     ∙ take-paste out i (drop (i + 1) out) (n - 1 - i) g b
     ∙ ap (λ (k : ℕ). take i out ++ take (n - 1 - i) (drop k out)) (add-one i)
     ∙ sym (ap (λ (s : List ℕ). s ++ drop (suc i) (take n out)) (take-take i n out o) ∙ ap (λ (s : List ℕ). take i out ++ s) (ap (λ (k : ℕ). drop (suc i) (take k out)) f ∙ drop-take (suc i) (n - 1 - i) out))
-
--- a search for a number
-module _ (j : ℕ) (xs : List ℕ) (k : ℕ) where
-  pub elem-hit : k < length xs → getD xs k 0 ≡ j → elem j (drop k xs) ≡ true
-  unfolding elem
-  elem-hit h e = rw (drop-cons xs k 0 h, eq-eqb j (getD xs k 0) (sym e))
-
-  pub elem-miss : k < length xs → (getD xs k 0 ≡ j → ⊥) → elem j (drop k xs) ≡ elem j (drop (k + 1) xs)
-  unfolding elem
-  elem-miss h e = rw (add-one, drop-cons xs k 0 h, ne-eqb j (getD xs k 0) (λ q. e (sym q)))
-
-  pub elem-end : length xs ≤ k → elem j (drop k xs) ≡ false
-  unfolding elem
-  elem-end h = rw (drop-of-length-le xs h)
-
-pub known-is : (d : ℕ) (t : List ℕ) (n : ℕ) (a out : List ℕ) (j : ℕ) → d ≤ 256 → j < d → every unique (rows d t) ≡ true → Places (rows d t) (rows n a) (take n out) → isUsed (rowAt t j) ≡ true
-    → elem j (take n out) ≡ not (absent (findFrom (hasFingerprint (take 32 (rowAt t j))) 0 (rows n a)))
-known-is d t n a out j few h u b e =
-    let r = rows-at d t j h in
-    ap (elem j) b ∙ elem-held (rows d t) u (rw rows-length few) j (rw rows-length h) (rw r e) 0 (rows n a) ∙ ap (λ (s : List ℕ). not (absent (findFrom (hasFingerprint (take 32 s)) 0 (rows n a)))) r

@@ -8,7 +8,7 @@ ghost use Prim.Native.Nat.{ℕ, _+_, _-_, _*_, _<_, _≤_};
 ghost use lib.Dec.{eqb};
 ghost use lib.ListN.{length, take, getD};
 ghost use Rattle.tables.specs.Rows.{rows, rowAt, removeAt};
-ghost use Rattle.tables.specs.Find.{all, every, findFrom, caches, hasFingerprint, absent, isUsed};
+ghost use Rattle.tables.specs.Find.{all, every, findFrom, caches, isUsed};
 ghost use Rattle.tables.specs.Unsound.{elem};
 ghost use Rattle.tables.specs.Sound.{mark};
 ghost use Rattle.tables.specs.Index.{Index, unique, code, Places, cachedIn, dirtyOk, unknownIn};
@@ -161,22 +161,4 @@ pub fn remember(places: &mut [u16], n: usize, v: u16)
     ensures { λ _. ⌜ length (now (places .exit)) ≡ length (now (places .entry)) ⌝ }
 {
     places[n] = v;
-}
-
-// Whether an address row of the first `n` has the fingerprint of the used block row `j`.
-pub fn knows(a: &[u8], n: usize, t: &[u8], d: usize, places: &[u16], j: u16) -> bool
-    requires { ⌜ (n ≤ length (now places)) × ((j < d) × (d ≤ 256)) ⌝ }
-    requires { ⌜ every unique (rows d (now t)) ≡ true ⌝ }
-    requires { ⌜ Places (rows d (now t)) (rows n (now a)) (take n (now places)) ⌝ }
-    requires { ⌜ isUsed (rowAt (now t) j) ≡ true ⌝ }
-    ensures { λ r. ⌜ r ≡ not (absent (findFrom (hasFingerprint (take 32 (rowAt (now (t .entry)) j))) 0 (rows n (now (a .entry))))) ⌝ }
-{
-    let mut k = 0;
-    while k < n {
-        if places[k] == j {
-            return true;
-        }
-        k += 1;
-    }
-    false
 }

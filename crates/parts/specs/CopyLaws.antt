@@ -1,18 +1,19 @@
 -- A block copied to the disk, and what a row's copy leaves. Assumes nothing.
 use mathlib.Core.Path.{_≡_, refl, sym, ap, ap₂, _∙_}
 use mathlib.Core.Bool.{Bool, true, false, _&&_}
-use mathlib.Core.List.{List, [], _∷_, map}
+use mathlib.Core.List.{List, [], _∷_}
 use Prim.Native.Nat.{ℕ, suc, zero, _≤_, _<_, _+_, _*_}
 use native.Mathlib.Nat.{le-of-suc-le-suc}
 use native.Mathlib.Omega.{arith}
 use lib.Dec.{eqb, ltb}
-use lib.ListN.{length, getD, set, take, drop, length-map, List·getD-map}
-use lib.Seq.{take-at, drop-append-add, getD-take}
+use lib.ListN.{length, getD, set, take, drop}
+use lib.Seq.{take-at, drop-append-add}
 use borrow.Author.Tests.{ltb-true, ltb-false, le-ltb}
 use Rattle.block.specs.Blocks.{part, splice}
 use Rattle.parts.specs.declared.BoxRecord.{BoxRecord}
 use Rattle.tables.specs.Rows.{rows, rowAt, le4}
 use Rattle.tables.specs.Index.{code, placeIn}
+use Rattle.tables.specs.PlaceLaws.{place-at}
 use Rattle.tables.specs.declared.Found.{Found}
 use Rattle.tables.specs.declared.Found.the-variants.{At, Nothing}
 use Rattle.paper.specs.KeyedLaws.{All, by-test}
@@ -26,7 +27,7 @@ use Rattle.parts.specs.Asked.{slotIn, Placed}
 use Rattle.paper.specs.Index.{indexWhere, slotOf-yes, slotOf-no}
 use Rattle.parts.specs.MoveLaws.{row-is, slot-is, address-is, address-below, dirty-is, cleaned-row}
 use Rattle.tables.specs.Find.{findFrom, hasFingerprint, caches}
-use Rattle.parts.specs.TableLaws.{addrBytes, rows-addrs, fp-of, has-fp, block-index}
+use Rattle.parts.specs.TableLaws.{addrBytes, fp-of, has-fp, block-index}
 
 -- block k of the bytes
 join-part : (n : ℕ) (bs : List (Fixed n)) (k : ℕ) (z : Fixed n) → k < length bs → take n (drop (k * n) (join bs)) ≡ (getD bs k z) .0
@@ -111,19 +112,13 @@ slot-coded : (B d : ℕ) (t free : List ℕ) (used : List (BlockRow (Fixed 32)))
 slot-coded B d t free used g q h b e (At i) x = slot-placed B d t free used q h i (block-index d t free used h g q e (At i) x)
 slot-coded B d t free used g q h b e Nothing x = rw (le-ltb 256 d b) (slot-none B d t free used q h d (block-index d t free used h g q e Nothing x) (omega arith))
 
-map-at : {A : Type 0} (f : A → ℕ) (l : List A) (i : ℕ) (z : A) → i < length l → getD (map f l) i 0 ≡ f (getD l i z)
-map-at f [] i z h = absurd (omega arith)
-map-at f (x ∷ xs) zero z h = refl
-map-at f (x ∷ xs) (suc i) z h = map-at f xs i z (le-of-suc-le-suc h)
-
 pub slot-of-row : (B P m n d : ℕ) (addrs blocks places : List ℕ) (l : List (AddressRow (Fixed 32))) (free : List ℕ) (used : List (BlockRow (Fixed 32))) → Addrs P m n addrs l → Blocks d blocks free used → d ≤ 256
     → Placed n d addrs blocks places → (i : ℕ) → i < n → slotIn blocks d (getD places i 0) ≡ slotOf (engine B) (getD l i noRow .fingerprint) used
 unfolding placeIn
 slot-of-row B P m n d addrs blocks places l free used h k b p i li =
     let r : AddressRow (Fixed 32) = getD l i noRow in
     let e : getD places i 0 ≡ code (findFrom (caches (take 32 (drop 4 (addrBytes r)))) 0 (rows d blocks))
-    = sym (getD-take n places i 0 li) ∙ ap (λ (x : List ℕ). getD x i 0) (p ∙ ap (map (placeIn (rows d blocks))) (rows-addrs P m n addrs l h))
-    ∙ map-at (placeIn (rows d blocks)) (map addrBytes l) i (addrBytes noRow) (omega (arith, length-map l addrBytes, h .count)) ∙ ap (placeIn (rows d blocks)) (List·getD-map addrBytes l i noRow) in
+    = place-at (rows d blocks) n addrs places p i li ∙ ap (placeIn (rows d blocks)) (row-is P m n addrs l h i li noRow) in
     ap (slotIn blocks d) e ∙ slot-coded B d blocks free used (take 32 (drop 4 (addrBytes r))) (r .fingerprint) k b (sym (fp-of r)) (findFrom (caches (take 32 (drop 4 (addrBytes r)))) 0 (rows d blocks)) refl
 
 -- a row's block and its place on the disk are there
