@@ -3,13 +3,13 @@ use Prim.Native.Nat.{ℕ, _+_, _*_, _%_}
 use mathlib.Core.Path.{_≡_}
 use mathlib.Core.Bool.{Bool, true, not, cond, _&&_}
 use mathlib.Core.List.{List, map}
-use lib.Dec.{eqb, ltb}
-use lib.ListN.{take, drop, getD}
-use Rattle.tables.specs.Find.{all, findFrom, caches, hasFingerprint, absent, isUsed}
+use lib.Dec.{ltb}
+use lib.ListN.{drop, getD}
+use Rattle.tables.specs.Find.{all, findFrom, caches, hasFingerprint, absent, isDirty, isUsed}
 use Rattle.tables.specs.declared.Found.{Found}
 use Rattle.tables.specs.declared.Found.the-variants.{At, Nothing}
-use Rattle.tables.specs.Sound.{isZero, tailOk}
-use Rattle.tables.specs.Rows.{le4}
+use Rattle.tables.specs.Sound.{isZero, tailOk, rowSlot}
+use Rattle.tables.specs.Records.{readAddress, readBlock}
 
 -- the bucket of a fingerprint, by its first two bytes
 unfoldable pub bucket : List ℕ → ℕ
@@ -25,7 +25,7 @@ Index k heads rs = (g : List ℕ) → findFrom (caches g) k (drop k rs) ≡ find
 
 -- no used row of rs has the fingerprint of the row r, if r is used
 abbrev pub unique : List ℕ → List (List ℕ) → Bool
-unique r rs = cond (isUsed r) (absent (findFrom (caches (take 32 r)) 0 rs)) true
+unique r rs = cond (isUsed r) (absent (findFrom (caches (readBlock r .fingerprint)) 0 rs)) true
 
 -- a row's index as a number, 256 for none
 abbrev pub code : Found → ℕ
@@ -34,7 +34,7 @@ code Nothing = 256
 
 -- the block row of an address row r, among the block rows rs
 unfoldable pub placeIn : List (List ℕ) → List ℕ → ℕ
-placeIn rs r = code (findFrom (caches (take 32 (drop 4 r))) 0 rs)
+placeIn rs r = code (findFrom (caches (readAddress r .fingerprint)) 0 rs)
 
 -- ks has the block row of each of the address rows hs
 abbrev pub Places : List (List ℕ) → List (List ℕ) → List ℕ → Type 0
@@ -42,16 +42,16 @@ Places rs hs ks = ks ≡ map (placeIn rs) hs
 
 -- the fingerprint of an address row is cached
 abbrev pub cachedIn : List (List ℕ) → List ℕ → Bool
-cachedIn rs r = not (absent (findFrom (caches (take 32 (drop 4 r))) 0 rs))
+cachedIn rs r = not (absent (findFrom (caches (readAddress r .fingerprint)) 0 rs))
 
 -- an address row is clean, or its fingerprint is cached
 abbrev pub dirtyOk : List (List ℕ) → List ℕ → Bool
-dirtyOk rs r = cond (eqb (getD r 36 0) 1) (cachedIn rs r) true
+dirtyOk rs r = cond (isDirty r) (cachedIn rs r) true
 
 -- a block row is used, and no address row has its fingerprint
 abbrev pub unknownIn : List (List ℕ) → List ℕ → Bool
-unknownIn hs r = isUsed r && absent (findFrom (hasFingerprint (take 32 r)) 0 hs)
+unknownIn hs r = isUsed r && absent (findFrom (hasFingerprint (readBlock r .fingerprint)) 0 hs)
 
 -- what `blockOk` asks but that a fingerprint is not used twice
 abbrev pub rowOk : ℕ → List ℕ → List (List ℕ) → Bool
-rowOk d r rs = ltb (le4 r 32) d && (tailOk r && cond (isUsed r) (all isUsed rs) (all isZero (take 32 r)))
+rowOk d r rs = ltb (rowSlot r) d && (tailOk r && cond (isUsed r) (all isUsed rs) (all isZero (readBlock r .fingerprint)))

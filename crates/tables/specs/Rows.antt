@@ -4,6 +4,10 @@ use Prim.Native.Nat.{ℕ, zero, suc, _+_, _*_}
 use mathlib.Core.List.{List, [], _∷_, _++_}
 use lib.ListN.{take, drop, getD, replicate}
 
+-- "address table (m × 40), block table (d × 40)": the bytes of n rows
+abbrev pub tableBytes : ℕ → ℕ
+tableBytes n = n * 40
+
 -- the first n rows of the bytes t
 unfoldable pub rows : ℕ → List ℕ → List (List ℕ)
 rows zero t = []

@@ -1,33 +1,13 @@
 // Searching a table's rows.
-use crate::FlashSlot;
 use crate::Found;
 use crate::SourceAddress;
+use crate::row;
 ghost use mathlib.Core.Path.{_≡_};
 ghost use Prim.Native.Nat.{_+_, _*_, _<_, _≤_};
 ghost use lib.ListN.{length, take, drop, getD};
 ghost use lib.Dec.{eqb};
-ghost use Rattle.tables.specs.Rows.{rows, rowAt, le4, le8};
+ghost use Rattle.tables.specs.Rows.{rows, rowAt, le8, tableBytes};
 ghost use Rattle.tables.specs.Find.{findFrom, hasAddress, hasFingerprint, isDirty, isDirtyOf, caches, same};
-ghost use Rattle.tables.specs.Records.{readAddress, readBlock};
-
-// The byte at index `at`.
-pub fn byte_at(t: &[u8], at: usize) -> u32
-    requires { ⌜ at < length (now t) ⌝ }
-    ensures { λ r. ⌜ (r ≡ getD (now (t .entry)) at 0) × (r < 256) ⌝ }
-{
-    t[at] as u32
-}
-
-// The four bytes from index `at` on, little-endian.
-pub fn word_at(t: &[u8], at: usize) -> u32
-    requires { ⌜ at + 4 ≤ length (now t) ⌝ }
-    ensures { λ r. ⌜ r ≡ le4 (now (t .entry)) at ⌝ }
-{
-    byte_at(t, at)
-        + 256 * byte_at(t, at + 1)
-        + 65536 * byte_at(t, at + 2)
-        + 16777216 * byte_at(t, at + 3)
-}
 
 // The byte at index `at`, as 64 bits.
 pub(crate) fn byte64(t: &[u8], at: usize) -> u64
@@ -77,15 +57,15 @@ pub(crate) fn same_first_word(t: &[u8], at: usize, g: &[u8]) -> bool
 
 // Whether row `k` of an address table has the address `a`.
 pub(crate) fn address_is(t: &[u8], k: usize, a: SourceAddress) -> bool
-    requires { ⌜ k * 40 + 40 ≤ length (now t) ⌝ }
+    requires { ⌜ tableBytes (k + 1) ≤ length (now t) ⌝ }
     ensures { λ r. ⌜ r ≡ hasAddress (a .0) (rowAt (now (t .entry)) k) ⌝ }
 {
-    word_at(t, k * 40) == a.0
+    row::word_at(t, k * 40) == a.0
 }
 
 // Whether row `k` of an address table has the fingerprint `g`.
 pub fn fingerprint_is(t: &[u8], k: usize, g: &[u8]) -> bool
-    requires { ⌜ (k * 40 + 40 ≤ length (now t)) × (length (now g) ≡ 32) ⌝ }
+    requires { ⌜ (tableBytes (k + 1) ≤ length (now t)) × (length (now g) ≡ 32) ⌝ }
     ensures { λ r. ⌜ r ≡ hasFingerprint (now (g .entry)) (rowAt (now (t .entry)) k) ⌝ }
 {
     let at = k * 40 + 4;
@@ -97,7 +77,7 @@ pub fn fingerprint_is(t: &[u8], k: usize, g: &[u8]) -> bool
 
 // Whether row `k` of a block table is used and has the fingerprint `g`.
 pub(crate) fn caches_fingerprint(t: &[u8], k: usize, g: &[u8]) -> bool
-    requires { ⌜ (k * 40 + 40 ≤ length (now t)) × (length (now g) ≡ 32) ⌝ }
+    requires { ⌜ (tableBytes (k + 1) ≤ length (now t)) × (length (now g) ≡ 32) ⌝ }
     ensures { λ r. ⌜ r ≡ caches (now (g .entry)) (rowAt (now (t .entry)) k) ⌝ }
 {
     if t[k * 40 + 36] != 1 {
@@ -109,53 +89,9 @@ pub(crate) fn caches_fingerprint(t: &[u8], k: usize, g: &[u8]) -> bool
     false
 }
 
-// The address in row `k` of an address table.
-pub fn address_at(t: &[u8], k: usize) -> SourceAddress
-    requires { ⌜ k * 40 + 40 ≤ length (now t) ⌝ }
-    ensures { λ r. ⌜ r .0 ≡ le4 (rowAt (now (t .entry)) k) 0 ⌝ }
-{
-    SourceAddress(word_at(t, k * 40))
-}
-
-// The slot in row `k` of a block table.
-pub fn slot_at(t: &[u8], k: usize) -> FlashSlot
-    requires { ⌜ k * 40 + 40 ≤ length (now t) ⌝ }
-    ensures { λ r. ⌜ r .0 ≡ le4 (rowAt (now (t .entry)) k) 32 ⌝ }
-{
-    FlashSlot(word_at(t, k * 40 + 32))
-}
-
-// The fingerprint in row `k` of an address table, as a part of it.
-pub fn address_fingerprint<'a>(t: &'a [u8], k: usize) -> &'a [u8]
-    requires { ⌜ k * 40 + 40 ≤ length (now t) ⌝ }
-    ensures { λ r. ⌜ now r ≡ readAddress (rowAt (now (t .entry)) k) .fingerprint ⌝ }
-{
-    let at = k * 40 + 4;
-    let end = at + 32;
-    &t[at..end]
-}
-
-// The fingerprint in row `k` of a block table, as a part of it.
-pub fn block_fingerprint<'a>(t: &'a [u8], k: usize) -> &'a [u8]
-    requires { ⌜ k * 40 + 40 ≤ length (now t) ⌝ }
-    ensures { λ r. ⌜ now r ≡ readBlock (rowAt (now (t .entry)) k) .fingerprint ⌝ }
-{
-    let at = k * 40;
-    let end = at + 32;
-    &t[at..end]
-}
-
-// Whether byte 36 of row `k` is 1: a dirty address row, a used block row.
-pub fn flag_at(t: &[u8], k: usize) -> bool
-    requires { ⌜ k * 40 + 40 ≤ length (now t) ⌝ }
-    ensures { λ r. ⌜ r ≡ eqb (getD (rowAt (now (t .entry)) k) 36 0) 1 ⌝ }
-{
-    t[k * 40 + 36] == 1
-}
-
 // The index of the first of `n` address rows that has the address `a`.
 pub fn find_address(t: &[u8], n: usize, a: SourceAddress) -> Found
-    requires { ⌜ n * 40 ≤ length (now t) ⌝ }
+    requires { ⌜ tableBytes n ≤ length (now t) ⌝ }
     ensures { λ r. ⌜ r ≡ findFrom (hasAddress (a .0)) 0 (rows n (now (t .entry))) ⌝ }
 {
     let mut k = 0;
@@ -170,7 +106,7 @@ pub fn find_address(t: &[u8], n: usize, a: SourceAddress) -> Found
 
 // The index of the first of `n` address rows that has the fingerprint `g`.
 pub fn find_fingerprint(t: &[u8], n: usize, g: &[u8]) -> Found
-    requires { ⌜ (n * 40 ≤ length (now t)) × (length (now g) ≡ 32) ⌝ }
+    requires { ⌜ (tableBytes n ≤ length (now t)) × (length (now g) ≡ 32) ⌝ }
     ensures { λ r. ⌜ r ≡ findFrom (hasFingerprint (now (g .entry))) 0 (rows n (now (t .entry))) ⌝ }
 {
     let mut k = 0;
@@ -185,7 +121,7 @@ pub fn find_fingerprint(t: &[u8], n: usize, g: &[u8]) -> Found
 
 // The index of the first of `n` block rows that is used and has the fingerprint `g`.
 pub fn find_cached(t: &[u8], n: usize, g: &[u8]) -> Found
-    requires { ⌜ (n * 40 ≤ length (now t)) × (length (now g) ≡ 32) ⌝ }
+    requires { ⌜ (tableBytes n ≤ length (now t)) × (length (now g) ≡ 32) ⌝ }
     ensures { λ r. ⌜ r ≡ findFrom (caches (now (g .entry))) 0 (rows n (now (t .entry))) ⌝ }
 {
     next_cached(t, n, 0, g)
@@ -193,7 +129,7 @@ pub fn find_cached(t: &[u8], n: usize, g: &[u8]) -> Found
 
 // The index of the first of `n` block rows, from row `from` on, that is used and has the fingerprint `g`.
 pub fn next_cached(t: &[u8], n: usize, from: usize, g: &[u8]) -> Found
-    requires { ⌜ (n * 40 ≤ length (now t)) × (length (now g) ≡ 32) ⌝ }
+    requires { ⌜ (tableBytes n ≤ length (now t)) × (length (now g) ≡ 32) ⌝ }
     ensures { λ r. ⌜ r ≡ findFrom (caches (now (g .entry))) from (drop from (rows n (now (t .entry)))) ⌝ }
 {
     let mut k = from;
@@ -208,12 +144,12 @@ pub fn next_cached(t: &[u8], n: usize, from: usize, g: &[u8]) -> Found
 
 // The index of the first of `n` address rows, from row `from` on, that is dirty.
 pub fn next_dirty(t: &[u8], n: usize, from: usize) -> Found
-    requires { ⌜ n * 40 ≤ length (now t) ⌝ }
+    requires { ⌜ tableBytes n ≤ length (now t) ⌝ }
     ensures { λ r. ⌜ r ≡ findFrom isDirty from (drop from (rows n (now (t .entry)))) ⌝ }
 {
     let mut k = from;
     while k < n {
-        if flag_at(t, k) {
+        if row::is_dirty(t, k) {
             return Found::At(k);
         }
         k += 1;
@@ -223,10 +159,10 @@ pub fn next_dirty(t: &[u8], n: usize, from: usize) -> Found
 
 // Whether row `k` of an address table is dirty and has the fingerprint `g`.
 pub(crate) fn dirty_is(t: &[u8], k: usize, g: &[u8]) -> bool
-    requires { ⌜ (k * 40 + 40 ≤ length (now t)) × (length (now g) ≡ 32) ⌝ }
+    requires { ⌜ (tableBytes (k + 1) ≤ length (now t)) × (length (now g) ≡ 32) ⌝ }
     ensures { λ r. ⌜ r ≡ isDirtyOf (now (g .entry)) (rowAt (now (t .entry)) k) ⌝ }
 {
-    if flag_at(t, k) {
+    if row::is_dirty(t, k) {
         return fingerprint_is(t, k, g);
     }
     false
@@ -234,7 +170,7 @@ pub(crate) fn dirty_is(t: &[u8], k: usize, g: &[u8]) -> bool
 
 // The index of the first of `n` address rows, from row `from` on, that is dirty and has the fingerprint `g`.
 pub fn next_dirty_of(t: &[u8], n: usize, from: usize, g: &[u8]) -> Found
-    requires { ⌜ (n * 40 ≤ length (now t)) × (length (now g) ≡ 32) ⌝ }
+    requires { ⌜ (tableBytes n ≤ length (now t)) × (length (now g) ≡ 32) ⌝ }
     ensures { λ r. ⌜ r ≡ findFrom (isDirtyOf (now (g .entry))) from (drop from (rows n (now (t .entry)))) ⌝ }
 {
     let mut k = from;

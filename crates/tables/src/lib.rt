@@ -1,8 +1,10 @@
 // Tables of 40-byte rows in lent bytes.
+pub mod distinct;
 pub mod find;
 pub mod fresh;
 mod moves;
 pub mod put;
+pub mod row;
 pub mod shift;
 
 // A source address, a block number of the disk.

@@ -19,13 +19,13 @@ returns : tie.Need-returns Inv-loop μ-loop
 returns c =
     let l = c .before .before .before in
     let a = l .before .before .args in
-    sym (l .loop .inv ∙ turn-hit isDirty (a .n) (a .t .now) (l .loop .k) (c .before .before .loop-test .taken) (sym (c .before .flag-at .ensures) ∙ c .if1 .taken))
+    sym (l .loop .inv ∙ turn-hit isDirty (a .n) (a .t .now) (l .loop .k) (c .before .before .loop-test .taken) (sym (c .before .is-dirty .ensures) ∙ c .if1 .taken))
 
 loop-again : tie.Need-loop-again Inv-loop μ-loop
 loop-again c =
     let l = c .before .before .before in
     let a = l .before .before .args in
-    l .loop .inv ∙ turn-miss isDirty (a .n) (a .t .now) (l .loop .k) (c .before .before .loop-test .taken) (sym (c .before .flag-at .ensures) ∙ c .if1 .left)
+    l .loop .inv ∙ turn-miss isDirty (a .n) (a .t .now) (l .loop .k) (c .before .before .loop-test .taken) (sym (c .before .is-dirty .ensures) ∙ c .if1 .left)
 
 returns-2 : tie.Need-returns-2 Inv-loop μ-loop
 returns-2 c =

@@ -2,13 +2,13 @@
 use native.Mathlib.Omega.{arith}
 use Rattle.tables.specs.RowLaws.{getD-rowAt}
 use borrow.Author.Needs.{needs}
-use Rattle.tables.proofs.find.flag_at.Statement.{statement}
-use Rattle.tables.proofs.find.flag_at.Tie as tie
+use Rattle.tables.proofs.row.is_used.Statement.{statement}
+use Rattle.tables.proofs.row.is_used.Tie as tie
 
 returns : tie.Need-returns
 returns c =
     let a = c .before .args in
     rw (getD-rowAt (a .t .now) (a .k) 36 (omega arith))
 
-pub flag-at-spec : {M : Type 1} → statement M
-flag-at-spec = tie.close (tie.spec (λ c. search needs) (λ c. search needs) (λ c. search needs) returns)
+pub is-used-spec : {M : Type 1} → statement M
+is-used-spec = tie.close (tie.spec (λ c. search needs) (λ c. search needs) (λ c. search needs) returns)

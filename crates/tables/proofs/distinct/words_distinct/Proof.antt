@@ -1,17 +1,17 @@
 -- The loop goes down; `seen` marks the numbers behind row k, which all differ. Assumes nothing.
 use mathlib.Core.Path.{subst, _≡_, refl, sym, _∙_}
 use lib.ListN.{drop-of-length-le, length, drop, length-set}
 use Rattle.tables.specs.SoundLaws.{Read, Marks, marks-none, twice, once, marked, words-at, words-length}
 use Rattle.tables.specs.RowLaws.{le4-rowAt}
 use Rattle.tables.specs.Sound.{distinct, wordOf}
 use Rattle.tables.specs.Rows.{rows, rowAt}
 use mathlib.Core.List.{map}
 use mathlib.Core.Bool.{true}
 use Prim.Native.Nat.{ℕ, _-_, _≤_, _<_}
 use native.Mathlib.Omega.{arith}
 use borrow.Author.Needs.{needs}
-use Rattle.checks.proofs.sound.words_distinct.Statement.{statement}
-use Rattle.checks.proofs.sound.words_distinct.Tie as tie
+use Rattle.tables.proofs.distinct.words_distinct.Statement.{statement}
+use Rattle.tables.proofs.distinct.words_distinct.Tie as tie
 
 abbrev Inv-loop : tie.InvT-loop
 Inv-loop t n j seen₀ k₀ seen k = (k ≤ n) × (length seen ≡ length seen₀) × (distinct (drop k (map (wordOf j) (rows n t))) ≡ true) × Marks seen (drop k (map (wordOf j) (rows n t)))

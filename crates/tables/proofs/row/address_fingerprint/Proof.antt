@@ -3,15 +3,15 @@ use Prim.Native.Nat.{_+_, _-_, _*_}
 use mathlib.Core.Path.{_≡_, sym}
 use native.Mathlib.Omega.{arith}
 use borrow.Author.Needs.{needs}
-use Rattle.tables.specs.RowLaws.{part-rowAt}
-use Rattle.tables.proofs.find.address_fingerprint.Statement.{statement}
-use Rattle.tables.proofs.find.address_fingerprint.Tie as tie
+use Rattle.tables.specs.RowLaws.{part-rowAt, length-part}
+use Rattle.tables.proofs.row.address_fingerprint.Statement.{statement}
+use Rattle.tables.proofs.row.address_fingerprint.Tie as tie
 
 returns : tie.Need-returns
 returns c =
     let a = c .before .args in
     let e : a .k * 40 + 4 + 32 - (a .k * 40 + 4) ≡ 32 = omega arith in
-    rw e (sym (part-rowAt (a .t .now) (a .k) 4 32 (omega arith)))
+    rw e (sym (part-rowAt (a .t .now) (a .k) 4 32 (omega arith)), length-part (a .t .now) (a .k * 40 + 4) 32 (omega arith))
 
 pub address-fingerprint-spec : {M : Type 1} → statement M
 address-fingerprint-spec = tie.close (tie.spec (λ c. search needs) (λ c. search needs) (λ c. search needs) (λ c. search needs) (λ c. search needs) (λ c. search needs) returns)

@@ -3,8 +3,8 @@ use mathlib.Core.Path.{sym, _∙_}
 use native.Mathlib.Omega.{arith}
 use Rattle.tables.specs.RowLaws.{le4-rowAt}
 use borrow.Author.Needs.{needs}
-use Rattle.tables.proofs.find.slot_at.Statement.{statement}
-use Rattle.tables.proofs.find.slot_at.Tie as tie
+use Rattle.tables.proofs.row.slot_at.Statement.{statement}
+use Rattle.tables.proofs.row.slot_at.Tie as tie
 
 returns : tie.Need-returns
 returns c =

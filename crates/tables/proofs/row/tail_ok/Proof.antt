@@ -1,11 +1,11 @@
 -- One return for each byte that fails; the four bytes are those of the row: `tail-rowAt`. Assumes nothing.
 use Prim.Native.Nat.{_+_, _*_}
 use lib.ListN.{getD}
 use Rattle.tables.specs.SoundLaws.{tail-rowAt}
 use borrow.Author.Tests.{le-leb, lt-leb, eq-eqb, ne-eqb}
 use borrow.Author.Needs.{needs}
-use Rattle.checks.proofs.sound.tail_ok.Statement.{statement}
-use Rattle.checks.proofs.sound.tail_ok.Tie as tie
+use Rattle.tables.proofs.row.tail_ok.Statement.{statement}
+use Rattle.tables.proofs.row.tail_ok.Tie as tie
 
 returns : tie.Need-returns
 returns c =

@@ -4,8 +4,8 @@ use native.Mathlib.Nat.{add-zero}
 use native.Mathlib.Omega.{arith}
 use Rattle.tables.specs.RowLaws.{le4-rowAt}
 use borrow.Author.Needs.{needs}
-use Rattle.tables.proofs.find.address_at.Statement.{statement}
-use Rattle.tables.proofs.find.address_at.Tie as tie
+use Rattle.tables.proofs.row.address_at.Statement.{statement}
+use Rattle.tables.proofs.row.address_at.Tie as tie
 
 returns : tie.Need-returns
 returns c =
