@@ -28,7 +28,7 @@ bucket-below g = omega arith
 -- a row of another bucket has another fingerprint
 other-bucket : (g r : List ℕ) → (bucket g ≡ bucket r → ⊥) → caches g r ≡ false
 other-bucket g r e =
-    rw (not-true-false (same (take 32 r) g) (λ h. e (ap bucket (sym (same-true (take 32 r) g h)) ∙ bucket-take r 32 (omega arith)))) (and-false (eqb (getD r 36 0) 1))
+    rw (not-true-false (same (readBlock r .fingerprint) g) (λ h. e (ap bucket (sym (same-true (readBlock r .fingerprint) g h)) ∙ bucket-take r 32 (omega arith)))) (and-false (eqb (getD r 36 0) 1))
 
 -- no rows, and every search starts behind the last
 pub index-end : (heads : List ℕ) (rs : List (List ℕ)) (d m : ℕ) → length rs ≤ d → d ≤ m → length heads ≡ 16384 → ((x : ℕ) → x < length heads → getD heads x 0 ≡ m) → Index d heads rs
@@ -65,13 +65,13 @@ bucket-row t k = bucket-take (drop (k * 40) t) 40 (omega arith)
 -- a turn of `build`, on the row before row k
 module _ (t : List ℕ) (d k : ℕ) (hk : 0 < k) (hn : k ≤ d) (heads : List ℕ) (x : ℕ) (e : x ≡ bucket (drop ((k - 1) * 40) t)) (i : Index k heads (rows d t)) where
   pub build-alone : (r : Bool) (w : ℕ) → w ≡ getD heads x 0
-      → r ≡ cond (isUsed (rowAt t (k - 1))) (absent (findFrom (caches (take 32 (rowAt t (k - 1)))) w (drop w (rows d t)))) true
+      → r ≡ cond (isUsed (rowAt t (k - 1))) (absent (findFrom (caches (readBlock (rowAt t (k - 1)) .fingerprint)) w (drop w (rows d t)))) true
       → r ≡ unique (rowAt t (k - 1)) (drop (suc (k - 1)) (rows d t))
   build-alone r w f q =
       let row = rowAt t (k - 1) in
-      let b : x ≡ bucket (take 32 row) = e ∙ sym (bucket-take row 32 (omega arith) ∙ bucket-row t (k - 1)) in
-      let a : absent (findFrom (caches (take 32 row)) w (drop w (rows d t))) ≡ absent (findFrom (caches (take 32 row)) 0 (drop (suc (k - 1)) (rows d t))) =
-      ap absent (found-by heads (rows d t) (take 32 row) x w k b f i) ∙ absent-from (caches (take 32 row)) k 0 (drop k (rows d t)) ∙ ap (λ (s : List (List ℕ)). absent (findFrom (caches (take 32 row)) 0 s)) (sym (same-behind unique d t k hk hn)) in
+      let b : x ≡ bucket (readBlock row .fingerprint) = e ∙ sym (bucket-take row 32 (omega arith) ∙ bucket-row t (k - 1)) in
+      let a : absent (findFrom (caches (readBlock row .fingerprint)) w (drop w (rows d t))) ≡ absent (findFrom (caches (readBlock row .fingerprint)) 0 (drop (suc (k - 1)) (rows d t))) =
+      ap absent (found-by heads (rows d t) (readBlock row .fingerprint) x w k b f i) ∙ absent-from (caches (readBlock row .fingerprint)) k 0 (drop k (rows d t)) ∙ ap (λ (s : List (List ℕ)). absent (findFrom (caches (readBlock row .fingerprint)) 0 s)) (sym (same-behind unique d t k hk hn)) in
       q ∙ ap (λ (o : Bool). cond (isUsed row) o true) a
 
   pub build-more : x < length heads → Index (k - 1) (set heads x (k - 1)) (rows d t)

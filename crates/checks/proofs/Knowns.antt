@@ -40,11 +40,11 @@ module _ (rs : List (List ℕ)) (few : length rs ≤ 256) where
   -- cached or not, by the block row's number
   pub cached-is : (r : List ℕ) → cachedIn rs r ≡ not (eqb (placeIn rs r) 256)
   unfolding placeIn
-  cached-is r = ap not (code-is (findFrom (caches (take 32 (drop 4 r))) 0 rs) (found-few (caches (take 32 (drop 4 r)))))
+  cached-is r = ap not (code-is (findFrom (caches (readAddress r .fingerprint)) 0 rs) (found-few (caches (readAddress r .fingerprint))))
 
   pub block-below : (r : List ℕ) → placeIn rs r < 257
   unfolding placeIn
-  block-below r = code-below (findFrom (caches (take 32 (drop 4 r))) 0 rs) (found-few (caches (take 32 (drop 4 r))))
+  block-below r = code-below (findFrom (caches (readAddress r .fingerprint)) 0 rs) (found-few (caches (readAddress r .fingerprint)))
 
 -- one row more
 pub blocks-more : (rs : List (List ℕ)) (a out : List ℕ) (k v : ℕ) → k < length out → v ≡ placeIn rs (rowAt a k) → Places rs (rows k a) (take k out) → Places rs (rows (k + 1) a) (take (k + 1) (set out k v))
@@ -72,52 +72,52 @@ absent-at p k (x ∷ xs) j z e h =
     ] refl e
 
 -- where no two used rows have one fingerprint, a search for row j's finds row j
-self-other : (r s : List ℕ) (rs : List (List ℕ)) (j : ℕ) → unique r rs ≡ true → j < length rs → isUsed (getD rs j []) ≡ true → caches (take 32 (getD rs j [])) r ≡ true → ⊥
+self-other : (r s : List ℕ) (rs : List (List ℕ)) (j : ℕ) → unique r rs ≡ true → j < length rs → isUsed (getD rs j []) ≡ true → caches (readBlock (getD rs j []) .fingerprint) r ≡ true → ⊥
 self-other r s rs j u h e c =
-    let o = and-left (isUsed r) (same (take 32 r) (take 32 (getD rs j []))) c in
-    let q = same-true (take 32 r) (take 32 (getD rs j [])) (and-right (isUsed r) (same (take 32 r) (take 32 (getD rs j []))) c) in
-    let v : absent (findFrom (caches (take 32 r)) 0 rs) ≡ true = rw o at u in
-    let n : caches (take 32 r) (getD rs j []) ≡ false = absent-at (caches (take 32 r)) 0 rs j [] v h in
-    let y : caches (take 32 r) (getD rs j []) ≡ true = rw (e, q) (same-refl (take 32 (getD rs j []))) in
+    let o = and-left (isUsed r) (same (readBlock r .fingerprint) (readBlock (getD rs j []) .fingerprint)) c in
+    let q = same-true (readBlock r .fingerprint) (readBlock (getD rs j []) .fingerprint) (and-right (isUsed r) (same (readBlock r .fingerprint) (readBlock (getD rs j []) .fingerprint)) c) in
+    let v : absent (findFrom (caches (readBlock r .fingerprint)) 0 rs) ≡ true = rw o at u in
+    let n : caches (readBlock r .fingerprint) (getD rs j []) ≡ false = absent-at (caches (readBlock r .fingerprint)) 0 rs j [] v h in
+    let y : caches (readBlock r .fingerprint) (getD rs j []) ≡ true = rw (e, q) (same-refl (readBlock (getD rs j []) .fingerprint)) in
     clash (sym y ∙ n)
 
-self-find : (rs : List (List ℕ)) (j k : ℕ) → every unique rs ≡ true → j < length rs → isUsed (getD rs j []) ≡ true → findFrom (caches (take 32 (getD rs j []))) k rs ≡ At (k + j)
+self-find : (rs : List (List ℕ)) (j k : ℕ) → every unique rs ≡ true → j < length rs → isUsed (getD rs j []) ≡ true → findFrom (caches (readBlock (getD rs j []) .fingerprint)) k rs ≡ At (k + j)
 unfolding every findFrom
 self-find [] j k u h e = absurd (not-suc-le-zero h)
-self-find (r ∷ rs) zero k u h e = rw (e, same-refl (take 32 r), add-zero)
+self-find (r ∷ rs) zero k u h e = rw (e, same-refl (readBlock r .fingerprint), add-zero)
 self-find (r ∷ rs) (suc j) k u h e =
     let l = le-of-suc-le-suc h in
-    let n = not-true-false (caches (take 32 (getD rs j [])) r) (self-other r r rs j (and-left (unique r rs) (every unique rs) u) l e) in
+    let n = not-true-false (caches (readBlock (getD rs j []) .fingerprint) r) (self-other r r rs j (and-left (unique r rs) (every unique rs) u) l e) in
     let s : suc k + j ≡ k + suc j = omega arith in
     rw n (self-find rs j (suc k) (and-right (unique r rs) (every unique rs) u) l e ∙ ap At s)
 
 module _ (rs : List (List ℕ)) (u : every unique rs ≡ true) (few : length rs ≤ 256) (j : ℕ) (h : j < length rs) (e : isUsed (getD rs j []) ≡ true) where
   -- the block row of an address row is row j if the two have one fingerprint
-  held-hit : (r : List ℕ) → hasFingerprint (take 32 (getD rs j [])) r ≡ true → eqb j (placeIn rs r) ≡ true
+  held-hit : (r : List ℕ) → hasFingerprint (readBlock (getD rs j []) .fingerprint) r ≡ true → eqb j (placeIn rs r) ≡ true
   unfolding placeIn
   held-hit r q =
-      let s = same-true (take 32 (drop 4 r)) (take 32 (getD rs j [])) q in
+      let s = same-true (readAddress r .fingerprint) (readBlock (getD rs j []) .fingerprint) q in
       eq-eqb j (placeIn rs r) (sym (ap (λ (g : List ℕ). code (findFrom (caches g) 0 rs)) s ∙ ap code (self-find rs j 0 u h e) ∙ zero-add j))
 
-  held-found : (r : List ℕ) (f : Found) → findFrom (caches (take 32 (drop 4 r))) 0 rs ≡ f → j ≡ code f → hasFingerprint (take 32 (getD rs j [])) r ≡ true
+  held-found : (r : List ℕ) (f : Found) → findFrom (caches (readAddress r .fingerprint)) 0 rs ≡ f → j ≡ code f → hasFingerprint (readBlock (getD rs j []) .fingerprint) r ≡ true
   held-found r (At i) o q =
-      let c : caches (take 32 (drop 4 r)) (getD rs j []) ≡ true = rw q (found-at (caches (take 32 (drop 4 r))) rs [] i o .holds) in
-      let s = same-true (take 32 (getD rs j [])) (take 32 (drop 4 r)) (and-right (isUsed (getD rs j [])) (same (take 32 (getD rs j [])) (take 32 (drop 4 r))) c) in
-      rw s (same-refl (take 32 (drop 4 r)))
+      let c : caches (readAddress r .fingerprint) (getD rs j []) ≡ true = rw q (found-at (caches (readAddress r .fingerprint)) rs [] i o .holds) in
+      let s = same-true (readBlock (getD rs j []) .fingerprint) (readAddress r .fingerprint) (and-right (isUsed (getD rs j [])) (same (readBlock (getD rs j []) .fingerprint) (readAddress r .fingerprint)) c) in
+      rw s (same-refl (readAddress r .fingerprint))
   held-found r Nothing o q = absurd (omega arith)
 
-  held-is : (r : List ℕ) → eqb j (placeIn rs r) ≡ hasFingerprint (take 32 (getD rs j [])) r
+  held-is : (r : List ℕ) → eqb j (placeIn rs r) ≡ hasFingerprint (readBlock (getD rs j []) .fingerprint) r
   unfolding placeIn
-  held-is r = elim (hasFingerprint (take 32 (getD rs j [])) r) as (λ q. hasFingerprint (take 32 (getD rs j [])) r ≡ q → eqb j (placeIn rs r) ≡ q) [
+  held-is r = elim (hasFingerprint (readBlock (getD rs j []) .fingerprint) r) as (λ q. hasFingerprint (readBlock (getD rs j []) .fingerprint) r ≡ q → eqb j (placeIn rs r) ≡ q) [
     | true ↦ held-hit r
-    | false ↦ λ o. ne-eqb j (placeIn rs r) (λ m. clash (sym (held-found r (findFrom (caches (take 32 (drop 4 r))) 0 rs) refl m) ∙ o))
+    | false ↦ λ o. ne-eqb j (placeIn rs r) (λ m. clash (sym (held-found r (findFrom (caches (readAddress r .fingerprint)) 0 rs) refl m) ∙ o))
   ] refl
 
   -- row j is the block row of an address row, or none has its fingerprint
-  elem-held : (k : ℕ) (hs : List (List ℕ)) → elem j (map (placeIn rs) hs) ≡ not (absent (findFrom (hasFingerprint (take 32 (getD rs j []))) k hs))
+  elem-held : (k : ℕ) (hs : List (List ℕ)) → elem j (map (placeIn rs) hs) ≡ not (absent (findFrom (hasFingerprint (readBlock (getD rs j []) .fingerprint)) k hs))
   unfolding elem findFrom
   elem-held k [] = refl
-  elem-held k (r ∷ hs) = rw (held-is r) (elim (hasFingerprint (take 32 (getD rs j [])) r) as (λ q. q || elem j (map (placeIn rs) hs) ≡ not (absent (pick q (At k) (findFrom (hasFingerprint (take 32 (getD rs j []))) (suc k) hs)))) [ true ↦ refl | false ↦ elem-held (suc k) hs ])
+  elem-held k (r ∷ hs) = rw (held-is r) (elim (hasFingerprint (readBlock (getD rs j []) .fingerprint) r) as (λ q. q || elem j (map (placeIn rs) hs) ≡ not (absent (pick q (At k) (findFrom (hasFingerprint (readBlock (getD rs j []) .fingerprint)) (suc k) hs)))) [ true ↦ refl | false ↦ elem-held (suc k) hs ])
 
 mark-not : (b : Bool) → eqb (mark (not b)) 0 ≡ b
 mark-not true = refl
@@ -127,12 +127,12 @@ mark-not false = refl
 pub unmarked-is : (d : ℕ) (t : List ℕ) (n : ℕ) (a out known : List ℕ) → d ≤ 256 → d ≤ length known → every unique (rows d t) ≡ true → Places (rows d t) (rows n a) (take n out) → Marks known (take n out)
     → (k : ℕ) → k < d → isUsed (rowAt t k) && eqb (getD known k 0) 0 ≡ unknownIn (rows n a) (rowAt t k)
 unmarked-is d t n a out known few l u b m k h =
-    elim (isUsed (rowAt t k)) as (λ q. isUsed (rowAt t k) ≡ q → q && eqb (getD known k 0) 0 ≡ q && absent (findFrom (hasFingerprint (take 32 (rowAt t k))) 0 (rows n a))) [
+    elim (isUsed (rowAt t k)) as (λ q. isUsed (rowAt t k) ≡ q → q && eqb (getD known k 0) 0 ≡ q && absent (findFrom (hasFingerprint (readBlock (rowAt t k) .fingerprint)) 0 (rows n a))) [
       | true ↦ λ o.
           (let r = rows-at d t k h in
-          let i : getD known k 0 ≡ mark (not (absent (findFrom (hasFingerprint (take 32 (getD (rows d t) k []))) 0 (rows n a)))) =
+          let i : getD known k 0 ≡ mark (not (absent (findFrom (hasFingerprint (readBlock (getD (rows d t) k []) .fingerprint)) 0 (rows n a)))) =
           m k (omega arith) ∙ ap (λ (s : List ℕ). mark (elem k s)) b ∙ ap mark (elem-held (rows d t) u (rw rows-length few) k (rw rows-length h) (rw r o) 0 (rows n a)) in
-          ap (λ (x : ℕ). eqb x 0) i ∙ mark-not (absent (findFrom (hasFingerprint (take 32 (getD (rows d t) k []))) 0 (rows n a))) ∙ ap (λ (s : List ℕ). absent (findFrom (hasFingerprint (take 32 s)) 0 (rows n a))) r)
+          ap (λ (x : ℕ). eqb x 0) i ∙ mark-not (absent (findFrom (hasFingerprint (readBlock (getD (rows d t) k []) .fingerprint)) 0 (rows n a))) ∙ ap (λ (s : List ℕ). absent (findFrom (hasFingerprint (readBlock s .fingerprint)) 0 (rows n a))) r)
       | false ↦ λ o. refl
     ] refl
 

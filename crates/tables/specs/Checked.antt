@@ -5,14 +5,14 @@ use mathlib.Core.List.{List, [], _∷_, map}
 use Prim.Native.Nat.{ℕ, zero, suc, _+_, _*_, _≤_, _<_}
 use native.Mathlib.Omega.{arith}
 use lib.Dec.{eqb, leb, ltb}
-use lib.ListN.{length, take, drop, getD, length-map}
+use lib.ListN.{length, drop, getD, length-map}
 use borrow.Author.Tests.{eq-eqb, eqb-true, eqb-false, ltb-true, ltb-false, leb-true, leb-false, lt-ltb, le-ltb, le-leb, lt-leb, not-true, not-false}
-use Rattle.tables.specs.Rows.{rows, le4}
+use Rattle.tables.specs.Rows.{rows}
 use Rattle.tables.specs.Records.{readAddress, readBlock, slotsFrom}
-use Rattle.tables.specs.Find.{all, any, every, findFrom, pick, absent, caches, isUsed}
+use Rattle.tables.specs.Find.{all, any, every, findFrom, pick, absent, caches, isUsed, isDirty}
 use Rattle.tables.specs.declared.Found.the-variants.{At}
 use Rattle.tables.specs.Unsound.{elem, twice, count, nonzero, nonzeroPadding, addressesUnsound, freeAfterUsed, freeWithFingerprint, eachOnce, usedTwice, blocksUnsound, dirtyUncached}
-use Rattle.tables.specs.Sound.{distinct, wordOf, tailOk, addressOk, isZero, soundAddresses, addressesFit, blocksFit}
+use Rattle.tables.specs.Sound.{distinct, tailOk, addressOk, isZero, soundAddresses, addressesFit, blocksFit, rowAddress, rowSlot}
 use Rattle.tables.specs.Index.{unique, rowOk, dirtyOk}
 use Rattle.tables.specs.RowLaws.{rows-length}
 use Rattle.tables.specs.SoundLaws.{and-left, and-right, or-left, or-right, not-true-false}
@@ -87,17 +87,17 @@ six-tests true true true true true true = refl
 six-tests true true true true true false = refl
 
 pub addresses-checked : (P m n : ℕ) (t : List ℕ) → addressesUnsound P m n t ≡ not (soundAddresses P m n t)
-unfolding addressesUnsound soundAddresses
+unfolding addressesUnsound soundAddresses readAddress tailOk
 addresses-checked P m n t =
     let rs = rows n t in
-    let a = any-all (λ r. leb P (readAddress r .address)) (λ r. ltb (le4 r 0) P) (λ r. below P (le4 r 0)) rs in
+    let a = any-all (λ r. leb P (readAddress r .address)) (λ r. ltb (rowAddress r) P) (λ r. below P (rowAddress r)) rs in
     let w = twice-distinct (map (λ r. readAddress r .address) rs) in
     let f = any-all (λ r. ltb 1 (readAddress r .dirty)) (λ r. leb (getD r 36 0) 1) (λ r. above 1 (getD r 36 0)) rs in
     let z = any-all nonzeroPadding padOk padding rs in
     let r = any-all nonzero isZero (λ x. refl) (drop (n * 40) t) in
-    let each : all (addressOk P) rs ≡ all (λ r. ltb (le4 r 0) P) rs && (all (λ r. leb (getD r 36 0) 1) rs && all padOk rs) =
-    all-and (λ r. ltb (le4 r 0) P) tailOk rs ∙ ap (λ b. all (λ r. ltb (le4 r 0) P) rs && b) (all-and (λ r. leb (getD r 36 0) 1) padOk rs) in
-    rw (above m n, a, w, f, z, r, each) (six-tests (leb n m) (all (λ r. ltb (le4 r 0) P) rs) (distinct (map (wordOf 0) rs)) (all (λ r. leb (getD r 36 0) 1) rs) (all padOk rs) (all isZero (drop (n * 40) t)))
+    let each : all (addressOk P) rs ≡ all (λ r. ltb (rowAddress r) P) rs && (all (λ r. leb (getD r 36 0) 1) rs && all padOk rs) =
+    all-and (λ r. ltb (rowAddress r) P) tailOk rs ∙ ap (λ b. all (λ r. ltb (rowAddress r) P) rs && b) (all-and (λ r. leb (getD r 36 0) 1) padOk rs) in
+    rw (above m n, a, w, f, z, r, each) (six-tests (leb n m) (all (λ r. ltb (rowAddress r) P) rs) (distinct (map rowAddress rs)) (all (λ r. leb (getD r 36 0) 1) rs) (all padOk rs) (all isZero (drop (n * 40) t)))
 
 -- ---- refusal 7
 
@@ -123,7 +123,7 @@ once : (rs : List (List ℕ)) → usedTwice rs ≡ not (every unique rs)
 unfolding usedTwice every
 once [] = refl
 once (r ∷ rs) =
-    ap₂ {C = Bool} _||_ (one (isUsed r) (any (caches (take 32 r)) rs) (absent (findFrom (caches (take 32 r)) 0 rs)) (absent-any (caches (take 32 r)) 0 rs)) (once rs)
+    ap₂ {C = Bool} _||_ (one (isUsed r) (any (caches (readBlock r .fingerprint)) rs) (absent (findFrom (caches (readBlock r .fingerprint)) 0 rs)) (absent-any (caches (readBlock r .fingerprint)) 0 rs)) (once rs)
     ∙ not-or (unique r rs) (every unique rs)
   where
     one : (u a b : Bool) → b ≡ not a → u && a ≡ not (cond u b true)
@@ -131,8 +131,8 @@ once (r ∷ rs) =
     one true false b e = rw e
     one false a b e = refl
 
-zeroed : (r : List ℕ) → freeWithFingerprint r ≡ not (cond (isUsed r) true (all isZero (take 32 r)))
-zeroed r = ap (λ b. not (isUsed r) && b) (any-all nonzero isZero (λ x. refl) (take 32 r)) ∙ one (isUsed r) (all isZero (take 32 r))
+zeroed : (r : List ℕ) → freeWithFingerprint r ≡ not (cond (isUsed r) true (all isZero (readBlock r .fingerprint)))
+zeroed r = ap (λ b. not (isUsed r) && b) (any-all nonzero isZero (λ x. refl) (readBlock r .fingerprint)) ∙ one (isUsed r) (all isZero (readBlock r .fingerprint))
   where
     one : (u b : Bool) → not u && not b ≡ not (cond u true b)
     one true b = refl
@@ -314,25 +314,25 @@ all-map g p [] = refl
 all-map g p (x ∷ xs) = ap (λ b. p (g x) && b) (all-map g p xs)
 
 -- a block table passes in three tests: each row by itself, slots that differ, fingerprints used once
-pub blocks-checked : (d : ℕ) (t : List ℕ) → blocksUnsound d t ≡ not (every (rowOk d) (rows d t) && (distinct (map (wordOf 32) (rows d t)) && every unique (rows d t)))
-unfolding blocksUnsound
+pub blocks-checked : (d : ℕ) (t : List ℕ) → blocksUnsound d t ≡ not (every (rowOk d) (rows d t) && (distinct (map rowSlot (rows d t)) && every unique (rows d t)))
+unfolding blocksUnsound readBlock tailOk
 blocks-checked d t =
     let rs = rows d t in
-    let low : List ℕ → Bool = λ r. ltb (le4 r 32) d in
+    let low : List ℕ → Bool = λ r. ltb (rowSlot r) d in
     let flag : List ℕ → Bool = λ r. leb (getD r 36 0) 1 in
     let first : List ℕ → List (List ℕ) → Bool = λ r l. cond (isUsed r) (all isUsed l) true in
-    let bare : List ℕ → Bool = λ r. cond (isUsed r) true (all isZero (take 32 r)) in
+    let bare : List ℕ → Bool = λ r. cond (isUsed r) true (all isZero (readBlock r .fingerprint)) in
     let f = any-all (λ r. ltb 1 (readBlock r .used)) flag (λ r. above 1 (getD r 36 0)) rs in
     let z = any-all nonzeroPadding padOk padding rs in
     let w = any-all freeWithFingerprint bare zeroed rs in
-    let s : all (λ x. ltb x d) (map (wordOf 32) rs) ≡ all low rs = all-map (wordOf 32) (λ x. ltb x d) rs in
+    let s : all (λ x. ltb x d) (map rowSlot rs) ≡ all low rs = all-map rowSlot (λ x. ltb x d) rs in
     let o = each-once d (map (λ r. readBlock r .slot) rs) (length-map rs (λ r. readBlock r .slot) ∙ rows-length d t) in
     let each : every (rowOk d) rs ≡ all low rs && ((all flag rs && all padOk rs) && (every first rs && all bare rs)) =
-    every-same (rowOk d) (λ r l. low r && (tailOk r && (first r l && bare r))) (λ r l. ap (λ b. low r && (tailOk r && b)) (split (isUsed r) (all isUsed l) (all isZero (take 32 r)))) rs
+    every-same (rowOk d) (λ r l. low r && (tailOk r && (first r l && bare r))) (λ r l. ap (λ b. low r && (tailOk r && b)) (split (isUsed r) (all isUsed l) (all isZero (readBlock r .fingerprint)))) rs
     ∙ every-and (λ r l. low r) (λ r l. tailOk r && (first r l && bare r)) rs
     ∙ ap₂ {C = Bool} _&&_ (every-all low rs) (every-and (λ r l. tailOk r) (λ r l. first r l && bare r) rs
     ∙ ap₂ {C = Bool} _&&_ (every-all tailOk rs ∙ all-and flag padOk rs) (every-and first (λ r l. bare r) rs ∙ ap (λ b. every first rs && b) (every-all bare rs))) in
-    rw (ordered rs, f, z, w, o, once rs, s, each) (seven-tests (every first rs) (all flag rs) (all padOk rs) (all bare rs) (all low rs) (distinct (map (wordOf 32) rs)) (every unique rs))
+    rw (ordered rs, f, z, w, o, once rs, s, each) (seven-tests (every first rs) (all flag rs) (all padOk rs) (all bare rs) (all low rs) (distinct (map rowSlot rs)) (every unique rs))
   where
     split : (u a b : Bool) → cond u a b ≡ cond u a true && cond u true b
     split true true b = refl
@@ -342,10 +342,10 @@ blocks-checked d t =
 -- ---- refusal 8
 
 pub dirty-checked : (n d : ℕ) (a b : List ℕ) → dirtyUncached n d a b ≡ not (all (dirtyOk (rows d b)) (rows n a))
-unfolding dirtyUncached
+unfolding dirtyUncached readAddress
 dirty-checked n d a b =
     any-all (λ r. eqb (readAddress r .dirty) 1 && not (any (caches (readAddress r .fingerprint)) (rows d b))) (dirtyOk (rows d b))
-    (λ r. one (eqb (getD r 36 0) 1) (any (caches (take 32 (drop 4 r))) (rows d b)) (absent (findFrom (caches (take 32 (drop 4 r))) 0 (rows d b))) (absent-any (caches (take 32 (drop 4 r))) 0 (rows d b))) (rows n a)
+    (λ r. one (isDirty r) (any (caches (readAddress r .fingerprint)) (rows d b)) (absent (findFrom (caches (readAddress r .fingerprint)) 0 (rows d b))) (absent-any (caches (readAddress r .fingerprint)) 0 (rows d b))) (rows n a)
   where
     one : (u a b : Bool) → b ≡ not a → u && not a ≡ not (cond u (not b) true)
     one true true b e = rw e

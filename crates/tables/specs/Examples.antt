@@ -23,6 +23,7 @@ unfolding addressBytes
 address-row = refl
 
 pub address-row-read : readAddress dirtyRow ≡ addressRow 0x01020304 sample 1
+unfolding readAddress readBlock
 address-row-read = refl
 
 -- a used row with the slot 0x0102, and a free one with the slot 200
@@ -37,6 +38,7 @@ unfolding blockBytes
 used-row = refl
 
 pub used-row-read : readBlock usedBytes ≡ blockRow sample 0x0102 1
+unfolding readAddress readBlock
 used-row-read = refl
 
 pub free-row : blockBytes (freeRow 200) ≡ freeBytes 200
@@ -44,7 +46,7 @@ unfolding blockBytes zeros
 free-row = refl
 
 pub free-row-read : readBlock (freeBytes 200) ≡ freeRow 200
-unfolding zeros
+unfolding zeros readAddress readBlock
 free-row-read = refl
 
 -- a table of three rows that holds one, and what it holds
@@ -53,7 +55,7 @@ unfolding addressTable addressBytes flat zeros
 held-one = refl
 
 pub held-one-read : heldRows 1 (dirtyRow ++ replicate 80 0) ≡ addressRow 0x01020304 sample 1 ∷ []
-unfolding heldRows rows
+unfolding heldRows rows readAddress readBlock
 held-one-read = refl
 
 -- fresh tables of three rows
@@ -66,7 +68,7 @@ unfolding freshBlocks blockTable blockBytes flat zeros
 fresh-blocks = refl
 
 pub fresh-blocks-read : blockRows 3 (freeBytes 0 ++ (freeBytes 1 ++ freeBytes 2)) ≡ freeRow 0 ∷ freeRow 1 ∷ freeRow 2 ∷ []
-unfolding blockRows rows zeros
+unfolding blockRows rows zeros readAddress readBlock
 fresh-blocks-read = refl
 
 -- refusal 6 by example, P = 9: tables of two rows, with the address, the dirty byte and the last padding byte of the first
@@ -90,7 +92,7 @@ pub sixes :
     ∷ six 3 (addressBytes-of 8 1 0) (addressBytes-of 7 0 0)
     ∷ []
     ≡ false ∷ true ∷ true ∷ true ∷ true ∷ true ∷ true ∷ false ∷ true ∷ []
-unfolding addressesUnsound rows any twice elem
+unfolding addressesUnsound rows any twice elem readAddress readBlock
 sixes = refl
 
 -- refusal 7 by example: tables of two rows, each with a fingerprint, a slot, the used byte and the last padding byte
@@ -115,7 +117,7 @@ pub sevens :
     ∷ seven (blockBytes-of (replicate 32 0) 1 1 0) (blockBytes-of sample 0 1 0)
     ∷ []
     ≡ false ∷ false ∷ true ∷ true ∷ true ∷ true ∷ true ∷ true ∷ true ∷ false ∷ []
-unfolding blocksUnsound freeAfterUsed usedTwice eachOnce count rows any all same
+unfolding blocksUnsound freeAfterUsed usedTwice eachOnce count rows any all same readAddress readBlock
 sevens = refl
 
 -- refusal 8 by example: a dirty row and its block; the block of another fingerprint; a free row with its zeros; a clean row
@@ -129,5 +131,5 @@ pub eights :
     ∷ eight (addressBytes-of 8 0 0) (freeBytes 0)
     ∷ []
     ≡ false ∷ true ∷ true ∷ false ∷ []
-unfolding dirtyUncached rows any same
+unfolding dirtyUncached rows any same readAddress readBlock
 eights = refl

@@ -1,7 +1,8 @@
--- What a reader must believe, in this order: the bytes as rows, the layout, what is asked of rows, when a table is refused, and examples
+-- What a reader must believe, in this order: the bytes as rows, the layout, what is asked of rows, what the operations leave, when a table is refused, and examples
 pub mod Rows
 pub mod Records
 pub mod Find
+pub mod Operations
 pub mod Unsound
 pub mod Examples
 -- what the contracts of the checks and of the index cite
@@ -22,3 +23,4 @@ pub mod KeptLists
 pub mod KeptAddresses
 pub mod KeptBlocks
 pub mod Promises
+pub mod Written

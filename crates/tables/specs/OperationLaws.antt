@@ -8,14 +8,15 @@ use native.Mathlib.Omega.{arith}
 use lib.Dec.{leb}
 use lib.ListN.{length, getD, set, take, drop, length-append, length-drop, take-append-drop}
 use lib.Seq.{getD-append-add, getD-at, take-at, drop-at, length-take-le, drop-drop, take-set-lt, take-set-le, drop-set-lt, drop-set-add, getD-set-same, getD-set-other}
-use Rattle.tables.specs.Rows.{rows, flat, zeros, rowAt, removeAt, le4, freed, filled}
+use Rattle.tables.specs.Rows.{rows, flat, zeros, rowAt, removeAt, le4}
 use Rattle.tables.specs.Find.{findFrom, pick}
 use Rattle.tables.specs.declared.Found.the-variants.{At}
 use Rattle.tables.specs.Records.{readAddress, addressBytes, readBlock, blockBytes, heldRows, blockRows, addressRow, blockRow, freeRow, slotsFrom}
-use Rattle.tables.specs.Sound.{tailOk}
+use Rattle.tables.specs.Sound.{tailOk, rowSlot}
 use Rattle.tables.specs.RecordLaws.{four}
 use Rattle.tables.specs.ShiftLaws.{length-zeros}
 use Rattle.tables.specs.RowLaws.{rows-length, flat-rows, length-part}
+use Rattle.tables.specs.Operations.{rowAdded, rowCleaned, freed, filled}
 
 -- every row has 40 bytes
 abbrev pub Wide : List (List ℕ) → Type 0
@@ -113,7 +114,8 @@ module _ (n : ℕ) (t r x : List ℕ) (g : n * 40 ≤ length t) (l : length r �
   unfolding heldRows
   held-pushed = ap (map readAddress) rows-pushed ∙ map-++ readAddress (rows n t) (r ∷ [])
 
-pub length-pushed : (n : ℕ) (t r : List ℕ) → n * 40 + 40 ≤ length t → length r ≡ 40 → length (flat (rows n t ++ (r ∷ [])) ++ drop (n * 40 + 40) t) ≡ length t
+pub length-pushed : (n : ℕ) (t r : List ℕ) → n * 40 + 40 ≤ length t → length r ≡ 40 → length (rowAdded n r t) ≡ length t
+unfolding rowAdded
 length-pushed n t r g l =
     let w : Wide (rows n t ++ (r ∷ [])) = wide-append (rows n t) (r ∷ []) (wide-rows n t (omega arith)) (l, tt) in
     omega (arith, length-append (flat (rows n t ++ (r ∷ []))) (drop (n * 40 + 40) t), length-flat (rows n t ++ (r ∷ [])) w, length-append (rows n t) (r ∷ []), rows-length n t, length-drop (n * 40 + 40) t)
@@ -144,7 +146,7 @@ blockRow-eq p q r = rw (p, q, r)
 
 -- a record's bytes give the record back
 pub addr-forth : (a : ℕ) (g : List ℕ) (x : ℕ) → a < 2 ^ 32 → length g ≡ 32 → readAddress (addressBytes (addressRow a g x)) ≡ addressRow a g x
-unfolding addressBytes
+unfolding addressBytes readAddress
 addr-forth a g x h l = addressRow-eq (le4-bytes4 a h) (take-at g (x ∷ 0 ∷ 0 ∷ 0 ∷ []) 32 l) (getD-at g x (0 ∷ 0 ∷ 0 ∷ []) 0 32 l)
 
 -- what stands behind 32 elements
@@ -153,6 +155,7 @@ off x w j l = ap (λ (k : ℕ). getD (x ++ w) (k + j) 0) (sym l) ∙ getD-append
 
 -- a block row with another fingerprint and used byte
 block-parts : (x r ys : List ℕ) (y : ℕ) → length x ≡ 32 → length r ≡ 40 → readBlock (x ++ (take 4 (drop 32 r) ++ (y ∷ ys))) ≡ blockRow x (le4 r 32) y
+unfolding readBlock
 block-parts x r ys y lx l =
     ap (λ (w : List ℕ). readBlock (x ++ (w ++ (y ∷ ys)))) (four r 32 (omega arith))
     ∙ (let w : List ℕ = getD r 32 0 ∷ getD r 33 0 ∷ getD r 34 0 ∷ getD r 35 0 ∷ y ∷ ys in
@@ -164,9 +167,11 @@ zeros-4 = refl
 
 -- a freed and a filled block row
 pub block-freed : (r : List ℕ) → length r ≡ 40 → readBlock (freed r) ≡ blockRow (zeros 32) (le4 r 32) 0
+unfolding freed
 block-freed r l = ap (λ (z : List ℕ). readBlock (zeros 32 ++ (take 4 (drop 32 r) ++ z))) zeros-4 ∙ block-parts (zeros 32) r (zeros 3) 0 (length-zeros 32) l
 
 pub block-filled : (g r : List ℕ) → length g ≡ 32 → length r ≡ 40 → readBlock (filled g r) ≡ blockRow g (le4 r 32) 1
+unfolding filled
 block-filled g r lg l = block-parts g r (zeros 3) 1 lg l
 
 -- to_newest, to_front, put_block: any list of d rows
@@ -204,17 +209,20 @@ pub rows-whole : (d : ℕ) (rs : List (List ℕ)) → Wide rs → length rs ≡ 
 rows-whole d rs w l = ap (λ (k : ℕ). rows k (flat rs)) (sym l) ∙ ap (rows (length rs)) (sym (append-nil (flat rs))) ∙ rows-flat rs [] w
 
 -- the slot and the last four bytes of a row made of 32 bytes, the slot of r, and w
-pub slot-parts : (x r w : List ℕ) → length x ≡ 32 → length r ≡ 40 → le4 (x ++ (take 4 (drop 32 r) ++ w)) 32 ≡ le4 r 32
+pub slot-parts : (x r w : List ℕ) → length x ≡ 32 → length r ≡ 40 → rowSlot (x ++ (take 4 (drop 32 r) ++ w)) ≡ rowSlot r
+unfolding readBlock
 slot-parts x r w lx l =
     ap (λ (f : List ℕ). le4 (x ++ (f ++ w)) 32) (four r 32 (omega arith))
     ∙ (let v : List ℕ = getD r 32 0 ∷ getD r 33 0 ∷ getD r 34 0 ∷ getD r 35 0 ∷ w in rw (off x v 0 lx, off x v 1 lx, off x v 2 lx, off x v 3 lx))
 
 pub tail-parts : (x r : List ℕ) (a : ℕ) → length x ≡ 32 → length r ≡ 40 → tailOk (x ++ (take 4 (drop 32 r) ++ (a ∷ 0 ∷ 0 ∷ 0 ∷ []))) ≡ leb a 1 && true
+unfolding tailOk
 tail-parts x r a lx l =
     ap (λ (f : List ℕ). tailOk (x ++ (f ++ (a ∷ 0 ∷ 0 ∷ 0 ∷ [])))) (four r 32 (omega arith))
     ∙ (let v : List ℕ = getD r 32 0 ∷ getD r 33 0 ∷ getD r 34 0 ∷ getD r 35 0 ∷ a ∷ 0 ∷ 0 ∷ 0 ∷ [] in rw (off x v 4 lx, off x v 5 lx, off x v 6 lx, off x v 7 lx))
 
 pub flag-parts : (x r w : List ℕ) (a : ℕ) → length x ≡ 32 → length r ≡ 40 → getD (x ++ (take 4 (drop 32 r) ++ (a ∷ w))) 36 0 ≡ a
+unfolding readBlock
 flag-parts x r w a lx l =
     ap (λ (f : List ℕ). getD (x ++ (f ++ (a ∷ w))) 36 0) (four r 32 (omega arith))
     ∙ off x (getD r 32 0 ∷ getD r 33 0 ∷ getD r 34 0 ∷ getD r 35 0 ∷ a ∷ w) 4 lx
@@ -236,17 +244,20 @@ map-set f (r ∷ rs) zero x = refl
 map-set f (r ∷ rs) (suc k) x = ap (λ l. f r ∷ l) (map-set f rs k x)
 
 module _ (n : ℕ) (t : List ℕ) (k : ℕ) (h : k < n) (g : n * 40 ≤ length t) where
-  pub rest-clean : drop (n * 40) (set t (k * 40 + 36) 0) ≡ drop (n * 40) t
+  pub rest-clean : drop (n * 40) (rowCleaned k t) ≡ drop (n * 40) t
+  unfolding rowCleaned
   rest-clean = drop-set-lt (n * 40) t (k * 40 + 36) 0 (omega arith)
 
   -- the bytes are those of the rows with row k's dirty byte 0
-  pub clean-rows : set t (k * 40 + 36) 0 ≡ flat (set (rows n t) k (set (rowAt t k) 36 0)) ++ drop (n * 40) t
+  pub clean-rows : rowCleaned k t ≡ flat (set (rows n t) k (set (rowAt t k) 36 0)) ++ drop (n * 40) t
+  unfolding rowCleaned
   clean-rows =
-      let u : List ℕ = set t (k * 40 + 36) 0 in
+      let u : List ℕ = rowCleaned k t in
       sym (take-append-drop (n * 40) u) ∙ rw (← flat-rows n u, rows-set n t k 36 0 (omega arith), rest-clean)
 
 -- an address row made clean
 pub address-clean : (r : List ℕ) → length r ≡ 40 → readAddress (set r 36 0) ≡ addressRow (readAddress r .address) (readAddress r .fingerprint) 0
+unfolding readAddress
 address-clean r l =
     let far : (j : ℕ) → (j ≡ 36 → ⊥) → getD (set r 36 0) j 0 ≡ getD r j 0 = λ j n. getD-set-other r 36 j 0 0 n in
     addressRow-eq
@@ -255,8 +266,8 @@ address-clean r l =
     (getD-set-same r 36 0 0 (omega arith))
 
 pub held-clean : (n : ℕ) (t : List ℕ) (k : ℕ) → k < n → n * 40 ≤ length t
-    → heldRows n (set t (k * 40 + 36) 0) ≡ set (heldRows n t) k (addressRow (readAddress (rowAt t k) .address) (readAddress (rowAt t k) .fingerprint) 0)
-unfolding heldRows
+    → heldRows n (rowCleaned k t) ≡ set (heldRows n t) k (addressRow (readAddress (rowAt t k) .address) (readAddress (rowAt t k) .fingerprint) 0)
+unfolding heldRows rowCleaned
 held-clean n t k h g =
     ap (map readAddress) (rows-set n t k 36 0 (omega arith))
     ∙ map-set readAddress (rows n t) k (set (rowAt t k) 36 0)

@@ -2,31 +2,26 @@
 use mathlib.Core.Path.{_≡_, refl, sym, ap, _∙_}
 use mathlib.Core.List.{List, [], _∷_, _++_, map, map-append}
 use Prim.Native.Nat.{ℕ, zero, suc, _≤_, _<_}
-use native.Mathlib.Nat.{not-suc-le-zero, le-of-suc-le-suc}
-use lib.ListN.{length, getD, take, drop}
+use lib.ListN.{getD, take, drop}
 use lib.Seq.{take-take, getD-take}
 use Rattle.tables.specs.Rows.{rows, rowAt, removeAt}
 use Rattle.tables.specs.Find.{findFrom, caches}
 use Rattle.tables.specs.Index.{code, placeIn, Places}
 use Rattle.tables.specs.declared.Found.the-variants.{At, Nothing}
 use Rattle.tables.specs.FindLaws.{Hit, found-at}
-use Rattle.tables.specs.RowLaws.{rows-length, rows-at, take-rows}
-use Rattle.tables.specs.SoundLaws.{map-drop}
-
-getD-map : {A : Type 0} (f : A → ℕ) (l : List A) (n : ℕ) (d : A) → n < length l → getD (map f l) n 0 ≡ f (getD l n d)
-getD-map f [] n d h = absurd (not-suc-le-zero h)
-getD-map f (x ∷ l) zero d h = refl
-getD-map f (x ∷ l) (suc n) d h = getD-map f l n d (le-of-suc-le-suc h)
+use Rattle.tables.specs.RowLaws.{take-rows}
+use Rattle.tables.specs.SoundLaws.{map-drop, values-at}
+use Rattle.tables.specs.Records.{readAddress}
 
 -- the number of held row k
 pub place-at : (rs : List (List ℕ)) (n : ℕ) (a out : List ℕ) → Places rs (rows n a) (take n out) → (k : ℕ) → k < n → getD out k 0 ≡ placeIn rs (rowAt a k)
 place-at rs n a out b k h =
-    sym (getD-take n out k 0 h) ∙ ap (λ (l : List ℕ). getD l k 0) b ∙ getD-map (placeIn rs) (rows n a) k [] (rw rows-length h) ∙ ap (placeIn rs) (rows-at n a k h)
+    sym (getD-take n out k 0 h) ∙ ap (λ (l : List ℕ). getD l k 0) b ∙ values-at (placeIn rs) n a k h
 
 -- a block row that is there: used, with the address row's fingerprint
-pub place-hit : (rs : List (List ℕ)) (r : List ℕ) → (placeIn rs r ≡ 256 → ⊥) → Hit (caches (take 32 (drop 4 r))) rs [] (placeIn rs r)
+pub place-hit : (rs : List (List ℕ)) (r : List ℕ) → (placeIn rs r ≡ 256 → ⊥) → Hit (caches (readAddress r .fingerprint)) rs [] (placeIn rs r)
 unfolding placeIn
-place-hit rs r n = elim (findFrom (caches (take 32 (drop 4 r))) 0 rs) as (λ f. findFrom (caches (take 32 (drop 4 r))) 0 rs ≡ f → (code f ≡ 256 → ⊥) → Hit (caches (take 32 (drop 4 r))) rs [] (code f)) [ At i ↦ λ e m. found-at (caches (take 32 (drop 4 r))) rs [] i e | Nothing ↦ λ e m. absurd (m refl) ] refl n
+place-hit rs r n = elim (findFrom (caches (readAddress r .fingerprint)) 0 rs) as (λ f. findFrom (caches (readAddress r .fingerprint)) 0 rs ≡ f → (code f ≡ 256 → ⊥) → Hit (caches (readAddress r .fingerprint)) rs [] (code f)) [ At i ↦ λ e m. found-at (caches (readAddress r .fingerprint)) rs [] i e | Nothing ↦ λ e m. absurd (m refl) ] refl n
 
 -- the numbers after a row is taken out, and after one is added
 map-take : {A B : Type 0} (f : A → B) (k : ℕ) (xs : List A) → take k (map f xs) ≡ map f (take k xs)

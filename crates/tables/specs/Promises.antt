@@ -2,17 +2,17 @@
 -- Each statement has the bytes at exit as the function's contract writes them. `Checked.each-once` is the law of the slots. Assumes nothing.
 use mathlib.Core.Path.{_≡_, refl, sym, ap, _∙_}
 use mathlib.Core.Bool.{Bool, true, false, not, cond, _&&_, _||_}
-use mathlib.Core.List.{List, [], _∷_, _++_, map}
+use mathlib.Core.List.{List, map}
 use Prim.Native.Nat.{ℕ, _+_, _-_, _*_, _^_, _≤_, _<_}
 use native.Mathlib.Omega.{arith}
-use lib.ListN.{length, getD, set, drop}
+use lib.ListN.{length, getD}
 use borrow.Author.Tests.{not-false}
-use Rattle.tables.specs.Rows.{rows, flat, zeros, rowAt, removeAt, freed, filled}
+use Rattle.tables.specs.Rows.{rows, rowAt}
 use Rattle.tables.specs.Records.{addressBytes, addressRow, addressTable, heldRows, blockTable, blockRows, freshAddresses, freshBlocks}
 use Rattle.tables.specs.Find.{every, findFrom, hasAddress, caches, isUsed}
 use Rattle.tables.specs.declared.Found.the-variants.{Nothing}
 use Rattle.tables.specs.Unsound.{addressesUnsound, blocksUnsound, dirtyUncached, tablesRefused}
-use Rattle.tables.specs.Sound.{distinct, wordOf, soundAddresses, soundBlocks, blockOk, addressesFit, blocksFit}
+use Rattle.tables.specs.Sound.{distinct, soundAddresses, soundBlocks, blockOk, addressesFit, blocksFit, rowSlot}
 use Rattle.tables.specs.Index.{unique, rowOk}
 use Rattle.tables.specs.RecordLaws.{addressTable-held, blockTable-blocks}
 use Rattle.tables.specs.SoundSplit.{sound-split}
@@ -20,6 +20,7 @@ use Rattle.tables.specs.Checked.{addresses-checked, blocks-checked, fit-
 use Rattle.tables.specs.SoundLaws.{and-left, and-right, or-right}
 use Rattle.tables.specs.KeptAddresses.{Addrs, addrs-parts, parts-addrs, addrs-removed, addrs-pushed, addrs-clean, addrs-fresh, addressOk-of, length-ofAddr, le4-ofAddr}
 use Rattle.tables.specs.KeptBlocks.{Blocks, blocks-parts, parts-blocks, kept-newest, kept-front, kept-put, kept-fresh}
+use Rattle.tables.specs.Operations.{rowOut, rowAdded, rowCleaned, rowNewest, rowFreed, rowFilled}
 
 -- ---- the address table
 
@@ -40,19 +41,19 @@ module _ (P m n : ℕ) (t : List ℕ) (e : addressesUnsound P m n t ≡ false) (
   parts : Addrs P m n t
   parts = addrs-parts P m n t (sound-addresses P m n t e)
 
-  pub remove-row-kept : (i : ℕ) → i < n → addressesUnsound P m (n - 1) (flat (removeAt (rows n t) i) ++ (zeros 40 ++ drop (n * 40) t)) ≡ false
-  remove-row-kept i h = passes P m (n - 1) (flat (removeAt (rows n t) i) ++ (zeros 40 ++ drop (n * 40) t)) (addrs-removed P m n t i h l parts)
+  pub remove-row-kept : (i : ℕ) → i < n → addressesUnsound P m (n - 1) (rowOut n i t) ≡ false
+  remove-row-kept i h = passes P m (n - 1) (rowOut n i t) (addrs-removed P m n t i h l parts)
 
   -- an address below P that is not held, where a row is left
   pub push-address-kept : (a : ℕ) (g : List ℕ) (x : ℕ) → n < m → P ≤ 2 ^ 32 → a < P → length g ≡ 32 → x ≤ 1 → findFrom (hasAddress a) 0 (rows n t) ≡ Nothing
-      → addressesUnsound P m (n + 1) (flat (rows n t ++ (addressBytes (addressRow a g x) ∷ [])) ++ drop (n * 40 + 40) t) ≡ false
+      → addressesUnsound P m (n + 1) (rowAdded n (addressBytes (addressRow a g x)) t) ≡ false
   push-address-kept a g x hn hp ha lg hx f =
       let r : List ℕ = addressBytes (addressRow a g x) in
-      passes P m (n + 1) (flat (rows n t ++ (r ∷ [])) ++ drop (n * 40 + 40) t)
+      passes P m (n + 1) (rowAdded n r t)
       (addrs-pushed P m n t r hn l (length-ofAddr a g x lg) (addressOk-of P a g x ha hp hx lg) (ap (λ (k : ℕ). findFrom (hasAddress k) 0 (rows n t)) (le4-ofAddr a g x (omega arith)) ∙ f) parts)
 
-  pub set-clean-kept : (k : ℕ) → k < n → addressesUnsound P m n (set t (k * 40 + 36) 0) ≡ false
-  set-clean-kept k h = passes P m n (set t (k * 40 + 36) 0) (addrs-clean P m n t k h l parts)
+  pub set-clean-kept : (k : ℕ) → k < n → addressesUnsound P m n (rowCleaned k t) ≡ false
+  set-clean-kept k h = passes P m n (rowCleaned k t) (addrs-clean P m n t k h l parts)
 
 -- ---- the block table
 
@@ -68,12 +69,12 @@ unfolding soundBlocks
 blocks-sound d t =
     let rs : List (List ℕ) = rows d t in
     blocks-checked d t
-    ∙ ap not (regroup (every (rowOk d) rs) (distinct (map (wordOf 32) rs)) (every unique rs) ∙ ap (λ (b : Bool). b && distinct (map (wordOf 32) rs)) (sym (sound-split d rs)))
+    ∙ ap not (regroup (every (rowOk d) rs) (distinct (map rowSlot rs)) (every unique rs) ∙ ap (λ (b : Bool). b && distinct (map rowSlot rs)) (sym (sound-split d rs)))
 
 sound-blocks : (d : ℕ) (t : List ℕ) → blocksUnsound d t ≡ false → soundBlocks d t ≡ true
 sound-blocks d t e = not-false (soundBlocks d t) (sym (blocks-sound d t) ∙ e)
 
-soundBlocks-opened : (d : ℕ) (t : List ℕ) → soundBlocks d t ≡ true → every (blockOk d) (rows d t) && distinct (map (wordOf 32) (rows d t)) ≡ true
+soundBlocks-opened : (d : ℕ) (t : List ℕ) → soundBlocks d t ≡ true → every (blockOk d) (rows d t) && distinct (map rowSlot (rows d t)) ≡ true
 unfolding soundBlocks
 soundBlocks-opened d t e = e
 
@@ -92,15 +93,15 @@ module _ (d : ℕ) (t : List ℕ) (i : ℕ) (h : i < d) (e : blocksUnsound d t �
   block-parts = blocks-parts d t (sound-blocks d t e)
 
   -- a used row
-  pub to-newest-kept : isUsed (rowAt t i) ≡ true → blocksUnsound d (flat (removeAt (rows d t) i ++ (getD (rows d t) i [] ∷ []))) ≡ false
-  to-newest-kept u = blocks-pass d (flat (removeAt (rows d t) i ++ (getD (rows d t) i [] ∷ []))) (kept-newest d t i h l block-parts u)
+  pub to-newest-kept : isUsed (rowAt t i) ≡ true → blocksUnsound d (rowNewest d i t) ≡ false
+  to-newest-kept u = blocks-pass d (rowNewest d i t) (kept-newest d t i h l block-parts u)
 
-  pub to-front-kept : blocksUnsound d (flat (freed (getD (rows d t) i []) ∷ removeAt (rows d t) i)) ≡ false
-  to-front-kept = blocks-pass d (flat (freed (getD (rows d t) i []) ∷ removeAt (rows d t) i)) (kept-front d t i h l block-parts)
+  pub to-front-kept : blocksUnsound d (rowFreed d i t) ≡ false
+  to-front-kept = blocks-pass d (rowFreed d i t) (kept-front d t i h l block-parts)
 
   -- a fingerprint that is not cached
-  pub put-block-kept : (g : List ℕ) → length g ≡ 32 → findFrom (caches g) 0 (rows d t) ≡ Nothing → blocksUnsound d (flat (removeAt (rows d t) i ++ (filled g (getD (rows d t) i []) ∷ []))) ≡ false
-  put-block-kept g lg f = blocks-pass d (flat (removeAt (rows d t) i ++ (filled g (getD (rows d t) i []) ∷ []))) (kept-put d t i h l block-parts g lg f)
+  pub put-block-kept : (g : List ℕ) → length g ≡ 32 → findFrom (caches g) 0 (rows d t) ≡ Nothing → blocksUnsound d (rowFilled d i g t) ≡ false
+  put-block-kept g lg f = blocks-pass d (rowFilled d i g t) (kept-put d t i h l block-parts g lg f)
 
 -- ---- the three tests in turn
 
@@ -145,5 +146,5 @@ passed P m n d a b e =
       six = or-right (not (addressesFit P m a)) (addressesUnsound P m n a) (t .0);
       seven = s;
       eight = t .2;
-      once = and-right (every (rowOk d) rs) (every unique rs) (sym (sound-split d rs) ∙ and-left (every (blockOk d) rs) (distinct (map (wordOf 32) rs)) (soundBlocks-opened d b (sound-blocks d b s)));
+      once = and-right (every (rowOk d) rs) (every unique rs) (sym (sound-split d rs) ∙ and-left (every (blockOk d) rs) (distinct (map rowSlot rs)) (soundBlocks-opened d b (sound-blocks d b s)));
     }

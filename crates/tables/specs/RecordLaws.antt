@@ -13,7 +13,7 @@ use lib.Seq.{drop-cons, drop-drop, take-all}
 use borrow.Author.Tests.{eqb-true, leb-true}
 use Rattle.tables.specs.Rows.{rows, zeros, rowAt, le4}
 use Rattle.tables.specs.Find.{all, every}
-use Rattle.tables.specs.Sound.{tailOk, addressOk, isZero, distinct, wordOf, soundAddresses, blockOk, soundBlocks}
+use Rattle.tables.specs.Sound.{tailOk, addressOk, isZero, distinct, soundAddresses, blockOk, soundBlocks, rowAddress, rowSlot}
 use Rattle.tables.specs.Records.{readAddress, addressBytes, readBlock, blockBytes, bytes4, heldRows, blockRows, addressTable, blockTable}
 use Rattle.tables.specs.RowLaws.{rows-length, rows-at, flat-rows, flat-all, getD-rowAt, length-part}
 use Rattle.tables.specs.SoundLaws.{all-at, every-at, and-left, and-right}
@@ -59,6 +59,7 @@ bytes4-le4 r at h h0 h1 h2 h3 = bytes4-of _ _ _ _ h0 h1 h2 h3 ∙ sym (four r at
 
 -- the last four bytes of a row that passes `tailOk`
 tail-is : (r : List ℕ) → length r ≡ 40 → tailOk r ≡ true → drop 36 r ≡ getD r 36 0 ∷ 0 ∷ 0 ∷ 0 ∷ []
+unfolding tailOk
 tail-is r l e =
     let p = and-right (leb (getD r 36 0) 1) _ e in
     let q = and-right (eqb (getD r 37 0) 0) _ p in
@@ -70,7 +71,7 @@ tail-is r l e =
 
 -- a row that is a record's bytes
 pub addr-back : (r : List ℕ) → length r ≡ 40 → ((j : ℕ) → j < 40 → getD r j 0 < 256) → tailOk r ≡ true → addressBytes (readAddress r) ≡ r
-unfolding addressBytes
+unfolding addressBytes readAddress
 addr-back r l b e =
     ap (λ (x : List ℕ). x ++ (take 32 (drop 4 r) ++ (getD r 36 0 ∷ 0 ∷ 0 ∷ 0 ∷ []))) (bytes4-le4 r 0 (omega arith) (b 0 (omega arith)) (b 1 (omega arith)) (b 2 (omega arith)) (b 3 (omega arith)))
     ∙ ap (λ (x : List ℕ). take 4 r ++ (take 32 (drop 4 r) ++ x)) (sym (tail-is r l e) ∙ sym (drop-drop 32 4 r))
@@ -78,7 +79,7 @@ addr-back r l b e =
     ∙ take-append-drop 4 r
 
 pub block-back : (r : List ℕ) → length r ≡ 40 → ((j : ℕ) → j < 40 → getD r j 0 < 256) → tailOk r ≡ true → blockBytes (readBlock r) ≡ r
-unfolding blockBytes
+unfolding blockBytes readBlock
 block-back r l b e =
     ap (λ (x : List ℕ). take 32 r ++ (x ++ (getD r 36 0 ∷ 0 ∷ 0 ∷ 0 ∷ []))) (bytes4-le4 r 32 (omega arith) (b 32 (omega arith)) (b 33 (omega arith)) (b 34 (omega arith)) (b 35 (omega arith)))
     ∙ ap (λ (x : List ℕ). take 32 r ++ (take 4 (drop 32 r) ++ x)) (sym (tail-is r l e) ∙ sym (drop-drop 4 32 r))
@@ -109,13 +110,13 @@ module _ (n : ℕ) (t : List ℕ) (b : Bytes t) (h : n * 40 ≤ length t) (ok : 
 
 addr-tails : (P n : ℕ) (t : List ℕ) → all (addressOk P) (rows n t) ≡ true → (k : ℕ) → k < n → tailOk (rowAt t k) ≡ true
 addr-tails P n t o k g =
-    and-right (ltb (le4 (rowAt t k) 0) P) (tailOk (rowAt t k)) (ap (addressOk P) (sym (rows-at n t k g)) ∙ all-at (addressOk P) (rows n t) k [] o (rw rows-length g))
+    and-right (ltb (rowAddress (rowAt t k)) P) (tailOk (rowAt t k)) (ap (addressOk P) (sym (rows-at n t k g)) ∙ all-at (addressOk P) (rows n t) k [] o (rw rows-length g))
 
 block-tails : (d : ℕ) (t : List ℕ) → every (blockOk d) (rows d t) ≡ true → (k : ℕ) → k < d → tailOk (rowAt t k) ≡ true
 block-tails d t o k g =
     let rs : List (List ℕ) = drop (suc k) (rows d t) in
     and-left (tailOk (rowAt t k)) _
-    (and-right (ltb (le4 (rowAt t k) 32) d) _ (ap (λ (r : List ℕ). blockOk d r rs) (sym (rows-at d t k g)) ∙ every-at (blockOk d) (rows d t) k [] o (rw rows-length g)))
+    (and-right (ltb (rowSlot (rowAt t k)) d) _ (ap (λ (r : List ℕ). blockOk d r rs) (sym (rows-at d t k g)) ∙ every-at (blockOk d) (rows d t) k [] o (rw rows-length g)))
 
 -- a sound address table is the bytes of the rows that it holds
 pub addressTable-held : (P m n : ℕ) (t : List ℕ) → Bytes t → length t ≡ m * 40 → soundAddresses P m n t ≡ true → addressTable m (heldRows n t) ≡ t
@@ -123,7 +124,7 @@ unfolding soundAddresses addressTable heldRows
 addressTable-held P m n t b l s =
     let h : n ≤ m = leb-true n m (and-left (leb n m) _ s) in
     let o = and-left (all (addressOk P) (rows n t)) _ (and-right (leb n m) _ s) in
-    let z = and-right (distinct (map (wordOf 0) (rows n t))) _ (and-right (all (addressOk P) (rows n t)) _ (and-right (leb n m) _ s)) in
+    let z = and-right (distinct (map rowAddress (rows n t))) _ (and-right (all (addressOk P) (rows n t)) _ (and-right (leb n m) _ s)) in
     let e : (m - length (map readAddress (rows n t))) * 40 ≡ length (drop (n * 40) t) = omega (arith, length-map (rows n t) readAddress, rows-length n t, length-drop (n * 40) t) in
     rw (addrs-back n t b (omega arith) (addr-tails P n t o), flat-rows n t, e, ← zeros-all (drop (n * 40) t) z) (take-append-drop (n * 40) t)
 

@@ -21,7 +21,7 @@ addressRow a g x = record { address = a; fingerprint = g; dirty = x }
 unfoldable pub addressBytes : AddressRow → List ℕ
 addressBytes r = bytes4 (r .address) ++ (r .fingerprint ++ (r .dirty ∷ 0 ∷ 0 ∷ 0 ∷ []))
 
-abbrev pub readAddress : List ℕ → AddressRow
+unfoldable pub readAddress : List ℕ → AddressRow
 readAddress r = record { address = le4 r 0; fingerprint = take 32 (drop 4 r); dirty = getD r 36 0 }
 
 -- "A block row: fingerprint (32), slot (4, little-endian), used byte (1 or 0), 3 zero bytes."
@@ -36,7 +36,7 @@ blockRow g s x = record { fingerprint = g; slot = s; used = x }
 unfoldable pub blockBytes : BlockRow → List ℕ
 blockBytes r = r .fingerprint ++ (bytes4 (r .slot) ++ (r .used ∷ 0 ∷ 0 ∷ 0 ∷ []))
 
-abbrev pub readBlock : List ℕ → BlockRow
+unfoldable pub readBlock : List ℕ → BlockRow
 readBlock r = record { fingerprint = take 32 r; slot = le4 r 32; used = getD r 36 0 }
 
 -- "Free rows (used 0, zero fingerprint)"

@@ -4,9 +4,12 @@ use Prim.Native.Nat.{ℕ, zero, suc, _+_, _*_}
 use mathlib.Core.List.{List, [], _∷_, _++_}
 use lib.ListN.{take, drop, getD, replicate}
 
--- "address table (m × 40), block table (d × 40)": the bytes of n rows
+-- "address table (m × 40), block table (d × 40)": the bytes of a row, and of n rows
+abbrev pub rowBytes : ℕ
+rowBytes = 40
+
 abbrev pub tableBytes : ℕ → ℕ
-tableBytes n = n * 40
+tableBytes n = n * rowBytes
 
 -- the first n rows of the bytes t
 unfoldable pub rows : ℕ → List ℕ → List (List ℕ)
@@ -36,11 +39,3 @@ le8 t at =
 -- "its row is taken out": the list without its element i
 abbrev pub removeAt : {A : Type 0} → List A → ℕ → List A
 removeAt rs i = take i rs ++ drop (suc i) rs
-
--- "Free rows (used 0, zero fingerprint)"; "a row freed later keeps its slot"
-abbrev pub freed : List ℕ → List ℕ
-freed r = zeros 32 ++ (take 4 (drop 32 r) ++ zeros 4)
-
--- a block row taken for the fingerprint g: used 1, the slot kept
-abbrev pub filled : List ℕ → List ℕ → List ℕ
-filled g r = g ++ (take 4 (drop 32 r) ++ (1 ∷ zeros 3))

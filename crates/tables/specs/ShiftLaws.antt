@@ -5,8 +5,9 @@ use mathlib.Core.List.{List, [], _∷_, _++_, append-assoc, append-nil}
 use native.Mathlib.Omega.{arith}
 use lib.ListN.{length, getD, set, take, drop, length-append, length-drop, length-replicate, drop-of-length-le}
 use lib.Seq.{paste, take-paste, drop-paste, drop-drop, take-all, take-append-add, drop-at, drop-cons, length-take-le, set-at}
-use Rattle.tables.specs.Rows.{rows, flat, zeros, removeAt, rowAt, freed, filled}
+use Rattle.tables.specs.Rows.{rows, flat, zeros, removeAt, rowAt}
 use Rattle.tables.specs.RowLaws.{flat-rows, flat-append, flat-removeAt, rows-at, length-part}
+use Rattle.tables.specs.Operations.{rowOut, rowAdded, rowNewest, rowFreed, freed, filled}
 
 pub length-zeros : (n : ℕ) → length (zeros n) ≡ n
 unfolding zeros
@@ -35,7 +36,8 @@ moved-up t x at g =
 
 -- remove_row
 pub removed : (t : List ℕ) (n i : ℕ) → i < n → n * 40 ≤ length t
-    → paste (paste t (i * 40) (drop (i * 40 + 40) t) (n * 40 - 40 - i * 40)) (n * 40 - 40) (zeros 40) 40 ≡ flat (removeAt (rows n t) i) ++ (zeros 40 ++ drop (n * 40) t)
+    → paste (paste t (i * 40) (drop (i * 40 + 40) t) (n * 40 - 40 - i * 40)) (n * 40 - 40) (zeros 40) 40 ≡ rowOut n i t
+unfolding rowOut
 removed t n i h g =
     let e : n * 40 - 40 + 40 ≡ n * 40 = omega arith in
     let z : length (zeros 40) ≡ 40 = length-zeros 40 in
@@ -43,8 +45,8 @@ removed t n i h g =
     ∙ rw (flat-removeAt n t i h, take-all 40 (zeros 40) (omega arith), e)
 
 -- push_row
-pub pushed : (t x : List ℕ) (n : ℕ) → length x ≡ 40 → paste t (n * 40) x (length x) ≡ flat (rows n t ++ (x ∷ [])) ++ drop (n * 40 + 40) t
-unfolding flat
+pub pushed : (t x : List ℕ) (n : ℕ) → length x ≡ 40 → paste t (n * 40) x (length x) ≡ rowAdded n x t
+unfolding flat rowAdded
 pushed t x n l = rw (flat-append (rows n t) (x ∷ []), flat-rows n t, append-nil x, l, take-all 40 x (omega arith))
 
 -- row i taken out and x added at the end
@@ -60,11 +62,13 @@ replaced t x d i h g z =
 
 -- to_newest
 pub newest : (t : List ℕ) (d i : ℕ) → i < d → length t ≡ d * 40
-    → paste (paste t (i * 40) (drop (i * 40 + 40) t) (d * 40 - 40 - i * 40)) (d * 40 - 40) (rowAt t i) 40 ≡ flat (removeAt (rows d t) i ++ (getD (rows d t) i [] ∷ []))
+    → paste (paste t (i * 40) (drop (i * 40 + 40) t) (d * 40 - 40 - i * 40)) (d * 40 - 40) (rowAt t i) 40 ≡ rowNewest d i t
+unfolding rowNewest
 newest t d i h g = replaced t (rowAt t i) d i h g (length-part t (i * 40) 40 (omega arith)) ∙ rw (rows-at d t i h)
 
 -- a row with its fingerprint and its last four bytes cleared
 pub cleared : (r : List ℕ) → length r ≡ 40 → paste (paste r 0 (zeros 32) 32) 36 (zeros 4) 4 ≡ freed r
+unfolding freed
 cleared r l =
     let a : take 32 (zeros 32) ≡ zeros 32 = take-all 32 (zeros 32) (omega (arith, length-zeros 32)) in
     let b : take 4 (zeros 4) ≡ zeros 4 = take-all 4 (zeros 4) (omega (arith, length-zeros 4)) in
@@ -76,13 +80,14 @@ cleared r l =
     rw (p, b, f, m, append-nil) (append-assoc (zeros 32) (take 4 (drop 32 r)) (zeros 4))
 
 pub length-freed : (r : List ℕ) → length r ≡ 40 → length (freed r) ≡ 40
+unfolding freed
 length-freed r l =
     omega (arith, length-append (zeros 32) (take 4 (drop 32 r) ++ zeros 4), length-append (take 4 (drop 32 r)) (zeros 4), length-zeros 32, length-zeros 4, length-part r 32 4 (omega arith))
 
 -- to_front
 pub fronted : (t : List ℕ) (d i : ℕ) → i < d → length t ≡ d * 40
-    → paste (paste t 40 (drop 0 t) (i * 40)) 0 (freed (rowAt t i)) 40 ≡ flat (freed (getD (rows d t) i []) ∷ removeAt (rows d t) i)
-unfolding flat
+    → paste (paste t 40 (drop 0 t) (i * 40)) 0 (freed (rowAt t i)) 40 ≡ rowFreed d i t
+unfolding flat rowFreed
 fronted t d i h g =
     let r : length (rowAt t i) ≡ 40 = length-part t (i * 40) 40 (omega arith) in
     let k : length (freed (rowAt t i)) ≤ 40 = omega (arith, length-freed (rowAt t i) r) in
@@ -102,7 +107,7 @@ addr-made row w g x l lg e z =
 
 -- filled_row
 pub fill-made : (r g : List ℕ) → length r ≡ 40 → length g ≡ 32 → set (paste (paste r 0 g (length g)) 36 (zeros 4) 4) 36 1 ≡ filled g r
-unfolding zeros
+unfolding zeros filled
 fill-made r g l lg =
     let q : List ℕ = g ++ drop 32 r in
     let p : paste r 0 g (length g) ≡ q = ap (λ (n : ℕ). take n g ++ drop (0 + n) r) lg ∙ rw (take-all 32 g (omega arith)) in
@@ -119,6 +124,7 @@ fill-made r g l lg =
     ∙ append-assoc g (take 4 (drop 32 r)) (1 ∷ 0 ∷ 0 ∷ 0 ∷ [])
 
 pub length-filled : (g r : List ℕ) → length g ≡ 32 → length r ≡ 40 → length (filled g r) ≡ 40
+unfolding filled
 length-filled g r lg l =
     omega (arith, length-append g (take 4 (drop 32 r) ++ (1 ∷ zeros 3)), length-append (take 4 (drop 32 r)) (1 ∷ zeros 3), length-zeros 3, length-part r 32 4 (omega arith))
 

@@ -4,7 +4,7 @@ use mathlib.Core.Bool.{Bool, true, false, not, cond, _&&_}
 use mathlib.Core.List.{List, [], _∷_, map}
 use lib.Dec.{eqb, leb, ltb}
 use lib.ListN.{length, drop, getD}
-use Rattle.tables.specs.Rows.{rows, le4, tableBytes}
+use Rattle.tables.specs.Rows.{rows, le4, tableBytes, zeros}
 use Rattle.tables.specs.Records.{readAddress, readBlock}
 use Rattle.tables.specs.Find.{all, every, caches, findFrom, absent, isUsed}
 use Rattle.tables.specs.Unsound.{elem}
@@ -26,7 +26,7 @@ abbrev pub rowSlot : List ℕ → ℕ
 rowSlot r = readBlock r .slot
 
 -- the last four bytes of a row: a byte that is 0 or 1, and three zeros
-abbrev pub tailOk : List ℕ → Bool
+unfoldable pub tailOk : List ℕ → Bool
 tailOk r = leb (getD r 36 0) 1 && (eqb (getD r 37 0) 0 && (eqb (getD r 38 0) 0 && eqb (getD r 39 0) 0))
 
 -- a held address row: the address is below P

@@ -6,13 +6,13 @@ use Prim.Native.Nat.{ℕ, zero, suc, _+_, _-_, _*_, _≤_, _<_}
 use native.Mathlib.Nat.{not-suc-le-zero, le-of-suc-le-suc}
 use native.Mathlib.Omega.{arith}
 use lib.Dec.{eqb, leb}
-use lib.ListN.{replicate, length-replicate, getD-replicate, length, getD, set, drop, length-set, length-map, List·getD-map, drop-of-length-le}
+use lib.ListN.{replicate, length-replicate, getD-replicate, length, getD, set, drop, length-set, length-map, drop-of-length-le}
 use lib.Seq.{drop-cons, getD-set-same, getD-set-other}
 use borrow.Author.Tests.{eqb-true, eqb-false, ltb-true}
-use Rattle.tables.specs.Rows.{rows, rowAt}
+use Rattle.tables.specs.Rows.{rows, rowAt, zeros}
 use Rattle.tables.specs.Find.{all, every, same}
 use Rattle.tables.specs.Unsound.{elem}
-use Rattle.tables.specs.Sound.{distinct, wordOf, tailOk, addressOk, mark}
+use Rattle.tables.specs.Sound.{distinct, tailOk, addressOk, mark, rowAddress, rowSlot}
 use Rattle.tables.specs.Index.{rowOk}
 use Rattle.tables.specs.RowLaws.{rows-length, rows-at, getD-rowAt}
 use Rattle.tables.specs.FindLaws.{all-hit, all-miss, all-end}
@@ -20,6 +20,7 @@ use Rattle.tables.specs.FindLaws.{all-hit, all-miss, all-end}
 -- the last four bytes of row k
 pub tail-rowAt : (t : List ℕ) (k : ℕ)
     → tailOk (rowAt t k) ≡ leb (getD t (k * 40 + 36) 0) 1 && (eqb (getD t (k * 40 + 37) 0) 0 && (eqb (getD t (k * 40 + 38) 0) 0 && eqb (getD t (k * 40 + 39) 0) 0))
+unfolding tailOk
 tail-rowAt t k = rw (getD-rowAt t k 36 (omega arith), getD-rowAt t k 37 (omega arith), getD-rowAt t k 38 (omega arith), getD-rowAt t k 39 (omega arith))
 
 -- a turn on row k of a check of all rows
@@ -48,12 +49,18 @@ all-at p [] k z e h = absurd (not-suc-le-zero h)
 all-at p (x ∷ xs) zero z e h = and-left (p x) (all p xs) e
 all-at p (x ∷ xs) (suc k) z e h = all-at p xs k z (and-right (p x) (all p xs) e) (le-of-suc-le-suc h)
 
--- the numbers at place j of the rows
-pub words-at : (n : ℕ) (t : List ℕ) (j k : ℕ) → k < n → getD (map (wordOf j) (rows n t)) k 0 ≡ wordOf j (rowAt t k)
-words-at n t j k h = List·getD-map (wordOf j) (rows n t) k [] ∙ ap (wordOf j) (rows-at n t k h)
+-- element i of a list that is mapped
+pub map-at : {A B : Type 0} (f : A → B) (l : List A) (i : ℕ) (e : B) (z : A) → i < length l → getD (map f l) i e ≡ f (getD l i z)
+map-at f [] i e z h = absurd (not-suc-le-zero h)
+map-at f (x ∷ xs) zero e z h = refl
+map-at f (x ∷ xs) (suc i) e z h = map-at f xs i e z (le-of-suc-le-suc h)
 
-pub words-length : (n : ℕ) (t : List ℕ) (j : ℕ) → length (map (wordOf j) (rows n t)) ≡ n
-words-length n t j = length-map (rows n t) (wordOf j) ∙ rows-length n t
+-- a number of each row
+pub values-at : (f : List ℕ → ℕ) (n : ℕ) (t : List ℕ) (k : ℕ) → k < n → getD (map f (rows n t)) k 0 ≡ f (rowAt t k)
+values-at f n t k h = map-at f (rows n t) k 0 [] (rw rows-length h) ∙ ap f (rows-at n t k h)
+
+pub values-length : (f : List ℕ → ℕ) (n : ℕ) (t : List ℕ) → length (map f (rows n t)) ≡ n
+values-length f n t = length-map (rows n t) f ∙ rows-length n t
 
 -- a byte for each number: 1 if it is in the list
 abbrev pub Marks : List ℕ → List ℕ → Type 0
@@ -117,10 +124,10 @@ filled-with q v x h = getD-replicate q x v 0 (rw length-replicate at h)
 pub fresh : (q x : ℕ) → x < length (replicate {A = ℕ} q 0) → getD {A = ℕ} (replicate q 0) x 0 ≡ 0
 fresh q x h = filled-with q 0 x h
 
-pub addrs-below : (q p n : ℕ) (t : List ℕ) → all (addressOk p) (rows n t) ≡ true → p ≤ q → (k : ℕ) → k < n → wordOf 0 (rowAt t k) < length (replicate {A = ℕ} q 0)
+pub addrs-below : (q p n : ℕ) (t : List ℕ) → all (addressOk p) (rows n t) ≡ true → p ≤ q → (k : ℕ) → k < n → rowAddress (rowAt t k) < length (replicate {A = ℕ} q 0)
 addrs-below q p n t e h k b =
     let o : addressOk p (rowAt t k) ≡ true = ap (addressOk p) (sym (rows-at n t k b)) ∙ all-at (addressOk p) (rows n t) k [] e (rw rows-length b) in
-    let l : wordOf 0 (rowAt t k) < p = ltb-true _ _ (and-left _ _ o) in
+    let l : rowAddress (rowAt t k) < p = ltb-true _ _ (and-left _ _ o) in
     rw length-replicate (omega (arith, l, h))
 
 pub every-at : {A : Type 0} (q : A → List A → Bool) (xs : List A) (k : ℕ) (z : A) → every q xs ≡ true → k < length xs → q (getD xs k z) (drop (suc k) xs) ≡ true
@@ -129,10 +136,10 @@ every-at q [] k z e h = absurd (not-suc-le-zero h)
 every-at q (x ∷ xs) zero z e h = and-left (q x xs) (every q xs) e
 every-at q (x ∷ xs) (suc k) z e h = every-at q xs k z (and-right (q x xs) (every q xs) e) (le-of-suc-le-suc h)
 
-pub slots-below : (q d : ℕ) (t : List ℕ) → every (rowOk d) (rows d t) ≡ true → d ≤ q → (k : ℕ) → k < d → wordOf 32 (rowAt t k) < length (replicate {A = ℕ} q 0)
+pub slots-below : (q d : ℕ) (t : List ℕ) → every (rowOk d) (rows d t) ≡ true → d ≤ q → (k : ℕ) → k < d → rowSlot (rowAt t k) < length (replicate {A = ℕ} q 0)
 slots-below q d t e h k b =
     let o : rowOk d (rowAt t k) (drop (suc k) (rows d t)) ≡ true = ap (λ (r : List ℕ). rowOk d r (drop (suc k) (rows d t))) (sym (rows-at d t k b)) ∙ every-at (rowOk d) (rows d t) k [] e (rw rows-length b) in
-    let l : wordOf 32 (rowAt t k) < d = ltb-true _ _ (and-left _ _ o) in
+    let l : rowSlot (rowAt t k) < d = ltb-true _ _ (and-left _ _ o) in
     rw length-replicate (omega (arith, l, h))
 
 -- a turn of a check of `every` that goes down, at the element before place k

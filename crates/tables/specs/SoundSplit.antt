@@ -4,11 +4,10 @@ use mathlib.Core.Bool.{Bool, true, false, cond, _&&_}
 use mathlib.Core.List.{List, [], _∷_}
 use Prim.Native.Nat.{ℕ}
 use lib.Dec.{ltb}
-use lib.ListN.{take}
-use Rattle.tables.specs.Rows.{le4}
 use Rattle.tables.specs.Find.{all, every, findFrom, caches, absent, isUsed}
-use Rattle.tables.specs.Sound.{isZero, tailOk, blockOk}
+use Rattle.tables.specs.Sound.{isZero, tailOk, blockOk, rowSlot}
 use Rattle.tables.specs.Index.{unique, rowOk}
+use Rattle.tables.specs.Records.{readBlock}
 
 pub and-swap : (a b c e : Bool) → (a && b) && (c && e) ≡ (a && c) && (b && e)
 and-swap true true c e = refl
@@ -33,8 +32,8 @@ and-assoc2 false b c e = refl
 
 ok-split : (d : ℕ) (r : List ℕ) (rs : List (List ℕ)) → blockOk d r rs ≡ rowOk d r rs && unique r rs
 ok-split d r rs =
-    ap (λ b. ltb (le4 r 32) d && (tailOk r && b)) (cond-and (isUsed r) (all isUsed rs) (absent (findFrom (caches (take 32 r)) 0 rs)) (all isZero (take 32 r)))
-    ∙ and-assoc2 (ltb (le4 r 32) d) (tailOk r) (cond (isUsed r) (all isUsed rs) (all isZero (take 32 r))) (unique r rs)
+    ap (λ b. ltb (rowSlot r) d && (tailOk r && b)) (cond-and (isUsed r) (all isUsed rs) (absent (findFrom (caches (readBlock r .fingerprint)) 0 rs)) (all isZero (readBlock r .fingerprint)))
+    ∙ and-assoc2 (ltb (rowSlot r) d) (tailOk r) (cond (isUsed r) (all isUsed rs) (all isZero (readBlock r .fingerprint))) (unique r rs)
 
 pub every-same : {A : Type 0} (p q : A → List A → Bool) → ((x : A) (xs : List A) → p x xs ≡ q x xs) → (xs : List A) → every p xs ≡ every q xs
 unfolding every

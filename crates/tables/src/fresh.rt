@@ -3,13 +3,14 @@ use crate::FlashSlot;
 use crate::moves;
 use crate::shift;
 ghost use mathlib.Core.Path.{_≡_};
-ghost use Prim.Native.Nat.{_*_, _≤_};
+ghost use Prim.Native.Nat.{_≤_};
 ghost use lib.ListN.{length};
+ghost use Rattle.tables.specs.Rows.{tableBytes};
 ghost use Rattle.tables.specs.Records.{freeRow, blockBytes, freshAddresses, freshBlocks};
 
 // Makes the address table of `m` rows fresh.
 pub fn fresh_addresses(t: &mut [u8], m: usize)
-    requires { ⌜ length (now t) ≡ m * 40 ⌝ }
+    requires { ⌜ length (now t) ≡ tableBytes m ⌝ }
     ensures { λ _. ⌜ now (t .exit) ≡ freshAddresses m ⌝ }
 {
     let n = t.len();
@@ -31,7 +32,7 @@ pub(crate) fn free_row(k: FlashSlot) -> [u8; 40]
 
 // Makes the block table of `d` rows fresh.
 pub fn fresh_blocks(t: &mut [u8], d: usize)
-    requires { ⌜ (length (now t) ≡ d * 40) × (d ≤ 256) ⌝ }
+    requires { ⌜ (length (now t) ≡ tableBytes d) × (d ≤ 256) ⌝ }
     ensures { λ _. ⌜ now (t .exit) ≡ freshBlocks d ⌝ }
 {
     let mut k = 0;

@@ -3,10 +3,10 @@ use crate::SourceAddress;
 use crate::moves;
 use crate::shift;
 ghost use mathlib.Core.Path.{_≡_};
-ghost use mathlib.Core.List.{[], _∷_, _++_};
-ghost use Prim.Native.Nat.{_+_, _*_, _<_, _≤_};
-ghost use lib.ListN.{length, drop, getD, set};
-ghost use Rattle.tables.specs.Rows.{rows, rowAt, flat, removeAt, filled};
+ghost use Prim.Native.Nat.{_+_, _<_, _≤_};
+ghost use lib.ListN.{length};
+ghost use Rattle.tables.specs.Rows.{rowAt, tableBytes};
+ghost use Rattle.tables.specs.Operations.{filled, rowAdded, rowCleaned, rowFilled};
 ghost use Rattle.tables.specs.Records.{addressBytes, addressRow};
 
 // The bytes of an address row.
@@ -27,8 +27,8 @@ pub(crate) fn address_row(a: SourceAddress, g: &[u8], dirty: u8) -> [u8; 40]
 
 // Adds the row of `a`, `g` and `dirty` behind the first `n` rows.
 pub fn push_address(t: &mut [u8], n: usize, a: SourceAddress, g: &[u8], dirty: u8)
-    requires { ⌜ (n * 40 + 40 ≤ length (now t)) × (length (now g) ≡ 32) ⌝ }
-    ensures { λ _. ⌜ now (t .exit) ≡ flat (rows n (now (t .entry)) ++ (addressBytes (addressRow (a .0) (now (g .entry)) dirty) ∷ [])) ++ drop (n * 40 + 40) (now (t .entry)) ⌝ }
+    requires { ⌜ (tableBytes (n + 1) ≤ length (now t)) × (length (now g) ≡ 32) ⌝ }
+    ensures { λ _. ⌜ now (t .exit) ≡ rowAdded n (addressBytes (addressRow (a .0) (now (g .entry)) dirty)) (now (t .entry)) ⌝ }
 {
     let row = address_row(a, g, dirty);
     shift::push_row(t, n, &row);
@@ -36,15 +36,15 @@ pub fn push_address(t: &mut [u8], n: usize, a: SourceAddress, g: &[u8], dirty: u
 
 // Makes row `k` of an address table clean.
 pub fn set_clean(t: &mut [u8], k: usize)
-    requires { ⌜ k * 40 + 40 ≤ length (now t) ⌝ }
-    ensures { λ _. ⌜ now (t .exit) ≡ set (now (t .entry)) (k * 40 + 36) 0 ⌝ }
+    requires { ⌜ tableBytes (k + 1) ≤ length (now t) ⌝ }
+    ensures { λ _. ⌜ now (t .exit) ≡ rowCleaned k (now (t .entry)) ⌝ }
 {
     t[k * 40 + 36] = 0;
 }
 
 // The bytes of row `k` of a block table, filled with the fingerprint `g`.
 pub(crate) fn filled_row(t: &[u8], k: usize, g: &[u8]) -> [u8; 40]
-    requires { ⌜ (k * 40 + 40 ≤ length (now t)) × (length (now g) ≡ 32) ⌝ }
+    requires { ⌜ (tableBytes (k + 1) ≤ length (now t)) × (length (now g) ≡ 32) ⌝ }
     ensures { λ r. ⌜ r ≡ filled (now (g .entry)) (rowAt (now (t .entry)) k) ⌝ }
 {
     let mut row = moves::row_at(t, k * 40);
@@ -56,8 +56,8 @@ pub(crate) fn filled_row(t: &[u8], k: usize, g: &[u8]) -> [u8; 40]
 
 // Fills row `i` of `d` with the fingerprint `g`, and moves it to the end.
 pub fn put_block(t: &mut [u8], d: usize, i: usize, g: &[u8])
-    requires { ⌜ (i < d) × ((length (now t) ≡ d * 40) × (length (now g) ≡ 32)) ⌝ }
-    ensures { λ _. ⌜ now (t .exit) ≡ flat (removeAt (rows d (now (t .entry))) i ++ (filled (now (g .entry)) (getD (rows d (now (t .entry))) i []) ∷ [])) ⌝ }
+    requires { ⌜ (i < d) × ((length (now t) ≡ tableBytes d) × (length (now g) ≡ 32)) ⌝ }
+    ensures { λ _. ⌜ now (t .exit) ≡ rowFilled d i (now (g .entry)) (now (t .entry)) ⌝ }
 {
     let at = i * 40;
     let last = d * 40 - 40;

@@ -1,15 +1,15 @@
 // Rows taken out, added and moved. The rows between keep their order.
 use crate::moves;
 ghost use mathlib.Core.Path.{_≡_};
-ghost use mathlib.Core.List.{[], _∷_, _++_};
-ghost use Prim.Native.Nat.{_+_, _*_, _<_, _≤_};
-ghost use lib.ListN.{length, drop, getD};
-ghost use Rattle.tables.specs.Rows.{rows, flat, zeros, removeAt, freed};
+ghost use Prim.Native.Nat.{_+_, _<_, _≤_};
+ghost use lib.ListN.{length};
+ghost use Rattle.tables.specs.Rows.{rowBytes, tableBytes};
+ghost use Rattle.tables.specs.Operations.{rowOut, rowAdded, rowNewest, rowFreed};
 
 // Takes row `i` out of the first `n`: the later ones move down by a row, and the last becomes zero.
 pub fn remove_row(t: &mut [u8], n: usize, i: usize)
-    requires { ⌜ (i < n) × (n * 40 ≤ length (now t)) ⌝ }
-    ensures { λ _. ⌜ now (t .exit) ≡ flat (removeAt (rows n (now (t .entry))) i) ++ (zeros 40 ++ drop (n * 40) (now (t .entry))) ⌝ }
+    requires { ⌜ (i < n) × (tableBytes n ≤ length (now t)) ⌝ }
+    ensures { λ _. ⌜ now (t .exit) ≡ rowOut n i (now (t .entry)) ⌝ }
 {
     let at = i * 40;
     let last = n * 40 - 40;
@@ -18,17 +18,17 @@ pub fn remove_row(t: &mut [u8], n: usize, i: usize)
 }
 
 // Writes `row` as row `n`, behind the first `n`.
-pub fn push_row(t: &mut [u8], n: usize, row: &[u8])
-    requires { ⌜ (n * 40 + 40 ≤ length (now t)) × (length (now row) ≡ 40) ⌝ }
-    ensures { λ _. ⌜ now (t .exit) ≡ flat (rows n (now (t .entry)) ++ (now (row .entry) ∷ [])) ++ drop (n * 40 + 40) (now (t .entry)) ⌝ }
+pub(crate) fn push_row(t: &mut [u8], n: usize, row: &[u8])
+    requires { ⌜ (tableBytes (n + 1) ≤ length (now t)) × (length (now row) ≡ rowBytes) ⌝ }
+    ensures { λ _. ⌜ now (t .exit) ≡ rowAdded n (now (row .entry)) (now (t .entry)) ⌝ }
 {
     moves::write(t, n * 40, row);
 }
 
 // Moves row `i` of `d` to the end.
 pub fn to_newest(t: &mut [u8], d: usize, i: usize)
-    requires { ⌜ (i < d) × (length (now t) ≡ d * 40) ⌝ }
-    ensures { λ _. ⌜ now (t .exit) ≡ flat (removeAt (rows d (now (t .entry))) i ++ (getD (rows d (now (t .entry))) i [] ∷ [])) ⌝ }
+    requires { ⌜ (i < d) × (length (now t) ≡ tableBytes d) ⌝ }
+    ensures { λ _. ⌜ now (t .exit) ≡ rowNewest d i (now (t .entry)) ⌝ }
 {
     let at = i * 40;
     let last = d * 40 - 40;
@@ -39,8 +39,8 @@ pub fn to_newest(t: &mut [u8], d: usize, i: usize)
 
 // Frees row `i` of `d`, and moves it to the front: used 0 and no fingerprint, with its slot.
 pub fn to_front(t: &mut [u8], d: usize, i: usize)
-    requires { ⌜ (i < d) × (length (now t) ≡ d * 40) ⌝ }
-    ensures { λ _. ⌜ now (t .exit) ≡ flat (freed (getD (rows d (now (t .entry))) i []) ∷ removeAt (rows d (now (t .entry))) i) ⌝ }
+    requires { ⌜ (i < d) × (length (now t) ≡ tableBytes d) ⌝ }
+    ensures { λ _. ⌜ now (t .exit) ≡ rowFreed d i (now (t .entry)) ⌝ }
 {
     let at = i * 40;
     let mut row = moves::row_at(t, at);

@@ -1,7 +1,7 @@
 -- The loop goes down; `seen` marks the numbers behind row k, which all differ. Assumes nothing.
 use mathlib.Core.Path.{subst, _≡_, refl, sym, _∙_}
 use lib.ListN.{drop-of-length-le, length, drop, length-set}
-use Rattle.tables.specs.SoundLaws.{Read, Marks, marks-none, twice, once, marked, words-at, words-length}
+use Rattle.tables.specs.SoundLaws.{Read, Marks, marks-none, twice, once, marked, values-at, values-length}
 use Rattle.tables.specs.RowLaws.{le4-rowAt}
 use Rattle.tables.specs.Sound.{distinct, wordOf}
 use Rattle.tables.specs.Rows.{rows, rowAt}
@@ -24,7 +24,7 @@ unfolding distinct
 loop-holds c =
     let a = c .before .before .args in
     let ws = map (wordOf (a .j)) (rows (a .n) (a .t .now)) in
-    let h : length ws ≤ a .n = omega (arith, words-length (a .n) (a .t .now) (a .j)) in
+    let h : length ws ≤ a .n = omega (arith, values-length (wordOf (a .j)) (a .n) (a .t .now)) in
     (search needs, refl, rw (drop-of-length-le ws h), marks-none (a .seen .now) ws (a .n) h (c .before .before .pre .1 .1))
 
 word : (c : tie.After-slice-known2 Inv-loop μ-loop)
@@ -39,8 +39,8 @@ word c =
     let e : c .before .word-at .result ≡ wordOf (a .j) (rowAt (a .t .now) (k - 1)) = c .before .word-at .ensures ∙ sym (le4-rowAt (a .t .now) (k - 1) (a .j) (omega arith)) in
     record {
       some = c .before .before .loop-test .taken;
-      within = omega (arith, words-length (a .n) (a .t .now) (a .j));
-      is = e ∙ sym (words-at (a .n) (a .t .now) (a .j) (k - 1) h);
+      within = omega (arith, values-length (wordOf (a .j)) (a .n) (a .t .now));
+      is = e ∙ sym (values-at (wordOf (a .j)) (a .n) (a .t .now) (k - 1) h);
       has = omega (arith, e, s .pre .1 .0 (k - 1) h);
     }
 

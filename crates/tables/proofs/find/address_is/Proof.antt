@@ -8,8 +8,10 @@ use native.Mathlib.Omega.{arith}
 use borrow.Author.Needs.{needs}
 use Rattle.tables.proofs.find.address_is.Statement.{statement}
 use Rattle.tables.proofs.find.address_is.Tie as tie
+use Rattle.tables.specs.Records.{readAddress}
 
 returns : tie.Need-returns
+unfolding readAddress
 returns c =
     let a = c .before .before .before .args in
     ap (λ (x : ℕ). eqb x (a .a .0)) (c .before .word-at .ensures ∙ sym (le4-rowAt (a .t .now) (a .k) 0 (omega arith) ∙ rw add-zero))

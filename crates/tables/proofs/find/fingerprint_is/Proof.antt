@@ -7,13 +7,16 @@ use native.Mathlib.Omega.{arith}
 use borrow.Author.Needs.{needs}
 use Rattle.tables.proofs.find.fingerprint_is.Statement.{statement}
 use Rattle.tables.proofs.find.fingerprint_is.Tie as tie
+use Rattle.tables.specs.Records.{readAddress}
 
 returns : tie.Need-returns
+unfolding readAddress
 returns c =
     let a = c .before .before .before .before .before .args in
     c .same-fingerprint .ensures ∙ sym (rw (part-rowAt (a .t .now) (a .k) 4 32 (omega arith)))
 
 returns-2 : tie.Need-returns-2
+unfolding readAddress
 returns-2 c =
     let a = c .before .before .before .before .args in
     first-differs (a .t .now) (a .k * 40 + 4) (a .g .now) (sym (c .before .same-first-word .ensures) ∙ c .if1 .left)

@@ -12,6 +12,7 @@ use Rattle.tables.specs.RowLaws.{flat-all}
 use Rattle.tables.specs.OperationLaws.{rows-pushed, length-pushed, free-length, slots-snoc, map-++}
 use Rattle.tables.proofs.fresh.fresh_blocks.Statement.{statement}
 use Rattle.tables.proofs.fresh.fresh_blocks.Tie as tie
+use Rattle.tables.specs.Operations.{rowAdded}
 
 abbrev Inv-loop : tie.InvT-loop
 Inv-loop t₀ d k₀ t k = (k ≤ d) × (length t ≡ length t₀) × (rows k t ≡ map blockBytes (map freeRow (slotsFrom 0 k)))
@@ -24,6 +25,7 @@ unfolding rows
 loop-holds c = (omega arith, refl, refl)
 
 loop-again : tie.Need-loop-again Inv-loop μ-loop
+unfolding rowAdded
 loop-again c =
     let p = c .before .before in
     let r = p .before .before .before in

@@ -1,9 +1,8 @@
 -- The row's bytes go behind the rows that are there. Assumes nothing.
-use Rattle.tables.specs.Rows.{rows, flat}
-use Prim.Native.Nat.{ℕ, _+_, _*_}
+use Rattle.tables.specs.Operations.{rowAdded}
+use Prim.Native.Nat.{ℕ}
 use mathlib.Core.Path.{ap, _∙_}
-use mathlib.Core.List.{List, [], _∷_, _++_}
-use lib.ListN.{drop}
+use mathlib.Core.List.{List}
 use borrow.Author.Needs.{needs}
 use Rattle.tables.proofs.put.push_address.Statement.{statement}
 use Rattle.tables.proofs.put.push_address.Tie as tie
@@ -13,7 +12,7 @@ returns c =
     let w = c .before .before .before .before .before in
     let a = w .before .before .before .args in
     c .before .before .push-row .ensures
-    ∙ ap (λ (x : List ℕ). flat (rows (a .n) (a .t .now) ++ (x ∷ [])) ++ drop (a .n * 40 + 40) (a .t .now)) (w .address-row .ensures)
+    ∙ ap (λ (x : List ℕ). rowAdded (a .n) x (a .t .now)) (w .address-row .ensures)
 
 pub push-address-spec : {M : Type 1} → statement M
 push-address-spec =

@@ -1,7 +1,7 @@
 -- The row is taken out and comes back filled at the end: `replaced`. Assumes nothing.
 use Rattle.tables.specs.ShiftLaws.{replaced, length-filled}
 use Rattle.tables.specs.RowLaws.{rows-at, length-part}
-use Rattle.tables.specs.Rows.{rowAt, filled}
+use Rattle.tables.specs.Rows.{rowAt}
 use Prim.Native.Nat.{ℕ, _-_, _*_}
 use mathlib.Core.Path.{_≡_, ap, _∙_}
 use mathlib.Core.List.{List}
@@ -11,8 +11,10 @@ use lib.Seq.{paste}
 use borrow.Author.Needs.{needs}
 use Rattle.tables.proofs.put.put_block.Statement.{statement}
 use Rattle.tables.proofs.put.put_block.Tie as tie
+use Rattle.tables.specs.Operations.{filled, rowFilled}
 
 returns : tie.Need-returns
+unfolding rowFilled
 returns c =
     let m = c .before .before .before .before .before .before .before in
     let f = m .before .before in

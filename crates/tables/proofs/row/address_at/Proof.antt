@@ -6,8 +6,10 @@ use Rattle.tables.specs.RowLaws.{le4-rowAt}
 use borrow.Author.Needs.{needs}
 use Rattle.tables.proofs.row.address_at.Statement.{statement}
 use Rattle.tables.proofs.row.address_at.Tie as tie
+use Rattle.tables.specs.Records.{readAddress}
 
 returns : tie.Need-returns
+unfolding readAddress
 returns c =
     let a = c .before .before .args in
     c .word-at .ensures ∙ sym (le4-rowAt (a .t .now) (a .k) 0 (omega arith) ∙ rw add-zero)

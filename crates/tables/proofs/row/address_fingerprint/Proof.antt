@@ -6,8 +6,10 @@ use borrow.Author.Needs.{needs}
 use Rattle.tables.specs.RowLaws.{part-rowAt, length-part}
 use Rattle.tables.proofs.row.address_fingerprint.Statement.{statement}
 use Rattle.tables.proofs.row.address_fingerprint.Tie as tie
+use Rattle.tables.specs.Records.{readAddress}
 
 returns : tie.Need-returns
+unfolding readAddress
 returns c =
     let a = c .before .args in
     let e : a .k * 40 + 4 + 32 - (a .k * 40 + 4) ≡ 32 = omega arith in

@@ -6,8 +6,10 @@ use borrow.Author.Needs.{needs}
 use Rattle.tables.specs.RowLaws.{part-fp, length-part}
 use Rattle.tables.proofs.row.block_fingerprint.Statement.{statement}
 use Rattle.tables.proofs.row.block_fingerprint.Tie as tie
+use Rattle.tables.specs.Records.{readBlock}
 
 returns : tie.Need-returns
+unfolding readBlock
 returns c =
     let a = c .before .args in
     let e : a .k * 40 + 32 - a .k * 40 ≡ 32 = omega arith in

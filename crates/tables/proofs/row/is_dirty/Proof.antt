@@ -4,8 +4,10 @@ use Rattle.tables.specs.RowLaws.{getD-rowAt}
 use borrow.Author.Needs.{needs}
 use Rattle.tables.proofs.row.is_dirty.Statement.{statement}
 use Rattle.tables.proofs.row.is_dirty.Tie as tie
+use Rattle.tables.specs.Records.{readAddress}
 
 returns : tie.Need-returns
+unfolding readAddress
 returns c =
     let a = c .before .args in
     rw (getD-rowAt (a .t .now) (a .k) 36 (omega arith))

@@ -4,8 +4,10 @@ use Rattle.tables.specs.RowLaws.{getD-rowAt}
 use borrow.Author.Needs.{needs}
 use Rattle.tables.proofs.row.is_used.Statement.{statement}
 use Rattle.tables.proofs.row.is_used.Tie as tie
+use Rattle.tables.specs.Records.{readBlock}
 
 returns : tie.Need-returns
+unfolding readBlock
 returns c =
     let a = c .before .args in
     rw (getD-rowAt (a .t .now) (a .k) 36 (omega arith))

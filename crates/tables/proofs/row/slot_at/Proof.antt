@@ -5,8 +5,10 @@ use Rattle.tables.specs.RowLaws.{le4-rowAt}
 use borrow.Author.Needs.{needs}
 use Rattle.tables.proofs.row.slot_at.Statement.{statement}
 use Rattle.tables.proofs.row.slot_at.Tie as tie
+use Rattle.tables.specs.Records.{readBlock}
 
 returns : tie.Need-returns
+unfolding readBlock
 returns c =
     let a = c .before .before .args in
     c .word-at .ensures ∙ sym (le4-rowAt (a .t .now) (a .k) 32 (omega arith))

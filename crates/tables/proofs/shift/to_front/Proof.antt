@@ -1,7 +1,7 @@
 -- The row is kept aside and cleared, the earlier ones move up, and it is written first: `fronted`. Assumes nothing.
 use Rattle.tables.specs.ShiftLaws.{fronted, cleared, length-freed}
 use Rattle.tables.specs.RowLaws.{length-part}
-use Rattle.tables.specs.Rows.{zeros, freed, rowAt}
+use Rattle.tables.specs.Rows.{zeros, rowAt}
 use Prim.Native.Nat.{ℕ, _*_}
 use mathlib.Core.Path.{_≡_, ap, _∙_}
 use mathlib.Core.List.{List}
@@ -11,6 +11,7 @@ use lib.Seq.{paste}
 use borrow.Author.Needs.{needs}
 use Rattle.tables.proofs.shift.to_front.Statement.{statement}
 use Rattle.tables.proofs.shift.to_front.Tie as tie
+use Rattle.tables.specs.Operations.{freed}
 
 returns : tie.Need-returns
 returns c =
