@@ -1,12 +1,12 @@
 -- Laws of an index. Assumes nothing.
 use mathlib.Core.Path.{_≡_, refl, sym, ap, _∙_, subst}
 use mathlib.Core.Bool.{Bool, true, false, and-false, cond}
-use Prim.Native.Nat.{ℕ, suc, _+_, _-_, _*_, _≤_, _<_}
+use Prim.Native.Nat.{ℕ, suc, _+_, _-_, _≤_, _<_}
 use mathlib.Core.List.{List, [], _∷_}
 use native.Mathlib.Omega.{arith}
 use lib.Dec.{eqb}
-use lib.ListN.{length, getD, set, take, drop}
-use lib.Seq.{getD-take, getD-set-same, getD-set-other}
+use lib.ListN.{length, getD, set, drop}
+use lib.Seq.{getD-set-same, getD-set-other}
 use borrow.Author.Tests.{eqb-true, eqb-false}
 use Rattle.tables.specs.Rows.{rows, rowAt}
 use Rattle.tables.specs.Find.{findFrom, pick, caches, same, absent, isUsed}
@@ -15,20 +15,16 @@ use Rattle.tables.specs.declared.Found.the-variants.{At}
 use Rattle.tables.specs.FindLaws.{find-miss, find-end}
 use Rattle.tables.specs.RowLaws.{rows-length, rows-at}
 use Rattle.tables.specs.SoundLaws.{same-true, not-true-false, same-behind}
-
--- a bucket is one of the first bytes
-pub bucket-take : (r : List ℕ) (n : ℕ) → 1 < n → bucket (take n r) ≡ bucket r
-unfolding bucket
-bucket-take r n h = let z : 0 < n = omega arith in rw (getD-take n r 0 0 z, getD-take n r 1 0 h)
+use Rattle.tables.specs.Records.{readBlock}
 
 pub bucket-below : (g : List ℕ) → bucket g < 16384
 unfolding bucket
 bucket-below g = omega arith
 
 -- a row of another bucket has another fingerprint
-other-bucket : (g r : List ℕ) → (bucket g ≡ bucket r → ⊥) → caches g r ≡ false
+other-bucket : (g r : List ℕ) → (bucket g ≡ bucket (readBlock r .fingerprint) → ⊥) → caches g r ≡ false
 other-bucket g r e =
-    rw (not-true-false (same (readBlock r .fingerprint) g) (λ h. e (ap bucket (sym (same-true (readBlock r .fingerprint) g h)) ∙ bucket-take r 32 (omega arith)))) (and-false (eqb (getD r 36 0) 1))
+    rw (not-true-false (same (readBlock r .fingerprint) g) (λ h. e (ap bucket (sym (same-true (readBlock r .fingerprint) g h))))) (and-false (isUsed r))
 
 -- no rows, and every search starts behind the last
 pub index-end : (heads : List ℕ) (rs : List (List ℕ)) (d m : ℕ) → length rs ≤ d → d ≤ m → length heads ≡ 16384 → ((x : ℕ) → x < length heads → getD heads x 0 ≡ m) → Index d heads rs
@@ -37,7 +33,7 @@ index-end heads rs d m h e l f g =
     find-end (caches g) rs d [] h ∙ sym (rw s (find-end (caches g) rs m [] (omega arith)))
 
 -- one row more
-pub index-more : (heads : List ℕ) (rs : List (List ℕ)) (k y : ℕ) → k < length rs → y ≡ bucket (getD rs k []) → y < length heads → Index (k + 1) heads rs → Index k (set heads y k) rs
+pub index-more : (heads : List ℕ) (rs : List (List ℕ)) (k y : ℕ) → k < length rs → y ≡ bucket (readBlock (getD rs k []) .fingerprint) → y < length heads → Index (k + 1) heads rs → Index k (set heads y k) rs
 index-more heads rs k y h e b i g = elim (eqb (bucket g) y) as (λ q. eqb (bucket g) y ≡ q → findFrom (caches g) k (drop k rs) ≡ findFrom (caches g) (start (set heads y k) g) (drop (start (set heads y k) g) rs)) [ true ↦ here | false ↦ there ] refl
   where
     here : eqb (bucket g) y ≡ true → findFrom (caches g) k (drop k rs) ≡ findFrom (caches g) (start (set heads y k) g) (drop (start (set heads y k) g) rs)
@@ -59,24 +55,20 @@ absent-from p j k (x ∷ xs) = elim (p x) as (λ q. absent (pick q (At j) (findF
 pub found-by : (heads : List ℕ) (rs : List (List ℕ)) (g : List ℕ) (x w k : ℕ) → x ≡ bucket g → w ≡ getD heads x 0 → Index k heads rs → findFrom (caches g) w (drop w rs) ≡ findFrom (caches g) k (drop k rs)
 found-by heads rs g x w k e f i = sym (i g ∙ rw (f, e))
 
-pub bucket-row : (t : List ℕ) (k : ℕ) → bucket (rowAt t k) ≡ bucket (drop (k * 40) t)
-bucket-row t k = bucket-take (drop (k * 40) t) 40 (omega arith)
-
 -- a turn of `build`, on the row before row k
-module _ (t : List ℕ) (d k : ℕ) (hk : 0 < k) (hn : k ≤ d) (heads : List ℕ) (x : ℕ) (e : x ≡ bucket (drop ((k - 1) * 40) t)) (i : Index k heads (rows d t)) where
+module _ (t : List ℕ) (d k : ℕ) (hk : 0 < k) (hn : k ≤ d) (heads : List ℕ) (x : ℕ) (e : x ≡ bucket (readBlock (rowAt t (k - 1)) .fingerprint)) (i : Index k heads (rows d t)) where
   pub build-alone : (r : Bool) (w : ℕ) → w ≡ getD heads x 0
       → r ≡ cond (isUsed (rowAt t (k - 1))) (absent (findFrom (caches (readBlock (rowAt t (k - 1)) .fingerprint)) w (drop w (rows d t)))) true
       → r ≡ unique (rowAt t (k - 1)) (drop (suc (k - 1)) (rows d t))
   build-alone r w f q =
       let row = rowAt t (k - 1) in
-      let b : x ≡ bucket (readBlock row .fingerprint) = e ∙ sym (bucket-take row 32 (omega arith) ∙ bucket-row t (k - 1)) in
       let a : absent (findFrom (caches (readBlock row .fingerprint)) w (drop w (rows d t))) ≡ absent (findFrom (caches (readBlock row .fingerprint)) 0 (drop (suc (k - 1)) (rows d t))) =
-      ap absent (found-by heads (rows d t) (readBlock row .fingerprint) x w k b f i) ∙ absent-from (caches (readBlock row .fingerprint)) k 0 (drop k (rows d t)) ∙ ap (λ (s : List (List ℕ)). absent (findFrom (caches (readBlock row .fingerprint)) 0 s)) (sym (same-behind unique d t k hk hn)) in
+      ap absent (found-by heads (rows d t) (readBlock row .fingerprint) x w k e f i) ∙ absent-from (caches (readBlock row .fingerprint)) k 0 (drop k (rows d t)) ∙ ap (λ (s : List (List ℕ)). absent (findFrom (caches (readBlock row .fingerprint)) 0 s)) (sym (same-behind unique d t k hk hn)) in
       q ∙ ap (λ (o : Bool). cond (isUsed row) o true) a
 
   pub build-more : x < length heads → Index (k - 1) (set heads x (k - 1)) (rows d t)
   build-more b =
       let h : k - 1 < d = omega arith in
       let m : k ≡ k - 1 + 1 = omega arith in
-      let o : x ≡ bucket (getD (rows d t) (k - 1) []) = e ∙ sym (ap bucket (rows-at d t (k - 1) h) ∙ bucket-row t (k - 1)) in
+      let o : x ≡ bucket (readBlock (getD (rows d t) (k - 1) []) .fingerprint) = e ∙ sym (ap (λ (r : List ℕ). bucket (readBlock r .fingerprint)) (rows-at d t (k - 1) h)) in
       index-more heads (rows d t) (k - 1) x (rw rows-length h) o b (subst (λ (j : ℕ). Index j heads (rows d t)) m i)

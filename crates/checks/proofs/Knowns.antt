@@ -1,7 +1,7 @@
 -- Laws of the block rows of address rows. Assumes nothing.
 use mathlib.Core.Path.{_≡_, refl, sym, ap, _∙_}
 use mathlib.Core.Bool.{Bool, true, false, not, _&&_, _||_}
-use Prim.Native.Nat.{ℕ, zero, suc, _+_, _-_, _*_, _≤_, _<_}
+use Prim.Native.Nat.{ℕ, zero, suc, _+_, _-_, _≤_, _<_}
 use mathlib.Core.List.{List, [], _∷_, _++_, map, map-append}
 use native.Mathlib.Omega.{arith}
 use native.Mathlib.Nat.{add-zero, zero-add, not-suc-le-zero, le-of-suc-le-suc}
@@ -19,8 +19,9 @@ use Rattle.tables.specs.declared.Found.{Found}
 use Rattle.tables.specs.declared.Found.the-variants.{At, Nothing}
 use Rattle.tables.specs.PlaceLaws.{place-at}
 use Rattle.tables.specs.FindLaws.{found-at, same-refl}
-use Rattle.tables.specs.RowLaws.{rows-length, rows-at, rows-append, drop-take, part-rowAt}
+use Rattle.tables.specs.RowLaws.{rows-length, rows-at, rows-append, drop-take}
 use Rattle.tables.specs.SoundLaws.{Marks, same-true, not-true-false, and-left, and-right}
+use Rattle.tables.specs.Records.{readAddress, readBlock}
 
 clash : {A : Type 0} → true ≡ false → A
 clash e = let z : _≡_ {A = ℕ} 0 1 = cc in absurd (omega arith)
@@ -55,11 +56,6 @@ blocks-more rs a out k v h e b =
     ∙ ap (λ (l : List ℕ). l ++ (v ∷ [])) b
     ∙ ap (λ (w : ℕ). map (placeIn rs) (rows k a) ++ (w ∷ [])) e
     ∙ sym (ap (map (placeIn rs)) (rows-append k 1 a) ∙ map-append (placeIn rs) (rows k a) (rowAt a k ∷ []))
-
--- the fingerprint of address row k, as a part of the bytes
-pub block-part : (rs : List (List ℕ)) (a : List ℕ) (k : ℕ) → code (findFrom (caches (take (k * 40 + 4 + 32 - (k * 40 + 4)) (drop (k * 40 + 4) a))) 0 rs) ≡ placeIn rs (rowAt a k)
-unfolding placeIn
-block-part rs a k = let e : k * 40 + 4 + 32 - (k * 40 + 4) ≡ 32 = omega arith in rw (e, part-rowAt a k 4 32 (omega arith))
 
 -- where nothing is found, the test holds of no element
 absent-at : {A : Type 0} (p : A → Bool) (k : ℕ) (xs : List A) (j : ℕ) (z : A) → absent (findFrom p k xs) ≡ true → j < length xs → p (getD xs j z) ≡ false

@@ -1,21 +1,22 @@
 // The block row of each address row, and what the policy asks of them.
 use crate::index;
 use tables::Found;
+use tables::row;
 ghost use mathlib.Core.Path.{_≡_};
 ghost use mathlib.Core.Bool.{true, not, cond, _&&_};
 ghost use mathlib.Core.List.{[], _∷_, _++_};
-ghost use Prim.Native.Nat.{ℕ, _+_, _-_, _*_, _<_, _≤_};
+ghost use Prim.Native.Nat.{ℕ, _+_, _-_, _<_, _≤_};
 ghost use lib.Dec.{eqb};
 ghost use lib.ListN.{length, take, getD};
-ghost use Rattle.tables.specs.Rows.{rows, rowAt, removeAt};
-ghost use Rattle.tables.specs.Find.{all, every, findFrom, caches, isUsed};
+ghost use Rattle.tables.specs.Rows.{tableBytes, rows, rowAt, removeAt};
+ghost use Rattle.tables.specs.Find.{all, every, findFrom, caches, isDirty, isUsed};
 ghost use Rattle.tables.specs.Unsound.{elem};
 ghost use Rattle.tables.specs.Sound.{mark};
 ghost use Rattle.tables.specs.Index.{Index, unique, code, Places, cachedIn, dirtyOk, unknownIn};
 
 // The index of the block row of the fingerprint `g`, or 256.
 pub(crate) fn place_of(t: &[u8], d: usize, heads: &[u16], g: &[u8]) -> u16
-    requires { ⌜ ((d * 40 ≤ length (now t)) × (d ≤ 256)) × ((length (now g) ≡ 32) × (length (now heads) ≡ 16384)) ⌝ }
+    requires { ⌜ ((tableBytes d ≤ length (now t)) × (d ≤ 256)) × ((length (now g) ≡ 32) × (length (now heads) ≡ 16384)) ⌝ }
     requires { ⌜ Index 0 (now heads) (rows d (now t)) ⌝ }
     ensures { λ r. ⌜ r ≡ code (findFrom (caches (now (g .entry))) 0 (rows d (now (t .entry)))) ⌝ }
 {
@@ -28,16 +29,14 @@ pub(crate) fn place_of(t: &[u8], d: usize, heads: &[u16], g: &[u8]) -> u16
 
 // Fills `places` with the index of the block row of each of the first `n` address rows of `a`, or 256.
 pub fn places_of_rows(a: &[u8], n: usize, t: &[u8], d: usize, heads: &[u16], places: &mut [u16])
-    requires { ⌜ (n * 40 ≤ length (now a)) × ((n ≤ length (now places)) × ((d * 40 ≤ length (now t)) × ((d ≤ 256) × (length (now heads) ≡ 16384)))) ⌝ }
+    requires { ⌜ (tableBytes n ≤ length (now a)) × ((n ≤ length (now places)) × ((tableBytes d ≤ length (now t)) × ((d ≤ 256) × (length (now heads) ≡ 16384)))) ⌝ }
     requires { ⌜ Index 0 (now heads) (rows d (now t)) ⌝ }
     ensures { λ _. ⌜ Places (rows d (now (t .entry))) (rows n (now (a .entry))) (take n (now (places .exit))) ⌝ }
     ensures { λ _. ⌜ length (now (places .exit)) ≡ length (now (places .entry)) ⌝ }
 {
     let mut k = 0;
     while k < n {
-        let at = k * 40 + 4;
-        let end = at + 32;
-        let b = place_of(t, d, heads, &a[at..end]);
+        let b = place_of(t, d, heads, row::address_fingerprint(a, k));
         places[k] = b;
         k += 1;
     }
@@ -45,7 +44,7 @@ pub fn places_of_rows(a: &[u8], n: usize, t: &[u8], d: usize, heads: &[u16], pla
 
 // Whether every dirty row of the first `n` has a cached fingerprint.
 pub fn dirty_cached(a: &[u8], n: usize, t: &[u8], d: usize, places: &[u16]) -> bool
-    requires { ⌜ (n * 40 ≤ length (now a)) × ((n ≤ length (now places)) × (d ≤ 256)) ⌝ }
+    requires { ⌜ (tableBytes n ≤ length (now a)) × ((n ≤ length (now places)) × (d ≤ 256)) ⌝ }
     requires { ⌜ Places (rows d (now t)) (rows n (now a)) (take n (now places)) ⌝ }
     ensures { λ r. ⌜ r ≡ all (dirtyOk (rows d (now (t .entry)))) (rows n (now (a .entry))) ⌝ }
 {
@@ -61,10 +60,10 @@ pub fn dirty_cached(a: &[u8], n: usize, t: &[u8], d: usize, places: &[u16]) -> b
 
 // Whether row `k` is clean, or has a block row `b`.
 pub(crate) fn dirty_ok(a: &[u8], k: usize, b: u16) -> bool
-    requires { ⌜ k * 40 + 40 ≤ length (now a) ⌝ }
-    ensures { λ r. ⌜ r ≡ cond (eqb (getD (rowAt (now (a .entry)) k) 36 0) 1) (not (eqb b 256)) true ⌝ }
+    requires { ⌜ tableBytes (k + 1) ≤ length (now a) ⌝ }
+    ensures { λ r. ⌜ r ≡ cond (isDirty (rowAt (now (a .entry)) k)) (not (eqb b 256)) true ⌝ }
 {
-    if a[k * 40 + 36] == 1 {
+    if row::is_dirty(a, k) {
         return b != 256;
     }
     true
@@ -103,10 +102,10 @@ pub(crate) fn mark_known(places: &[u16], n: usize, known: &mut [u8])
 
 // Whether row `k` is used and its byte `b` is 0.
 pub(crate) fn unmarked(t: &[u8], k: usize, b: u8) -> bool
-    requires { ⌜ k * 40 + 40 ≤ length (now t) ⌝ }
+    requires { ⌜ tableBytes (k + 1) ≤ length (now t) ⌝ }
     ensures { λ r. ⌜ r ≡ isUsed (rowAt (now (t .entry)) k) && eqb b 0 ⌝ }
 {
-    if t[k * 40 + 36] == 1 {
+    if row::is_used(t, k) {
         return b == 0;
     }
     false
@@ -114,7 +113,7 @@ pub(crate) fn unmarked(t: &[u8], k: usize, b: u8) -> bool
 
 // The index of the first used row of `d` whose fingerprint no address row of the first `n` has, as the bytes of `known` tell.
 pub(crate) fn first_unknown(a: &[u8], n: usize, t: &[u8], d: usize, known: &[u8]) -> Found
-    requires { ⌜ (d * 40 ≤ length (now t)) × (d ≤ length (now known)) ⌝ }
+    requires { ⌜ (tableBytes d ≤ length (now t)) × (d ≤ length (now known)) ⌝ }
     requires { ⌜ ((k : ℕ) → k < d → isUsed (rowAt (now t) k) && eqb (getD (now known) k 0) 0 ≡ unknownIn (rows n (now a)) (rowAt (now t) k)) ⌝ }
     ensures { λ r. ⌜ r ≡ findFrom (unknownIn (rows n (now (a .entry)))) 0 (rows d (now (t .entry))) ⌝ }
 {
@@ -130,7 +129,7 @@ pub(crate) fn first_unknown(a: &[u8], n: usize, t: &[u8], d: usize, known: &[u8]
 
 // The index of the oldest used row of `d` whose fingerprint no address row of the first `n` has.
 pub fn oldest_unknown(a: &[u8], n: usize, t: &[u8], d: usize, places: &[u16]) -> Found
-    requires { ⌜ (n ≤ length (now places)) × ((d * 40 ≤ length (now t)) × (d ≤ 256)) ⌝ }
+    requires { ⌜ (n ≤ length (now places)) × ((tableBytes d ≤ length (now t)) × (d ≤ 256)) ⌝ }
     requires { ⌜ every unique (rows d (now t)) ≡ true ⌝ }
     requires { ⌜ Places (rows d (now t)) (rows n (now a)) (take n (now places)) ⌝ }
     ensures { λ r. ⌜ r ≡ findFrom (unknownIn (rows n (now (a .entry)))) 0 (rows d (now (t .entry))) ⌝ }

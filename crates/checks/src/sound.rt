@@ -1,50 +1,33 @@
 // Whether a table's bytes are those of a sound table.
 use crate::index;
 use crate::known;
-use tables::find;
+use tables::distinct;
+use tables::row;
 ghost use mathlib.Core.Path.{_≡_};
 ghost use mathlib.Core.Bool.{true, false, not, cond, _&&_, _||_};
-ghost use mathlib.Core.List.{map};
-ghost use Prim.Native.Nat.{ℕ, suc, _+_, _*_, _<_, _≤_};
+ghost use Prim.Native.Nat.{ℕ, suc, _+_, _<_, _≤_};
 ghost use lib.ListN.{length, take, drop, getD};
-ghost use Rattle.tables.specs.Rows.{rows, rowAt};
+ghost use Rattle.tables.specs.Rows.{rows, rowAt, tableBytes};
 ghost use Rattle.tables.specs.Find.{all, every, isUsed};
-ghost use Rattle.tables.specs.Unsound.{elem, addressesUnsound, blocksUnsound, dirtyUncached};
-ghost use Rattle.tables.specs.Sound.{distinct, mark, wordOf, tailOk, addressOk, isZero, soundAddresses, addressesFit, blocksFit};
+ghost use Rattle.tables.specs.Unsound.{addressesUnsound, blocksUnsound, dirtyUncached};
+ghost use Rattle.tables.specs.Sound.{addressOk, isZero, soundAddresses, addressesFit, blocksFit};
 ghost use Rattle.tables.specs.Index.{Index, Places, rowOk};
-
-// Whether the last four bytes of row `k` are a flag and three zeros.
-pub(crate) fn tail_ok(t: &[u8], k: usize) -> bool
-    requires { ⌜ k * 40 + 40 ≤ length (now t) ⌝ }
-    ensures { λ r. ⌜ r ≡ tailOk (rowAt (now (t .entry)) k) ⌝ }
-{
-    let at = k * 40;
-    if 1 < t[at + 36] {
-        return false;
-    }
-    if t[at + 37] != 0 {
-        return false;
-    }
-    if t[at + 38] != 0 {
-        return false;
-    }
-    t[at + 39] == 0
-}
 
 // Whether row `k` is a held address row's, with an address below `p`.
 pub(crate) fn address_ok(t: &[u8], k: usize, p: u32) -> bool
-    requires { ⌜ k * 40 + 40 ≤ length (now t) ⌝ }
+    requires { ⌜ tableBytes (k + 1) ≤ length (now t) ⌝ }
     ensures { λ r. ⌜ r ≡ addressOk p (rowAt (now (t .entry)) k) ⌝ }
 {
-    if find::word_at(t, k * 40) < p {
-        return tail_ok(t, k);
+    let a = row::address_at(t, k);
+    if a.0 < p {
+        return row::tail_ok(t, k);
     }
     false
 }
 
 // Whether each of the first `n` rows is one of a held address.
 pub(crate) fn addresses_ok(t: &[u8], n: usize, p: u32) -> bool
-    requires { ⌜ n * 40 ≤ length (now t) ⌝ }
+    requires { ⌜ tableBytes n ≤ length (now t) ⌝ }
     ensures { λ r. ⌜ r ≡ all (addressOk p) (rows n (now (t .entry))) ⌝ }
 {
     let mut k = 0;
@@ -57,12 +40,11 @@ pub(crate) fn addresses_ok(t: &[u8], n: usize, p: u32) -> bool
     true
 }
 
-// Whether all bytes from index `from` on are zero.
-pub(crate) fn zero_from(t: &[u8], from: usize) -> bool
-    requires { ⌜ from ≤ length (now t) ⌝ }
-    ensures { λ r. ⌜ r ≡ all isZero (drop from (now (t .entry))) ⌝ }
+// Whether all bytes are zero.
+pub(crate) fn all_zero(t: &[u8]) -> bool
+    ensures { λ r. ⌜ r ≡ all isZero (now (t .entry)) ⌝ }
 {
-    let mut k = from;
+    let mut k = 0;
     while k < t.len() {
         if t[k] != 0 {
             return false;
@@ -72,31 +54,9 @@ pub(crate) fn zero_from(t: &[u8], from: usize) -> bool
     true
 }
 
-// Whether the numbers at place `j` of the first `n` rows are all different. `seen` has a byte, 0 at first, for each number that can occur;
-// if they are, it marks those that do.
-pub(crate) fn words_distinct(t: &[u8], n: usize, j: usize, seen: &mut [u8]) -> bool
-    requires { ⌜ (n * 40 ≤ length (now t)) × (j + 4 ≤ 40) ⌝ }
-    requires { ⌜ ((k : ℕ) → k < n → wordOf j (rowAt (now t) k) < length (now seen)) ⌝ }
-    requires { ⌜ ((x : ℕ) → x < length (now seen) → getD (now seen) x 0 ≡ 0) ⌝ }
-    ensures { λ r. ⌜ r ≡ distinct (map (wordOf j) (rows n (now (t .entry)))) ⌝ }
-    ensures { λ r. ⌜ length (now (seen .exit)) ≡ length (now (seen .entry)) ⌝ }
-    ensures { λ r. ⌜ (r ≡ true → (x : ℕ) → x < length (now (seen .exit)) → getD (now (seen .exit)) x 0 ≡ mark (elem x (map (wordOf j) (rows n (now (t .entry)))))) ⌝ }
-{
-    let mut k = n;
-    while 0 < k {
-        k -= 1;
-        let x = find::word_at(t, k * 40 + j) as usize;
-        if seen[x] != 0 {
-            return false;
-        }
-        seen[x] = 1;
-    }
-    true
-}
-
 // Whether the address table is sound: `n` rows of `m` held, over `p` disk blocks.
 pub(crate) fn addresses_sound(t: &[u8], m: usize, n: usize, p: u32) -> bool
-    requires { ⌜ (length (now t) ≡ m * 40) × (p ≤ 65536) ⌝ }
+    requires { ⌜ (length (now t) ≡ tableBytes m) × (p ≤ 65536) ⌝ }
     ensures { λ r. ⌜ r ≡ soundAddresses p m n (now (t .entry)) ⌝ }
 {
     if m < n {
@@ -106,18 +66,18 @@ pub(crate) fn addresses_sound(t: &[u8], m: usize, n: usize, p: u32) -> bool
         return false;
     }
     let mut seen = [0u8; 65536];
-    if !words_distinct(t, n, 0, &mut seen) {
+    if !distinct::addresses_distinct(t, n, &mut seen) {
         return false;
     }
-    zero_from(t, n * 40)
+    all_zero(row::behind(t, n))
 }
 
 // Whether row `k` and the rows behind it, of which `used` tells, are all used.
 pub(crate) fn used_from(t: &[u8], k: usize, used: bool) -> bool
-    requires { ⌜ k * 40 + 40 ≤ length (now t) ⌝ }
+    requires { ⌜ tableBytes (k + 1) ≤ length (now t) ⌝ }
     ensures { λ r. ⌜ r ≡ isUsed (rowAt (now (t .entry)) k) && used ⌝ }
 {
-    if t[k * 40 + 36] == 1 {
+    if row::is_used(t, k) {
         return used;
     }
     false
@@ -125,28 +85,27 @@ pub(crate) fn used_from(t: &[u8], k: usize, used: bool) -> bool
 
 // Whether row `k` of `d` is a sound block row by itself; `used` tells whether the rows behind it are all used.
 pub(crate) fn row_ok(t: &[u8], d: usize, k: usize, used: bool) -> bool
-    requires { ⌜ (k < d) × (length (now t) ≡ d * 40) ⌝ }
+    requires { ⌜ (k < d) × (length (now t) ≡ tableBytes d) ⌝ }
     requires { ⌜ used ≡ all isUsed (drop (suc k) (rows d (now t))) ⌝ }
     ensures { λ r. ⌜ r ≡ rowOk d (rowAt (now (t .entry)) k) (drop (suc k) (rows d (now (t .entry)))) ⌝ }
 {
-    let at = k * 40;
-    let end = at + 32;
-    let slot = find::word_at(t, end) as usize;
-    if d <= slot {
+    let slot = row::slot_at(t, k);
+    let x = slot.0;
+    if d <= x as usize {
         return false;
     }
-    if !tail_ok(t, k) {
+    if !row::tail_ok(t, k) {
         return false;
     }
-    if t[at + 36] != 1 {
-        return zero_from(&t[at..end], 0);
+    if !row::is_used(t, k) {
+        return all_zero(row::block_fingerprint(t, k));
     }
     used
 }
 
 // Whether each of the `d` rows is a sound block row by itself.
 pub(crate) fn rows_ok(t: &[u8], d: usize) -> bool
-    requires { ⌜ length (now t) ≡ d * 40 ⌝ }
+    requires { ⌜ length (now t) ≡ tableBytes d ⌝ }
     ensures { λ r. ⌜ r ≡ every (rowOk d) (rows d (now (t .entry))) ⌝ }
 {
     let mut used = true;
@@ -163,7 +122,7 @@ pub(crate) fn rows_ok(t: &[u8], d: usize) -> bool
 
 // Whether the block table of `d` rows is sound. If so, `heads`, 256 everywhere at first, is its index.
 pub(crate) fn blocks_sound(t: &[u8], d: usize, heads: &mut [u16]) -> bool
-    requires { ⌜ (length (now t) ≡ d * 40) × ((d ≤ 256) × (length (now heads) ≡ 16384)) ⌝ }
+    requires { ⌜ (length (now t) ≡ tableBytes d) × ((d ≤ 256) × (length (now heads) ≡ 16384)) ⌝ }
     requires { ⌜ ((x : ℕ) → x < length (now heads) → getD (now heads) x 0 ≡ 256) ⌝ }
     ensures { λ r. ⌜ r ≡ not (blocksUnsound d (now (t .entry))) ⌝ }
     ensures { λ r. ⌜ (r ≡ true → Index 0 (now (heads .exit)) (rows d (now (t .entry)))) ⌝ }
@@ -173,7 +132,7 @@ pub(crate) fn blocks_sound(t: &[u8], d: usize, heads: &mut [u16]) -> bool
         return false;
     }
     let mut seen = [0u8; 256];
-    if !words_distinct(t, d, 32, &mut seen) {
+    if !distinct::slots_distinct(t, d, &mut seen) {
         return false;
     }
     index::build(t, d, heads)
@@ -189,7 +148,7 @@ pub fn addresses_unsound(t: &[u8], m: usize, n: usize, p: usize) -> bool
     if 1024 < m {
         return true;
     }
-    if t.len() != m * 40 {
+    if t.len() != row::table_bytes(m) {
         return true;
     }
     !addresses_sound(t, m, n, p as u32)
@@ -206,7 +165,7 @@ pub fn blocks_unsound(t: &[u8], d: usize, heads: &mut [u16]) -> bool
     if 256 < d {
         return true;
     }
-    if t.len() != d * 40 {
+    if t.len() != row::table_bytes(d) {
         return true;
     }
     !blocks_sound(t, d, heads)

@@ -27,7 +27,7 @@ pub fn behind<'a>(t: &'a [u8], n: usize) -> &'a [u8]
 }
 
 // The byte at index `at`.
-pub(crate) fn byte_at(t: &[u8], at: usize) -> u32
+pub fn byte_at(t: &[u8], at: usize) -> u32
     requires { ⌜ at < length (now t) ⌝ }
     ensures { λ r. ⌜ (r ≡ getD (now (t .entry)) at 0) × (r < 256) ⌝ }
 {

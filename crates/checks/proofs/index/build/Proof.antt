@@ -6,13 +6,13 @@ use Rattle.tables.specs.SoundLaws.{back-fails, back-more}
 use Rattle.checks.proofs.index.build.Statement.{statement}
 use Rattle.checks.proofs.index.build.Tie as tie
 use Rattle.tables.specs.Find.{every}
-use Rattle.tables.specs.Index.{Index, unique}
+use Rattle.tables.specs.Index.{bucket, Index, unique}
 use Rattle.tables.specs.Rows.{rows}
 use borrow.Author.Needs.{needs}
 use borrow.Author.Tests.{not-true, not-false}
 use lib.ListN.{drop-of-length-le, length, drop, length-set}
-use mathlib.Core.Bool.{true}
-use mathlib.Core.Path.{_≡_, sym, _∙_, subst}
+use mathlib.Core.Bool.{true, false≢true}
+use mathlib.Core.Path.{_≡_, sym, ap, _∙_, subst}
 use native.Mathlib.Omega.{arith}
 
 abbrev Inv-loop : tie.InvT-loop
@@ -35,29 +35,33 @@ returns c =
     let n = c .before in
     let w = n .before in
     let b = w .before .before in
-    let l = b .before .before in
+    let p = b .before in
+    let l = p .before .before in
     let a = l .before .before .before .args in
     let k = l .loop .k in
     let i = l .loop .inv in
-    let hk = b .before .loop-test .taken in
-    let u = build-alone (a .t .now) (a .d) k hk (i .0) (l .loop .heads) (b .bucket-at .result) (b .bucket-at .ensures .0) (i .3) (n .alone .result) (w .wide .result) (w .wide .ensures) (n .alone .ensures) in
-    (back-fails unique (a .d) (a .t .now) k hk (i .0) (sym u ∙ not-true _ (c .if1 .taken)), (λ f. let z : _≡_ {A = ℕ} 0 1 = cc in absurd (omega arith), i .1))
+    let hk = p .before .loop-test .taken in
+    let e = b .bucket-of .ensures .0 ∙ ap bucket (p .block-fingerprint .ensures .0) in
+    let u = build-alone (a .t .now) (a .d) k hk (i .0) (l .loop .heads) (b .bucket-of .result) e (i .3) (n .alone .result) (w .wide .result) (w .wide .ensures) (n .alone .ensures) in
+    (back-fails unique (a .d) (a .t .now) k hk (i .0) (sym u ∙ not-true _ (c .if1 .taken)), (λ f. absurd (false≢true f), i .1))
 
 loop-again : tie.Need-loop-again Inv-loop μ-loop
 loop-again c =
     let n = c .before in
     let w = n .before in
     let b = w .before .before in
-    let l = b .before .before in
+    let p = b .before in
+    let l = p .before .before in
     let a = l .before .before .before .args in
     let k = l .loop .k in
     let i = l .loop .inv in
-    let hk = b .before .loop-test .taken in
-    let u = build-alone (a .t .now) (a .d) k hk (i .0) (l .loop .heads) (b .bucket-at .result) (b .bucket-at .ensures .0) (i .3) (n .alone .result) (w .wide .result) (w .wide .ensures) (n .alone .ensures) in (
+    let hk = p .before .loop-test .taken in
+    let e = b .bucket-of .ensures .0 ∙ ap bucket (p .block-fingerprint .ensures .0) in
+    let u = build-alone (a .t .now) (a .d) k hk (i .0) (l .loop .heads) (b .bucket-of .result) e (i .3) (n .alone .result) (w .wide .result) (w .wide .ensures) (n .alone .ensures) in (
       omega arith,
       simp length-set (i .1),
       back-more unique (a .d) (a .t .now) k hk (i .0) (sym u ∙ not-false _ (c .if1 .left)) (i .2),
-      build-more (a .t .now) (a .d) k hk (i .0) (l .loop .heads) (b .bucket-at .result) (b .bucket-at .ensures .0) (i .3) (omega arith),
+      build-more (a .t .now) (a .d) k hk (i .0) (l .loop .heads) (b .bucket-of .result) e (i .3) (omega arith),
     )
 
 returns-2 : tie.Need-returns-2 Inv-loop μ-loop
@@ -77,7 +81,7 @@ build-spec =
     μ-loop
     loop-holds
     (λ c. search needs)
-    (λ c. search needs)
+    (λ c κs. search needs)
     (λ c κs. search needs)
     (λ c. search needs)
     (λ c. search needs)

@@ -12,7 +12,7 @@ returns c =
     let b = w .before .before in
     let s = b .before .before .before .before in
     let a = s .args in
-    c .next-cached .ensures ∙ found-by (a .heads .now) (rows (a .d) (a .t .now)) (a .g .now) (b .bucket-at .result) (w .wide .result) 0 (b .bucket-at .ensures .0) (w .wide .ensures) (s .pre .1)
+    c .next-cached .ensures ∙ found-by (a .heads .now) (rows (a .d) (a .t .now)) (a .g .now) (b .bucket-of .result) (w .wide .result) 0 (b .bucket-of .ensures .0) (w .wide .ensures) (s .pre .1)
 
 pub find-spec : {M : Type 1} → statement M
 find-spec =

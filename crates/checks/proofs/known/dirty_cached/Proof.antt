@@ -4,13 +4,12 @@ use Rattle.checks.proofs.Knowns.{cached-at}
 use Rattle.tables.specs.SoundLaws.{rows-all-more, rows-all-fails, rows-all-holds}
 use Rattle.checks.proofs.known.dirty_cached.Statement.{statement}
 use Rattle.checks.proofs.known.dirty_cached.Tie as tie
-use Rattle.tables.specs.Find.{all}
+use Rattle.tables.specs.Find.{all, isDirty}
 use Rattle.tables.specs.Index.{dirtyOk}
 use Rattle.tables.specs.Rows.{rows, rowAt}
 use borrow.Author.Needs.{needs}
 use borrow.Author.Tests.{not-true, not-false}
-use lib.Dec.{eqb}
-use lib.ListN.{getD, drop}
+use lib.ListN.{drop}
 use mathlib.Core.Bool.{true, cond}
 use mathlib.Core.Path.{_≡_, refl, sym, ap, _∙_}
 
@@ -27,7 +26,7 @@ returns c =
     let a = s .args in
     let h = c .before .before .before .loop-test .taken in
     let e = cached-at (a .d) (a .t .now) (a .n) (a .a .now) (a .places .now) (s .pre .0 .1 .1) (s .pre .1) (l .loop .k) h in
-    rows-all-fails (dirtyOk (rows (a .d) (a .t .now))) (a .n) (a .a .now) (l .loop .k) (l .loop .inv) h (ap (λ o. cond (eqb (getD (rowAt (a .a .now) (l .loop .k)) 36 0) 1) o true) e ∙ sym (c .before .dirty-ok .ensures) ∙ not-true _ (c .if1 .taken))
+    rows-all-fails (dirtyOk (rows (a .d) (a .t .now))) (a .n) (a .a .now) (l .loop .k) (l .loop .inv) h (ap (λ o. cond (isDirty (rowAt (a .a .now) (l .loop .k))) o true) e ∙ sym (c .before .dirty-ok .ensures) ∙ not-true _ (c .if1 .taken))
 
 loop-again : tie.Need-loop-again Inv-loop μ-loop
 loop-again c =
@@ -36,7 +35,7 @@ loop-again c =
     let a = s .args in
     let h = c .before .before .before .loop-test .taken in
     let e = cached-at (a .d) (a .t .now) (a .n) (a .a .now) (a .places .now) (s .pre .0 .1 .1) (s .pre .1) (l .loop .k) h in
-    rows-all-more (dirtyOk (rows (a .d) (a .t .now))) (a .n) (a .a .now) (l .loop .k) (l .loop .inv) h (ap (λ o. cond (eqb (getD (rowAt (a .a .now) (l .loop .k)) 36 0) 1) o true) e ∙ sym (c .before .dirty-ok .ensures) ∙ not-false _ (c .if1 .left))
+    rows-all-more (dirtyOk (rows (a .d) (a .t .now))) (a .n) (a .a .now) (l .loop .k) (l .loop .inv) h (ap (λ o. cond (isDirty (rowAt (a .a .now) (l .loop .k))) o true) e ∙ sym (c .before .dirty-ok .ensures) ∙ not-false _ (c .if1 .left))
 
 returns-2 : tie.Need-returns-2 Inv-loop μ-loop
 returns-2 c =

@@ -1,13 +1,14 @@
 -- The first k numbers are those of the first k rows. Assumes nothing.
 use Prim.Native.Nat.{ℕ, _-_, _≤_}
-use Rattle.checks.proofs.Knowns.{blocks-more, block-part}
+use Rattle.checks.proofs.Knowns.{blocks-more}
 use Rattle.checks.proofs.known.places_of_rows.Statement.{statement}
 use Rattle.checks.proofs.known.places_of_rows.Tie as tie
-use Rattle.tables.specs.Index.{Places}
+use Rattle.tables.specs.Index.{Places, code, placeIn}
+use Rattle.tables.specs.Find.{findFrom, caches}
 use Rattle.tables.specs.Rows.{rows}
 use borrow.Author.Needs.{needs}
 use lib.ListN.{length, take, length-set}
-use mathlib.Core.Path.{_≡_, refl, _∙_, subst}
+use mathlib.Core.Path.{_≡_, refl, ap, _∙_, subst}
 use native.Mathlib.Omega.{arith}
 
 abbrev Inv-loop : tie.InvT-loop
@@ -21,12 +22,15 @@ unfolding rows
 loop-holds c = (search needs, refl, refl)
 
 loop-again : tie.Need-loop-again Inv-loop μ-loop
+unfolding placeIn
 loop-again c =
-    let l = c .before .before .before in
+    let p = c .before in
+    let l = p .before .before in
     let a = l .before .before .before .before .before .args in
     let k = l .loop .k in
     let i = l .loop .inv in
-    (omega arith, simp length-set (i .1), blocks-more (rows (a .d) (a .t .now)) (a .a .now) (l .loop .places) k (c .place-of .result) (omega arith) (c .place-of .ensures ∙ block-part (rows (a .d) (a .t .now)) (a .a .now) k) (i .2))
+    let rs = rows (a .d) (a .t .now) in
+    (omega arith, simp length-set (i .1), blocks-more rs (a .a .now) (l .loop .places) k (c .place-of .result) (omega arith) (c .place-of .ensures ∙ ap (λ g. code (findFrom (caches g) 0 rs)) (p .address-fingerprint .ensures .0)) (i .2))
 
 returns : tie.Need-returns Inv-loop μ-loop
 returns c =
@@ -42,12 +46,7 @@ places-of-rows-spec =
     Inv-loop
     μ-loop
     loop-holds
-    (λ c. search needs)
-    (λ c. search needs)
-    (λ c. search needs)
-    (λ c. search needs)
-    (λ c. search needs)
-    (λ c. search needs)
+    (λ c κs. search needs)
     (λ c κs. search needs)
     (λ c. search needs)
     (λ c. search needs)

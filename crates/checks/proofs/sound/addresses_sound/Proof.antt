@@ -1,8 +1,9 @@
 -- The tests in turn; what the second lets pass has a byte in `seen`. Assumes nothing.
 use Rattle.tables.specs.SoundLaws.{fresh, addrs-below}
-use Rattle.tables.specs.Sound.{soundAddresses}
+use Rattle.tables.specs.Find.{all}
+use Rattle.tables.specs.Sound.{isZero, soundAddresses}
 use borrow.Author.Tests.{le-leb, lt-leb, not-true, not-false}
-use mathlib.Core.Path.{sym, _∙_}
+use mathlib.Core.Path.{sym, ap, _∙_}
 use borrow.Author.Needs.{needs}
 use Rattle.checks.proofs.sound.addresses_sound.Statement.{statement}
 use Rattle.checks.proofs.sound.addresses_sound.Tie as tie
@@ -15,8 +16,8 @@ returns-2 : tie.Need-returns-2
 unfolding soundAddresses
 returns-2 c = rw (le-leb _ _ (c .before .before .if1 .left), sym (c .before .addresses-ok .ensures) ∙ not-true _ (c .if2 .taken))
 
-words-distinct-requires : tie.Need-words-distinct-requires
-words-distinct-requires c κs =
+addresses-distinct-requires : tie.Need-addresses-distinct-requires
+addresses-distinct-requires c κs =
     let s = c .before .before .before .before .before in
     let a = s .args in
     let ok = sym (c .before .before .addresses-ok .ensures) ∙ not-false _ (c .before .if2 .left) in
@@ -26,13 +27,14 @@ returns-3 : tie.Need-returns-3
 unfolding soundAddresses
 returns-3 c =
     let w = c .before .before in
-    rw (le-leb _ _ (w .before .before .before .before .if1 .left), sym (w .before .before .before .addresses-ok .ensures) ∙ not-false _ (w .before .before .if2 .left), sym (w .words-distinct .ensures .0) ∙ not-true _ (c .if3 .taken))
+    rw (le-leb _ _ (w .before .before .before .before .if1 .left), sym (w .before .before .before .addresses-ok .ensures) ∙ not-false _ (w .before .before .if2 .left), sym (w .addresses-distinct .ensures .0) ∙ not-true _ (c .if3 .taken))
 
 returns-4 : tie.Need-returns-4
 unfolding soundAddresses
 returns-4 c =
-    let w = c .before .before .before in
-    rw (le-leb _ _ (w .before .before .before .before .if1 .left), sym (w .before .before .before .addresses-ok .ensures) ∙ not-false _ (w .before .before .if2 .left), sym (w .words-distinct .ensures .0) ∙ not-false _ (c .before .if3 .left)) (c .zero-from .ensures)
+    let z = c .before in
+    let w = z .before .before .before in
+    rw (le-leb _ _ (w .before .before .before .before .if1 .left), sym (w .before .before .before .addresses-ok .ensures) ∙ not-false _ (w .before .before .if2 .left), sym (w .addresses-distinct .ensures .0) ∙ not-false _ (z .before .if3 .left)) (c .all-zero .ensures ∙ ap (all isZero) (z .behind .ensures))
 
 pub addresses-sound-spec : {M : Type 1} → statement M
 addresses-sound-spec =
@@ -42,8 +44,8 @@ addresses-sound-spec =
     (λ c κs. search needs)
     returns-2
     (λ c. search needs)
-    words-distinct-requires
+    addresses-distinct-requires
     returns-3
-    (λ c. search needs)
+    (λ c κs. search needs)
     (λ c κs. search needs)
     returns-4)

@@ -20,8 +20,8 @@ returns c =
       ((λ e. absurd (false≢true e)), s .pre .0 .1 .1),
     )
 
-words-distinct-requires : tie.Need-words-distinct-requires
-words-distinct-requires c κs =
+slots-distinct-requires : tie.Need-slots-distinct-requires
+slots-distinct-requires c κs =
     let e = c .before .before in
     let s = e .before .before .before in
     let a = s .args in
@@ -34,7 +34,7 @@ returns-2 c =
     let e = w .before .before in
     let s = e .before .before .before .before in
     let a = s .args in (
-      rw (blocks-checked (a .d) (a .t .now), sym (e .before .rows-ok .ensures) ∙ not-false _ (e .if1 .left), sym (w .words-distinct .ensures .0) ∙ not-true _ (c .if2 .taken)),
+      rw (blocks-checked (a .d) (a .t .now), sym (e .before .rows-ok .ensures) ∙ not-false _ (e .if1 .left), sym (w .slots-distinct .ensures .0) ∙ not-true _ (c .if2 .taken)),
       ((λ e. absurd (false≢true e)), s .pre .0 .1 .1),
     )
 
@@ -46,9 +46,9 @@ returns-3 c =
     let e = w .before .before in
     let s = e .before .before .before .before in
     let a = s .args in (
-      b .build .ensures .0 ∙ sym (rw (blocks-checked (a .d) (a .t .now), sym (e .before .rows-ok .ensures) ∙ not-false _ (e .if1 .left), sym (w .words-distinct .ensures .0) ∙ not-false _ (l .if2 .left)) (not-not _)),
+      b .build .ensures .0 ∙ sym (rw (blocks-checked (a .d) (a .t .now), sym (e .before .rows-ok .ensures) ∙ not-false _ (e .if1 .left), sym (w .slots-distinct .ensures .0) ∙ not-false _ (l .if2 .left)) (not-not _)),
       b .build .ensures .1,
     )
 
 pub blocks-sound-spec : {M : Type 1} → statement M
-blocks-sound-spec = tie.close (tie.spec (λ c κs. search needs) returns (λ c. search needs) words-distinct-requires returns-2 (λ c κs. search needs) (λ c. search needs) returns-3)
+blocks-sound-spec = tie.close (tie.spec (λ c κs. search needs) returns (λ c. search needs) slots-distinct-requires returns-2 (λ c κs. search needs) (λ c. search needs) returns-3)

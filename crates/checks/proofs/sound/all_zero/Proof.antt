@@ -8,14 +8,14 @@ use mathlib.Core.Path.{_≡_, refl, sym, _∙_}
 use native.Mathlib.Omega.{arith}
 use lib.ListN.{length, drop}
 use borrow.Author.Needs.{needs}
-use Rattle.checks.proofs.sound.zero_from.Statement.{statement}
-use Rattle.checks.proofs.sound.zero_from.Tie as tie
+use Rattle.checks.proofs.sound.all_zero.Statement.{statement}
+use Rattle.checks.proofs.sound.all_zero.Tie as tie
 
 abbrev Inv-loop : tie.InvT-loop
-Inv-loop t from k₀ k = (all isZero (drop from t) ≡ all isZero (drop k t)) × (k ≤ length t)
+Inv-loop t k₀ k = (all isZero t ≡ all isZero (drop k t)) × (k ≤ length t)
 
 abbrev μ-loop : tie.MeasureT-loop
-μ-loop t from k₀ k = length t - k
+μ-loop t k₀ k = length t - k
 
 loop-holds : tie.Need-loop-holds Inv-loop μ-loop
 loop-holds c = (refl, search needs)
@@ -35,8 +35,8 @@ returns-2 c =
     let l = c .before in
     sym (l .loop .inv .0 ∙ all-end isZero (l .before .args .t .now) (l .loop .k) 0 (c .loop-test .left))
 
-pub zero-from-spec : {M : Type 1} → statement M
-zero-from-spec =
+pub all-zero-spec : {M : Type 1} → statement M
+all-zero-spec =
     tie.close
     (tie.spec
     Inv-loop
