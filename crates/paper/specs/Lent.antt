@@ -11,6 +11,7 @@ use Rattle.tables.specs.Records.{addressTable, heldRows, blockTable, blockRows,
 use Rattle.tables.specs.Unsound.{elem, addressesUnsound, blocksUnsound, dirtyUncached}
 use Rattle.paper.specs.Cache.{AddressRow, BlockRow, Box, Call, Word, Counters, noCounts, counted, serve}
 use Rattle.paper.specs.Engine.{Fixed, fit, engine}
+use Rattle.tables.specs.Rows.{tableBytes}
 
 -- "B is the block size in bytes .. P is the number of disk blocks .. m is the most addresses held .. d is the number of cached blocks"
 pub record Numbers : Type 0 where
@@ -140,8 +141,8 @@ unfoldable pub wrongBuffers : Numbers → Lent → Bool
 wrongBuffers N t =
     otherLength (t .disk) (N .P * N .B)
     || otherLength (t .flash) (N .d * N .B)
-    || otherLength (t .addresses) (N .m * 40)
-    || otherLength (t .blocks) (N .d * 40)
+    || otherLength (t .addresses) (tableBytes (N .m))
+    || otherLength (t .blocks) (tableBytes (N .d))
 
 abbrev pub wrongBlock : ℕ → Option (List ℕ) → Bool
 wrongBlock B none = false

@@ -4,20 +4,20 @@ use mathlib.Core.Bool.{true, false, _&&_, cond}
 use mathlib.Core.List.{List, [], _∷_, map}
 use Prim.Native.Nat.{ℕ, _≤_}
 use native.Mathlib.Omega.{arith}
-use lib.Dec.{eqb, leb, ltb}
-use lib.ListN.{length, take, getD, length-map}
-use lib.Seq.{length-take-le}
-use borrow.Author.Tests.{eqb-true, eqb-false, leb-true}
-use Rattle.tables.specs.Rows.{rows, zeros, le4}
+use lib.Dec.{eqb, ltb}
+use lib.ListN.{length, length-map}
+use borrow.Author.Tests.{eqb-true, eqb-false}
+use Rattle.tables.specs.Rows.{rows, zeros, rowBytes}
 use Rattle.tables.specs.Records as Table
 use Rattle.tables.specs.Records.{readAddress, readBlock, addressTable, heldRows, blockTable, blockRows, freeRow}
 use Rattle.tables.specs.Find.{all, every, isUsed}
 use Rattle.tables.specs.Unsound.{addressesUnsound, blocksUnsound}
-use Rattle.tables.specs.Sound.{isZero, tailOk, addressOk}
+use Rattle.tables.specs.Sound.{isZero, tailOk, addressOk, rowAddress, rowSlot}
 use Rattle.tables.specs.Index.{rowOk}
 use Rattle.tables.specs.RowLaws.{rows-length}
 use Rattle.tables.specs.RecordLaws.{zeros-all}
 use Rattle.tables.specs.OperationLaws.{Wide, wide-rows}
+use Rattle.tables.specs.Written.{low-byte, block-print-length}
 use Rattle.tables.specs.Promises.{addresses-back, blocks-back}
 use Rattle.paper.specs.KeyedLaws.{by-test, and-left, and-right}
 use Rattle.paper.specs.Engine.{fit}
@@ -27,10 +27,6 @@ use Rattle.paper.specs.RowBytes.{Bytes, bytes-at}
 use Rattle.paper.specs.SoundTests.{addresses-good, blocks-good, print-is, held-print-is}
 use Rattle.paper.specs.LentLaws.{Lengths, tableRows}
 
--- the byte in front of a row's last three is 0 or 1
-byte-low : (r : List ℕ) → tailOk r ≡ true → getD r 36 0 ≤ 1
-byte-low r h = leb-true (getD r 36 0) 1 (and-left (leb (getD r 36 0) 1) (eqb (getD r 37 0) 0 && (eqb (getD r 38 0) 0 && eqb (getD r 39 0) 0)) h)
-
 -- the rows of an address table that passes 6
 bit-forth : (y : ℕ) → y ≤ 1 → bit (eqb y 1) ≡ y
 bit-forth y l = by-test (eqb y 1) (λ e. rw e (sym (eqb-true y 1 e))) (λ e. rw e (let n = eqb-false y 1 e in omega arith))
@@ -39,26 +35,26 @@ held-forth : (P : ℕ) (rs : List (List ℕ)) → Wide rs → all (addressOk P) 
 unfolding all
 held-forth P [] w h = refl
 held-forth P (r ∷ rs) w h =
-    let ok = and-right (ltb (le4 r 0) P) (tailOk r) (and-left (addressOk P r) (all (addressOk P) rs) h) in
+    let ok = and-right (ltb (rowAddress r) P) (tailOk r) (and-left (addressOk P r) (all (addressOk P) rs) h) in
     let f = held-print-is r (w .0) in
-    let y = bit-forth (getD r 36 0) (byte-low r ok) in
+    let y = bit-forth (readAddress r .dirty) (low-byte r ok .0) in
     let more = held-forth P rs (w .1) (and-right (addressOk P r) (all (addressOk P) rs) h) in
-    λ i. Table.addressRow (le4 r 0) (f i) (y i) ∷ more i
+    λ i. Table.addressRow (rowAddress r) (f i) (y i) ∷ more i
 
 -- the rows of a block table that passes 7
-used-forth : (r : List ℕ) → length r ≡ 40 → isUsed r ≡ true → usedRow (record { fingerprint = fit 32 (take 32 r); slot = le4 r 32 }) ≡ readBlock r
+used-forth : (r : List ℕ) → length r ≡ rowBytes → isUsed r ≡ true → usedRow (record { fingerprint = fit 32 (readBlock r .fingerprint); slot = rowSlot r }) ≡ readBlock r
 used-forth r l u =
     let f = print-is r l in
-    let y = sym (eqb-true (getD r 36 0) 1 u) in
-    λ i. Table.blockRow (f i) (le4 r 32) (y i)
+    let y = sym (eqb-true (readBlock r .used) 1 u) in
+    λ i. Table.blockRow (f i) (rowSlot r) (y i)
 
-free-forth : (r : List ℕ) → length r ≡ 40 → isUsed r ≡ false → tailOk r ≡ true → all isZero (take 32 r) ≡ true → freeRow (le4 r 32) ≡ readBlock r
+free-forth : (r : List ℕ) → length r ≡ rowBytes → isUsed r ≡ false → tailOk r ≡ true → all isZero (readBlock r .fingerprint) ≡ true → freeRow (rowSlot r) ≡ readBlock r
 free-forth r l u ok z =
-    let low = byte-low r ok in
-    let n = eqb-false (getD r 36 0) 1 u in
-    let y : 0 ≡ getD r 36 0 = omega arith in
-    let f = sym (zeros-all (take 32 r) z ∙ ap zeros (length-take-le 32 r (omega arith))) in
-    λ i. Table.blockRow (f i) (le4 r 32) (y i)
+    let low = low-byte r ok .1 in
+    let n = eqb-false (readBlock r .used) 1 u in
+    let y : 0 ≡ readBlock r .used = omega arith in
+    let f = sym (zeros-all (readBlock r .fingerprint) z ∙ ap zeros (block-print-length r l)) in
+    λ i. Table.blockRow (f i) (rowSlot r) (y i)
 
 all-used : (rs : List (List ℕ)) → Wide rs → all isUsed rs ≡ true → (freeSlots (map readBlock rs) ≡ []) × (map usedRow (usedRows (map readBlock rs)) ≡ map readBlock rs)
 unfolding all freeSlots usedRows
@@ -72,8 +68,8 @@ rows-forth : (d : ℕ) (rs : List (List ℕ)) → Wide rs → every (rowOk d) rs
 unfolding every freeSlots usedRows
 rows-forth d [] w h = refl
 rows-forth d (r ∷ rs) w h =
-    let rest = cond (isUsed r) (all isUsed rs) (all isZero (take 32 r)) in
-    let p = and-right (ltb (le4 r 32) d) (tailOk r && rest) (and-left (rowOk d r rs) (every (rowOk d) rs) h) in
+    let rest = cond (isUsed r) (all isUsed rs) (all isZero (readBlock r .fingerprint)) in
+    let p = and-right (ltb (rowSlot r) d) (tailOk r && rest) (and-left (rowOk d r rs) (every (rowOk d) rs) h) in
     let ok = and-left (tailOk r) rest p in
     let more = and-right (rowOk d r rs) (every (rowOk d) rs) h in
     by-test (isUsed r)

@@ -5,9 +5,9 @@ use mathlib.Core.List.{List, [], _∷_, _++_, map, Permᴰ·symm}
 use Prim.Native.Nat.{ℕ, _≤_, _<_, _+_, _*_, _-_, _^_}
 use native.Mathlib.Omega.{arith}
 use lib.Dec.{eqb}
-use lib.ListN.{length, drop, length-map, length-append}
+use lib.ListN.{length, length-map, length-append}
 use borrow.Author.Tests.{eqb-true, not-false}
-use Rattle.tables.specs.Rows.{rows, flat, zeros}
+use Rattle.tables.specs.Rows.{rows, tableBytes}
 use Rattle.tables.specs.Records as Table
 use Rattle.tables.specs.Records.{addressBytes, readAddress, blockBytes, readBlock, addressTable, heldRows, blockTable, blockRows, freeRow}
 use Rattle.tables.specs.Find.{all, every, isUsed}
@@ -16,10 +16,10 @@ use Rattle.tables.specs.Sound.{addressOk, isZero}
 use Rattle.tables.specs.Index.{rowOk, dirtyOk}
 use Rattle.tables.specs.RowLaws.{rows-length}
 use Rattle.tables.specs.ShiftLaws.{length-zeros}
-use Rattle.tables.specs.OperationLaws.{Wide, wide-rows, rows-flat, rows-whole, length-flat, drop-flat, free-length, addr-forth}
+use Rattle.tables.specs.OperationLaws.{Wide, wide-rows, addr-forth}
 use Rattle.tables.specs.Checked.{dirty-checked}
 use Rattle.tables.specs.KeptLists.{both, zeros-zero}
-use Rattle.tables.specs.KeptAddresses.{addressOk-of, length-ofAddr}
+use Rattle.tables.specs.KeptAddresses.{addressOk-of}
 use Rattle.paper.specs.Cache.{AddressRow, BlockRow, Box, Counters}
 use Rattle.paper.specs.KeyedLaws.{All, all-map, all-of-map, all-left, all-right, all-perm, or-false-left, or-false-right}
 use Rattle.paper.specs.Engine.{Fixed, fixed-≡, fit, engine}
@@ -27,7 +27,7 @@ use Rattle.paper.specs.Lent.{Numbers, Lent, bit, heldRow, usedRow, asHel
 use Rattle.paper.specs.Sound.{Sound, length-perm, length-slotsFrom}
 use Rattle.paper.specs.Faithful.{slots-below-0}
 use Rattle.paper.specs.Parts.{length-split, length-join, split-join}
-use Rattle.paper.specs.RowBytes.{block-wide, block-used, block-read, block-passes}
+use Rattle.tables.specs.Written.{address-wide, block-wide, block-used, block-read, block-passes, held-rows, held-rest, held-length, block-rows, blocks-length}
 use Rattle.paper.specs.SoundTests.{addresses-good, good-addresses, blocks-good, good-blocks, addresses-below, addresses-apart, addresses-once, fit-is, used-apart, used-once, slots-each, each-slots, dirty-cached, cached-dirty}
 
 -- a row of the paper as a row of the tables and back
@@ -62,41 +62,26 @@ used-back [] (u ∷ us) =
     ap₂ {C = List (BlockRow (Fixed 32))} (λ g l. record { fingerprint = g; slot = u .slot } ∷ l) f (used-back [] us)
 used-back (k ∷ ks) used = used-back ks used
 
--- every row is 40 bytes
-held-wide : (rs : List (AddressRow (Fixed 32))) → Wide (map addressBytes (map heldRow rs))
+-- every row has the bytes of a row
+pub held-wide : (rs : List (AddressRow (Fixed 32))) → Wide (map addressBytes (map heldRow rs))
 held-wide [] = tt
-held-wide (r ∷ rs) = (length-ofAddr (r .address) (r .fingerprint .0) (bit (r .dirty)) (r .fingerprint .1), held-wide rs)
+held-wide (r ∷ rs) = (address-wide (heldRow r) (r .fingerprint .1), held-wide rs)
 
-table-wide : (free : List ℕ) (used : List (BlockRow (Fixed 32))) → Wide (map blockBytes (tableRows free used))
+pub table-wide : (free : List ℕ) (used : List (BlockRow (Fixed 32))) → Wide (map blockBytes (tableRows free used))
 table-wide [] [] = tt
 table-wide [] (u ∷ us) = (block-wide (usedRow u) (u .fingerprint .1), table-wide [] us)
-table-wide (k ∷ ks) used = (free-length k, table-wide ks used)
+table-wide (k ∷ ks) used = (block-wide (freeRow k) (length-zeros 32), table-wide ks used)
 
-table-length : (free : List ℕ) (used : List (BlockRow (Fixed 32))) → length (tableRows free used) ≡ length free + length used
+pub table-length : (free : List ℕ) (used : List (BlockRow (Fixed 32))) → length (tableRows free used) ≡ length free + length used
 table-length free used = length-append (map freeRow free) (map usedRow used) ∙ ap₂ _+_ (length-map free freeRow) (length-map used usedRow)
 
 -- the rows of the tables that are written
-held-count : (rs : List (AddressRow (Fixed 32))) → length (map addressBytes (map heldRow rs)) ≡ length rs
-held-count rs = length-map (map heldRow rs) addressBytes ∙ length-map rs heldRow
-
 rows-held : (m : ℕ) (rs : List (AddressRow (Fixed 32))) → rows (length rs) (addressTable m (map heldRow rs)) ≡ map addressBytes (map heldRow rs)
-unfolding addressTable
-rows-held m rs =
-    let bs = map addressBytes (map heldRow rs) in
-    let z = zeros ((m - length (map heldRow rs)) * 40) in
-    ap (λ k. rows k (flat bs ++ z)) (sym (held-count rs)) ∙ rows-flat bs z (held-wide rs)
-
-rest-held : (m : ℕ) (rs : List (AddressRow (Fixed 32))) → drop (length rs * 40) (addressTable m (map heldRow rs)) ≡ zeros ((m - length rs) * 40)
-unfolding addressTable
-rest-held m rs =
-    let bs = map addressBytes (map heldRow rs) in
-    let z = zeros ((m - length (map heldRow rs)) * 40) in
-    ap (λ k. drop (k * 40) (flat bs ++ z)) (sym (held-count rs)) ∙ drop-flat bs z (held-wide rs) ∙ ap (λ k. zeros ((m - k) * 40)) (length-map rs heldRow)
+rows-held m rs = held-rows m (map heldRow rs) (held-wide rs) (length rs) (length-map rs heldRow)
 
 rows-blocks : (d : ℕ) (free : List ℕ) (used : List (BlockRow (Fixed 32))) → length free + length used ≡ d
     → rows d (blockTable (tableRows free used)) ≡ map blockBytes (tableRows free used)
-unfolding blockTable
-rows-blocks d free used e = rows-whole d (map blockBytes (tableRows free used)) (table-wide free used) (length-map (tableRows free used) blockBytes ∙ table-length free used ∙ e)
+rows-blocks d free used e = block-rows (tableRows free used) (table-wide free used) d (table-length free used ∙ e)
 
 -- what the tables that are written hold
 held-read : (m : ℕ) (rs : List (AddressRow (Fixed 32))) → All (λ r. r .address < 2 ^ 32) rs → map asHeld (heldRows (length rs) (addressTable m (map heldRow rs))) ≡ rs
@@ -149,23 +134,23 @@ table-each d e (k ∷ ks) used p q =
 pub record Lengths (N : Numbers) (t : Lent) : Type 0 where
   pub disk : length (t .disk) ≡ N .P * N .B
   pub flash : length (t .flash) ≡ N .d * N .B
-  pub addresses : length (t .addresses) ≡ N .m * 40
-  pub blocks : length (t .blocks) ≡ N .d * 40
+  pub addresses : length (t .addresses) ≡ tableBytes (N .m)
+  pub blocks : length (t .blocks) ≡ tableBytes (N .d)
 
 pub right-lengths : (N : Numbers) (t : Lent) → wrongBuffers N t ≡ false → Lengths N t
 unfolding wrongBuffers
 right-lengths N t h =
     let a = otherLength (t .disk) (N .P * N .B) in
     let b = otherLength (t .flash) (N .d * N .B) in
-    let c = otherLength (t .addresses) (N .m * 40) in
-    let d = otherLength (t .blocks) (N .d * 40) in
+    let c = otherLength (t .addresses) (tableBytes (N .m)) in
+    let d = otherLength (t .blocks) (tableBytes (N .d)) in
     let h₃ = or-false-left (a || b || c) d h in
     let h₂ = or-false-left (a || b) c h₃ in
     record {
       disk = length-is (t .disk) (N .P * N .B) (or-false-left a b h₂);
       flash = length-is (t .flash) (N .d * N .B) (or-false-right a b h₂);
-      addresses = length-is (t .addresses) (N .m * 40) (or-false-right (a || b) c h₃);
-      blocks = length-is (t .blocks) (N .d * 40) (or-false-right (a || b || c) d h);
+      addresses = length-is (t .addresses) (tableBytes (N .m)) (or-false-right (a || b) c h₃);
+      blocks = length-is (t .blocks) (tableBytes (N .d)) (or-false-right (a || b || c) d h);
     }
   where
     length-is : (l : List ℕ) (k : ℕ) → otherLength l k ≡ false → length l ≡ k
@@ -218,21 +203,13 @@ module _ (N : Numbers) (s : Box (Fixed 32) (Fixed (N .B))) (h : Sound (engine (N
       sym (length-append (s .free) (map (λ u. u .slot) (s .used)) ∙ ap (λ k. length (s .free) + k) (length-map (s .used) (λ u. u .slot))) ∙ length-perm (h .slots) ∙ length-slotsFrom 0 (N .d)
 
   pub sound-lengths : (k : Counters) → Lengths N (lentOf N s k)
-  unfolding lentOf addressTable blockTable
+  unfolding lentOf
   sound-lengths k =
-      let few = h .few in
-      let rs = map heldRow (s .rows) in
-      let lr : length rs ≡ length (s .rows) = length-map (s .rows) heldRow in
-      let la : length (map addressBytes rs) ≡ length rs = length-map rs addressBytes in
-      let lf : length (flat (map addressBytes rs)) ≡ length (map addressBytes rs) * 40 = length-flat (map addressBytes rs) (held-wide (s .rows)) in
-      let lz : length (zeros ((N .m - length rs) * 40)) ≡ (N .m - length rs) * 40 = length-zeros ((N .m - length rs) * 40) in
-      let bs = tableRows (s .free) (s .used) in
-      let tl : length bs ≡ length (s .free) + length (s .used) = table-length (s .free) (s .used) in
       record {
         disk = length-join (N .B) (s .disk) ∙ ap (λ j. j * N .B) (h .diskLength);
         flash = length-join (N .B) (s .flash) ∙ ap (λ j. j * N .B) (h .flashLength);
-        addresses = length-append (flat (map addressBytes rs)) (zeros ((N .m - length rs) * 40)) ∙ omega arith;
-        blocks = length-flat (map blockBytes bs) (table-wide (s .free) (s .used)) ∙ ap (λ j. j * 40) (length-map bs blockBytes ∙ tl ∙ block-count);
+        addresses = held-length (N .m) (map heldRow (s .rows)) (held-wide (s .rows)) (length (s .rows)) (length-map (s .rows) heldRow) (h .few);
+        blocks = blocks-length (tableRows (s .free) (s .used)) (table-wide (s .free) (s .used)) (N .d) (table-length (s .free) (s .used) ∙ block-count);
       }
 
   module _ (k : Counters) (P1 : N .P ≤ 65536) (d1 : N .d ≤ 256) where
@@ -274,7 +251,7 @@ module _ (N : Numbers) (s : Box (Fixed 32) (Fixed (N .B))) (h : Sound (engine (N
             few = h .few;
             each = ap (all (addressOk (N .P))) hr ∙ held-each (N .P) P1 (s .rows) (h .below);
             apart = addresses-once held (sound-again .addresses);
-            rest = ap (all isZero) (rest-held (N .m) (s .rows)) ∙ zeros-zero ((N .m - n) * 40);
+            rest = ap (all isZero) (held-rest (N .m) (map heldRow (s .rows)) (held-wide (s .rows)) n (length-map (s .rows) heldRow)) ∙ zeros-zero (tableBytes (N .m - n));
           });
           blocks = good-blocks (N .d) b (record {
             each = ap (every (rowOk (N .d))) br ∙ table-each (N .d) d1 (s .free) (s .used) free-below used-below;

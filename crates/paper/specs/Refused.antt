@@ -4,11 +4,12 @@ use mathlib.Core.Path.{_≡_, refl}
 use mathlib.Core.Bool.{true, false}
 use mathlib.Core.List.{List, [], _∷_, _++_, map}
 use mathlib.Core.Option.{Option, none, some}
-use Prim.Native.Nat.{ℕ, _+_, _^_}
+use Prim.Native.Nat.{ℕ, _+_, _-_, _^_}
 use lib.ListN.{take, replicate, set}
 use Rattle.tables.specs.Rows as Rows
+use Rattle.tables.specs.Rows.{tableBytes}
 use Rattle.tables.specs.Records as Records
-use Rattle.tables.specs.Records.{AddressRow, BlockRow, addressRow, blockRow, freeRow, addressTable, blockTable}
+use Rattle.tables.specs.Records.{AddressRow, BlockRow, addressRow, blockRow, freeRow, paddingByte, addressTable, blockTable}
 use Rattle.tables.specs.Find as Find
 use Rattle.tables.specs.Unsound as Unsound
 use Rattle.paper.specs.Cache as Cache
@@ -156,12 +157,12 @@ addressTables q =
     -- "dirty byte above 1"
     ∷ asks q (held 1 (addressRow 1 one 2 ∷ [])) 6
     -- "nonzero padding"
-    ∷ asks q (addressByte 37 1) 6
-    ∷ asks q (addressByte 38 1) 6
-    ∷ asks q (addressByte 39 1) 6
+    ∷ asks q (addressByte (paddingByte 0 0) 1) 6
+    ∷ asks q (addressByte (paddingByte 0 1) 1) 6
+    ∷ asks q (addressByte (paddingByte 0 2) 1) 6
     -- "a row from n on not zero": its first byte, its last byte, a whole row
-    ∷ asks q (addressByte 40 1) 6
-    ∷ asks q (addressByte 79 1) 6
+    ∷ asks q (addressByte (tableBytes 1) 1) 6
+    ∷ asks q (addressByte (tableBytes 2 - 1) 1) 6
     ∷ asks q (held 0 (addressRow 1 one 1 ∷ [])) 6
     ∷ []
 
@@ -173,15 +174,15 @@ blockTables q =
     -- "a free row after a used one"
     ∷ asks q (cached (blockRow one 0 1 ∷ freeRow 1 ∷ [])) 7
     -- "used byte above 1"
-    ∷ asks q (blockByte 36 2) 7
+    ∷ asks q (cached (blockRow nought 1 2 ∷ blockRow one 0 1 ∷ [])) 7
     -- "nonzero padding", of the free row and of the used one
-    ∷ asks q (blockByte 37 1) 7
-    ∷ asks q (blockByte 38 1) 7
-    ∷ asks q (blockByte 39 1) 7
-    ∷ asks q (blockByte 77 1) 7
+    ∷ asks q (blockByte (paddingByte 0 0) 1) 7
+    ∷ asks q (blockByte (paddingByte 0 1) 1) 7
+    ∷ asks q (blockByte (paddingByte 0 2) 1) 7
+    ∷ asks q (blockByte (paddingByte 1 0) 1) 7
     -- "a free row with a fingerprint"
-    ∷ asks q (blockByte 0 1) 7
-    ∷ asks q (blockByte 31 1) 7
+    ∷ asks q (cached (blockRow (set nought 0 1) 1 0 ∷ blockRow one 0 1 ∷ [])) 7
+    ∷ asks q (cached (blockRow (set nought 31 1) 1 0 ∷ blockRow one 0 1 ∷ [])) 7
     -- "slots not each of 0 to d − 1 once": 0 twice; 0 and 2; 0 and 257
     ∷ asks q (cached (freeRow 0 ∷ blockRow one 0 1 ∷ [])) 7
     ∷ asks q (cached (freeRow 2 ∷ blockRow one 0 1 ∷ [])) 7
@@ -217,11 +218,11 @@ abbrev order : (ℕ → Asked) → (n₁ n₂ n₃ n₆ n₇ n₈ n₉ served : 
 order q n₁ n₂ n₃ n₆ n₇ n₈ n₉ served =
     let uncached = addressTable 2 (addressRow 1 two 1 ∷ []) in
     let much = counters (2 ^ 63 + 1) 0 0 0 in
-    record { numbers = numbers 32 2 2 2; lent = worst 127 (set uncached 39 1) (set blocks 39 1) much; asked = q 2; number = n₁ }
-    ∷ asks (q 2) (worst 127 (set uncached 39 1) (set blocks 39 1) much) n₂
-    ∷ asks (q 2) (worst 128 (set uncached 39 1) (set blocks 39 1) much) n₃
-    ∷ asks (q 1) (worst 128 (set uncached 39 1) (set blocks 39 1) much) n₆
-    ∷ asks (q 1) (worst 128 uncached (set blocks 39 1) much) n₇
+    record { numbers = numbers 32 2 2 2; lent = worst 127 (set uncached (paddingByte 0 2) 1) (set blocks (paddingByte 0 2) 1) much; asked = q 2; number = n₁ }
+    ∷ asks (q 2) (worst 127 (set uncached (paddingByte 0 2) 1) (set blocks (paddingByte 0 2) 1) much) n₂
+    ∷ asks (q 2) (worst 128 (set uncached (paddingByte 0 2) 1) (set blocks (paddingByte 0 2) 1) much) n₃
+    ∷ asks (q 1) (worst 128 (set uncached (paddingByte 0 2) 1) (set blocks (paddingByte 0 2) 1) much) n₆
+    ∷ asks (q 1) (worst 128 uncached (set blocks (paddingByte 0 2) 1) much) n₇
     ∷ asks (q 1) (worst 128 uncached blocks much) n₈
     ∷ asks (q 1) (worst 128 rows blocks much) n₉
     ∷ asks (q 1) (worst 128 rows blocks noCounts) served
@@ -266,7 +267,7 @@ table =
     ++ orders
 
 pub refused-with : map (λ c. refusal (c .numbers) (c .lent) (c .asked)) table ≡ map (λ c. c .number) table
-unfolding refusal unfit Lent.wrongBuffers Lent.over Rows.rows Rows.flat Rows.zeros Records.addressBytes Records.blockBytes addressTable blockTable Find.any Find.all Find.same Unsound.elem Unsound.twice Unsound.count Unsound.addressesUnsound Unsound.freeAfterUsed Unsound.eachOnce Unsound.usedTwice Unsound.blocksUnsound Unsound.dirtyUncached
+unfolding refusal unfit Lent.wrongBuffers Lent.over Rows.rows Rows.flat Rows.zeros Records.addressBytes Records.blockBytes Records.readAddress Records.readBlock addressTable blockTable Find.any Find.all Find.same Unsound.elem Unsound.twice Unsound.count Unsound.addressesUnsound Unsound.freeAfterUsed Unsound.eachOnce Unsound.usedTwice Unsound.blocksUnsound Unsound.dirtyUncached
 refused-with = refl
 
 -- The edges of the four numbers
@@ -326,7 +327,7 @@ keptCalls =
     ∷ keeps small (counting 0 0 0 (2 ^ 63 + 1)) (Ask.through 1 (filled 5)) 9 (some (filled 5))
     ∷ keeps small (held 1 (addressRow 1 two 1 ∷ [])) (Ask.back 1 (filled 5)) 8 (some (filled 5))
     ∷ keeps (numbers 32 2 2 2) sound (Ask.invalidate 1 (filled 5)) 1 (some (filled 5))
-    ∷ keeps small (blockByte 39 1) (Ask.look 1) 7 none
+    ∷ keeps small (blockByte (paddingByte 0 2) 1) (Ask.look 1) 7 none
     ∷ keeps small (memory 3 rows blocks noCounts) Ask.flush 6 none
     ∷ []
 
@@ -358,7 +359,7 @@ servedCalls =
     ∷ []
 
 pub calls-leave : map (λ c. call (c .numbers) (c .lent) (c .ask)) (keptCalls ++ servedCalls) ≡ map (λ c. c .after) (keptCalls ++ servedCalls)
-unfolding call refusal unfit Lent.wrongBuffers Lent.over Lent.served Lent.kept Lent.boxIn Lent.lentOf Lent.split Lent.freeSlots Lent.usedRows Lent.callOf Engine.fit Rows.rows Rows.flat Rows.zeros Records.addressBytes Records.blockBytes addressTable blockTable Records.heldRows Records.blockRows Find.any Find.all Find.same Unsound.elem Unsound.twice Unsound.count Unsound.addressesUnsound Unsound.freeAfterUsed Unsound.eachOnce Unsound.usedTwice Unsound.blocksUnsound Unsound.dirtyUncached Cache.serve Cache.readAs Cache.lookAs Cache.flushed Cache.ifCached Cache.answer Cache.step Cache.step1 Cache.step3 Cache.step4 Cache.freed Cache.counted
+unfolding call refusal unfit Lent.wrongBuffers Lent.over Lent.served Lent.kept Lent.boxIn Lent.lentOf Lent.split Lent.freeSlots Lent.usedRows Lent.callOf Engine.fit Rows.rows Rows.flat Rows.zeros Records.addressBytes Records.blockBytes Records.readAddress Records.readBlock addressTable blockTable Records.heldRows Records.blockRows Find.any Find.all Find.same Unsound.elem Unsound.twice Unsound.count Unsound.addressesUnsound Unsound.freeAfterUsed Unsound.eachOnce Unsound.usedTwice Unsound.blocksUnsound Unsound.dirtyUncached Cache.serve Cache.readAs Cache.lookAs Cache.flushed Cache.ifCached Cache.answer Cache.step Cache.step1 Cache.step3 Cache.step4 Cache.freed Cache.counted
 calls-leave = refl
 
 -- An opening: the numbers, the lent memory, and what it leaves. A refused one has n = 0 and keeps all else; a damaged box is opened, and is fresh.
@@ -379,5 +380,5 @@ openings =
     ∷ []
 
 pub openings-leave : map (λ c. opened (c .numbers) (c .lent)) openings ≡ map (λ c. c .after) openings
-unfolding opened refusal unfit Lent.wrongBuffers Lent.fresh Lent.unopened Unsound.elem Rows.flat Rows.zeros Records.addressBytes Records.blockBytes addressTable blockTable Records.freshAddresses Records.freshBlocks
+unfolding opened refusal unfit Lent.wrongBuffers Lent.fresh Lent.unopened Unsound.elem Rows.flat Rows.zeros Records.addressBytes Records.blockBytes Records.readAddress Records.readBlock addressTable blockTable Records.freshAddresses Records.freshBlocks
 openings-leave = refl

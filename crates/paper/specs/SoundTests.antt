@@ -3,19 +3,18 @@ use mathlib.Core.Path.{_≡_, refl, sym, ap, _∙_}
 use mathlib.Core.Bool.{Bool, true, false, not, _&&_, _||_, cond}
 use mathlib.Core.List.{List, [], _∷_, _++_, map, map-map, List·Permᴰ, List·Permᴰ·nil, List·Permᴰ·cons, List·Permᴰ·trans, Permᴰ·symm, Permᴰ·middle}
 use Prim.Native.Nat.{ℕ, suc, _<_}
-use native.Mathlib.Omega.{arith}
 use lib.Dec.{eqb, ltb}
-use lib.ListN.{length, take, drop, length-map}
-use lib.Seq.{take-at, length-take-le}
+use lib.ListN.{length, length-map}
+use lib.Seq.{take-at}
 use borrow.Author.Tests.{ltb-true, not-true, not-false}
-use Rattle.tables.specs.Rows.{rows, zeros, le4}
+use Rattle.tables.specs.Rows.{rows, zeros, rowBytes}
 use Rattle.tables.specs.Records as Table
 use Rattle.tables.specs.Records.{readAddress, readBlock, slotsFrom}
 use Rattle.tables.specs.Find.{all, every, findFrom, absent, same, caches, isUsed}
 use Rattle.tables.specs.Unsound.{elem, addressesUnsound, blocksUnsound}
-use Rattle.tables.specs.Sound.{distinct, wordOf, tailOk, addressOk, isZero, soundAddresses}
+use Rattle.tables.specs.Sound.{distinct, tailOk, addressOk, isZero, soundAddresses, rowAddress, rowSlot}
 use Rattle.tables.specs.Index.{unique, rowOk, dirtyOk}
-use Rattle.tables.specs.RowLaws.{length-part}
+use Rattle.tables.specs.Written.{address-print-length, block-print-length}
 use Rattle.tables.specs.OperationLaws.{Wide}
 use Rattle.tables.specs.Checked.{addresses-checked, blocks-checked}
 use Rattle.tables.specs.KeptLists.{both}
@@ -38,13 +37,13 @@ good-addresses P m n t g = addresses-checked P m n t ∙ ap not (parts-addrs P m
 -- 7: each row by itself, slots that differ, fingerprints used once
 pub record GoodBlocks (d : ℕ) (t : List ℕ) : Type 0 where
   pub each : every (rowOk d) (rows d t) ≡ true
-  pub apart : distinct (map (wordOf 32) (rows d t)) ≡ true
+  pub apart : distinct (map rowSlot (rows d t)) ≡ true
   pub once : every unique (rows d t) ≡ true
 
 pub blocks-good : (d : ℕ) (t : List ℕ) → blocksUnsound d t ≡ false → GoodBlocks d t
 blocks-good d t h =
     let a = every (rowOk d) (rows d t) in
-    let b = distinct (map (wordOf 32) (rows d t)) in
+    let b = distinct (map rowSlot (rows d t)) in
     let c = every unique (rows d t) in
     let p : a && (b && c) ≡ true = not-false (a && (b && c)) (sym (blocks-checked d t) ∙ h) in
     let q = and-right a (b && c) p in
@@ -58,39 +57,39 @@ pub addresses-below : (P : ℕ) (rs : List (List ℕ)) → all (addressOk P) rs 
 unfolding all
 addresses-below P [] e = tt
 addresses-below P (r ∷ rs) e = (
-  ltb-true (le4 r 0) P (and-left (ltb (le4 r 0) P) (tailOk r) (and-left (addressOk P r) (all (addressOk P) rs) e)),
+  ltb-true (rowAddress r) P (and-left (ltb (rowAddress r) P) (tailOk r) (and-left (addressOk P r) (all (addressOk P) rs) e)),
   addresses-below P rs (and-right (addressOk P r) (all (addressOk P) rs) e),
 )
 
-elem-held : (k : ℕ) (rs : List (List ℕ)) → elem k (map (wordOf 0) rs) ≡ has eqb (λ r. r .address) k (map asHeld (map readAddress rs))
+elem-held : (k : ℕ) (rs : List (List ℕ)) → elem k (map rowAddress rs) ≡ has eqb (λ r. r .address) k (map asHeld (map readAddress rs))
 unfolding elem
 elem-held k [] = refl
-elem-held k (r ∷ rs) = ap (λ b. eqb k (le4 r 0) || b) (elem-held k rs)
+elem-held k (r ∷ rs) = ap (λ b. eqb k (rowAddress r) || b) (elem-held k rs)
 
-pub addresses-apart : (rs : List (List ℕ)) → distinct (map (wordOf 0) rs) ≡ true → Distinct eqb (λ r. r .address) (map asHeld (map readAddress rs))
+pub addresses-apart : (rs : List (List ℕ)) → distinct (map rowAddress rs) ≡ true → Distinct eqb (λ r. r .address) (map asHeld (map readAddress rs))
 unfolding distinct
 addresses-apart [] h = tt
 addresses-apart (r ∷ rs) h =
-    let x = elem (le4 r 0) (map (wordOf 0) rs) in
-    let y = distinct (map (wordOf 0) rs) in
-    (sym (elem-held (le4 r 0) rs) ∙ not-true x (and-left (not x) y h), addresses-apart rs (and-right (not x) y h))
+    let x = elem (rowAddress r) (map rowAddress rs) in
+    let y = distinct (map rowAddress rs) in
+    (sym (elem-held (rowAddress r) rs) ∙ not-true x (and-left (not x) y h), addresses-apart rs (and-right (not x) y h))
 
-pub addresses-once : (rs : List (List ℕ)) → Distinct eqb (λ r. r .address) (map asHeld (map readAddress rs)) → distinct (map (wordOf 0) rs) ≡ true
+pub addresses-once : (rs : List (List ℕ)) → Distinct eqb (λ r. r .address) (map asHeld (map readAddress rs)) → distinct (map rowAddress rs) ≡ true
 unfolding distinct
 addresses-once [] h = refl
-addresses-once (r ∷ rs) h = both (not (elem (le4 r 0) (map (wordOf 0) rs))) (distinct (map (wordOf 0) rs)) (ap not (elem-held (le4 r 0) rs ∙ h .0)) (addresses-once rs (h .1))
+addresses-once (r ∷ rs) h = both (not (elem (rowAddress r) (map rowAddress rs))) (distinct (map rowAddress rs)) (ap not (elem-held (rowAddress r) rs ∙ h .0)) (addresses-once rs (h .1))
 
 -- a list of the right length fits
 pub fit-is : (n : ℕ) (l : List ℕ) → length l ≡ n → (fit n l) .0 ≡ l
 unfolding fit
 fit-is n l e = take-at l (zeros n) n e
 
--- the fingerprint of a row of 40 bytes
-pub print-is : (r : List ℕ) → length r ≡ 40 → (fit 32 (take 32 r)) .0 ≡ take 32 r
-print-is r l = fit-is 32 (take 32 r) (length-take-le 32 r (omega arith))
+-- the fingerprint of a row
+pub print-is : (r : List ℕ) → length r ≡ rowBytes → (fit 32 (readBlock r .fingerprint)) .0 ≡ readBlock r .fingerprint
+print-is r l = fit-is 32 (readBlock r .fingerprint) (block-print-length r l)
 
-pub held-print-is : (r : List ℕ) → length r ≡ 40 → (fit 32 (take 32 (drop 4 r))) .0 ≡ take 32 (drop 4 r)
-held-print-is r l = fit-is 32 (take 32 (drop 4 r)) (length-part r 4 32 (omega arith))
+pub held-print-is : (r : List ℕ) → length r ≡ rowBytes → (fit 32 (readAddress r .fingerprint)) .0 ≡ readAddress r .fingerprint
+held-print-is r l = fit-is 32 (readAddress r .fingerprint) (address-print-length r l)
 
 -- "cached" as the tables search for it
 cached-is : (B : ℕ) (g : Fixed 32) (k : ℕ) (rs : List (List ℕ)) → Wide rs → absent (findFrom (caches (g .0)) k rs) ≡ not (cached (engine B) g (usedRows (map readBlock rs)))
@@ -98,13 +97,13 @@ unfolding usedRows findFrom
 cached-is B g k [] w = refl
 cached-is B g k (r ∷ rs) w =
     by-test (isUsed r)
-    (λ u. rw (u, ap (same (g .0)) (print-is r (w .0)) ∙ same-swap (g .0) (take 32 r)) (by-test (same (take 32 r) (g .0)) (λ e. rw e) (λ e. rw e (cached-is B g (suc k) rs (w .1)))))
+    (λ u. rw (u, ap (same (g .0)) (print-is r (w .0)) ∙ same-swap (g .0) (readBlock r .fingerprint)) (by-test (same (readBlock r .fingerprint) (g .0)) (λ e. rw e) (λ e. rw e (cached-is B g (suc k) rs (w .1)))))
     (λ u. rw u (cached-is B g (suc k) rs (w .1)))
 
 -- a fingerprint used once
-row-cached : (B : ℕ) (r : List ℕ) (rs : List (List ℕ)) → length r ≡ 40 → Wide rs
-    → absent (findFrom (caches (take 32 r)) 0 rs) ≡ not (cached (engine B) (fit 32 (take 32 r)) (usedRows (map readBlock rs)))
-row-cached B r rs l w = ap (λ g. absent (findFrom (caches g) 0 rs)) (sym (print-is r l)) ∙ cached-is B (fit 32 (take 32 r)) 0 rs w
+row-cached : (B : ℕ) (r : List ℕ) (rs : List (List ℕ)) → length r ≡ rowBytes → Wide rs
+    → absent (findFrom (caches (readBlock r .fingerprint)) 0 rs) ≡ not (cached (engine B) (fit 32 (readBlock r .fingerprint)) (usedRows (map readBlock rs)))
+row-cached B r rs l w = ap (λ g. absent (findFrom (caches g) 0 rs)) (sym (print-is r l)) ∙ cached-is B (fit 32 (readBlock r .fingerprint)) 0 rs w
 
 pub used-apart : (B : ℕ) (rs : List (List ℕ)) → Wide rs → every unique rs ≡ true → Distinct (engine B .same) (λ u. u .fingerprint) (usedRows (map readBlock rs))
 unfolding every usedRows
@@ -112,8 +111,8 @@ used-apart B [] w = λ h. tt
 used-apart B (r ∷ rs) w =
     by-test (isUsed r)
     (λ u. rw u (λ h.
-    let a = absent (findFrom (caches (take 32 r)) 0 rs) in
-    let c = cached (engine B) (fit 32 (take 32 r)) (usedRows (map readBlock rs)) in
+    let a = absent (findFrom (caches (readBlock r .fingerprint)) 0 rs) in
+    let c = cached (engine B) (fit 32 (readBlock r .fingerprint)) (usedRows (map readBlock rs)) in
     (not-true c (sym (row-cached B r rs (w .0) (w .1)) ∙ and-left a (every unique rs) h), used-apart B rs (w .1) (and-right a (every unique rs) h))))
     (λ u. rw u (λ h. used-apart B rs (w .1) h))
 
@@ -122,7 +121,7 @@ unfolding every usedRows
 used-once B [] w = λ h. refl
 used-once B (r ∷ rs) w =
     by-test (isUsed r)
-    (λ u. rw u (λ h. both (absent (findFrom (caches (take 32 r)) 0 rs)) (every unique rs) (row-cached B r rs (w .0) (w .1) ∙ ap not (h .0)) (used-once B rs (w .1) (h .1))))
+    (λ u. rw u (λ h. both (absent (findFrom (caches (readBlock r .fingerprint)) 0 rs)) (every unique rs) (row-cached B r rs (w .0) (w .1) ∙ ap not (h .0)) (used-once B rs (w .1) (h .1))))
     (λ u. rw u (λ h. used-once B rs (w .1) h))
 
 -- slots
@@ -135,30 +134,30 @@ slots-perm (r ∷ rs) =
     (λ e. rw e (List·Permᴰ·cons refl (slots-perm rs)))
 
 module _ (d : ℕ) where
-  slots-below : (rs : List (List ℕ)) → every (rowOk d) rs ≡ true → all (λ k. ltb k d) (map (wordOf 32) rs) ≡ true
+  slots-below : (rs : List (List ℕ)) → every (rowOk d) rs ≡ true → all (λ k. ltb k d) (map rowSlot rs) ≡ true
   unfolding every all
   slots-below [] h = refl
   slots-below (r ∷ rs) h =
-      let rest = tailOk r && cond (isUsed r) (all isUsed rs) (all isZero (take 32 r)) in
-      both (ltb (le4 r 32) d) (all (λ k. ltb k d) (map (wordOf 32) rs))
-      (and-left (ltb (le4 r 32) d) rest (and-left (rowOk d r rs) (every (rowOk d) rs) h))
+      let rest = tailOk r && cond (isUsed r) (all isUsed rs) (all isZero (readBlock r .fingerprint)) in
+      both (ltb (rowSlot r) d) (all (λ k. ltb k d) (map rowSlot rs))
+      (and-left (ltb (rowSlot r) d) rest (and-left (rowOk d r rs) (every (rowOk d) rs) h))
       (slots-below rs (and-right (rowOk d r rs) (every (rowOk d) rs) h))
 
   module _ (rs : List (List ℕ)) where
-    pub slots-each : length rs ≡ d → every (rowOk d) rs ≡ true → distinct (map (wordOf 32) rs) ≡ true
+    pub slots-each : length rs ≡ d → every (rowOk d) rs ≡ true → distinct (map rowSlot rs) ≡ true
         → List·Permᴰ (freeSlots (map readBlock rs) ++ map (λ u. u .slot) (usedRows (map readBlock rs))) (slotsFrom 0 d)
     slots-each l h e =
         let p : List·Permᴰ (map (λ r. r .slot) (map readBlock rs)) (slotsFrom 0 d) =
-        rw (map-map (λ (r : Table.BlockRow). r .slot) readBlock rs) (slots-are d (map (wordOf 32) rs) (length-map rs (wordOf 32) ∙ l) (slots-below rs h) e) in
+        rw (map-map (λ (r : Table.BlockRow). r .slot) readBlock rs) (slots-are d (map rowSlot rs) (length-map rs rowSlot ∙ l) (slots-below rs h) e) in
         List·Permᴰ·trans (slots-perm (map readBlock rs)) p
 
-    pub each-slots : List·Permᴰ (freeSlots (map readBlock rs) ++ map (λ u. u .slot) (usedRows (map readBlock rs))) (slotsFrom 0 d) → distinct (map (wordOf 32) rs) ≡ true
-    each-slots p = slots-differ d (map (wordOf 32) rs) (rw (map-map (λ (r : Table.BlockRow). r .slot) readBlock rs) at (List·Permᴰ·trans (Permᴰ·symm (slots-perm (map readBlock rs))) p))
+    pub each-slots : List·Permᴰ (freeSlots (map readBlock rs) ++ map (λ u. u .slot) (usedRows (map readBlock rs))) (slotsFrom 0 d) → distinct (map rowSlot rs) ≡ true
+    each-slots p = slots-differ d (map rowSlot rs) (rw (map-map (λ (r : Table.BlockRow). r .slot) readBlock rs) at (List·Permᴰ·trans (Permᴰ·symm (slots-perm (map readBlock rs))) p))
 
 -- dirty rows
 module _ (B : ℕ) (bs : List (List ℕ)) (wide : Wide bs) where
-  held-cached : (r : List ℕ) → length r ≡ 40 → absent (findFrom (caches (take 32 (drop 4 r))) 0 bs) ≡ not (cached (engine B) ((asHeld (readAddress r)) .fingerprint) (usedRows (map readBlock bs)))
-  held-cached r l = ap (λ g. absent (findFrom (caches g) 0 bs)) (sym (held-print-is r l)) ∙ cached-is B (fit 32 (take 32 (drop 4 r))) 0 bs wide
+  held-cached : (r : List ℕ) → length r ≡ rowBytes → absent (findFrom (caches (readAddress r .fingerprint)) 0 bs) ≡ not (cached (engine B) ((asHeld (readAddress r)) .fingerprint) (usedRows (map readBlock bs)))
+  held-cached r l = ap (λ g. absent (findFrom (caches g) 0 bs)) (sym (held-print-is r l)) ∙ cached-is B (fit 32 (readAddress r .fingerprint)) 0 bs wide
 
   pub dirty-cached : (rs : List (List ℕ)) → Wide rs → all (dirtyOk bs) rs ≡ true → All (DirtyCached (engine B) (usedRows (map readBlock bs))) (map asHeld (map readAddress rs))
   unfolding all

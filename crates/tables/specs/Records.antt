@@ -1,6 +1,6 @@
--- The layout of the two tables: a row as a record and as bytes, a table as a list of rows. No other file of the project knows it.
+-- The layout of the two tables: a row as a record and as bytes, a table as a list of rows. No other crate of the project opens it.
 -- Assumes nothing.
-use Prim.Native.Nat.{ℕ, zero, suc, _-_, _*_, _/_, _%_}
+use Prim.Native.Nat.{ℕ, zero, suc, _+_, _-_, _*_, _/_, _%_}
 use mathlib.Core.List.{List, [], _∷_, _++_, map}
 use lib.ListN.{length, take, drop, getD}
 use Rattle.tables.specs.Rows.{rows, flat, zeros, le4}
@@ -38,6 +38,10 @@ blockBytes r = r .fingerprint ++ (bytes4 (r .slot) ++ (r .used ∷ 0 ∷ 0 ∷ 0
 
 unfoldable pub readBlock : List ℕ → BlockRow
 readBlock r = record { fingerprint = take 32 r; slot = le4 r 32; used = getD r 36 0 }
+
+-- "3 zero bytes" end a row of either table: where byte j of them, of 0 to 2, stands in row k
+abbrev pub paddingByte : (k j : ℕ) → ℕ
+paddingByte k j = k * 40 + 37 + j
 
 -- "Free rows (used 0, zero fingerprint)"
 abbrev pub freeRow : ℕ → BlockRow

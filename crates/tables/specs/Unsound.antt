@@ -1,12 +1,12 @@
 -- When a table is refused: the tests for 6, 7 and 8, condition by condition in document 01's order.
 -- Assumes nothing.
-use Prim.Native.Nat.{ℕ, _+_, _*_}
+use Prim.Native.Nat.{ℕ, _+_}
 use mathlib.Core.Bool.{Bool, false, not, _&&_, _||_, cond}
 use mathlib.Core.List.{List, [], _∷_, map}
 use lib.Dec.{eqb, leb, ltb}
 use lib.ListN.{drop, getD}
-use Rattle.tables.specs.Rows.{rows}
-use Rattle.tables.specs.Records.{readAddress, readBlock, slotsFrom}
+use Rattle.tables.specs.Rows.{rows, tableBytes}
+use Rattle.tables.specs.Records.{readAddress, readBlock, paddingByte, slotsFrom}
 use Rattle.tables.specs.Find.{all, any, caches, isUsed}
 
 -- x is in the list; some number is in the list twice; how often x is in the list
@@ -27,7 +27,7 @@ nonzero x = not (eqb x 0)
 
 -- "nonzero padding": one of the last 3 bytes of a row isn't zero
 abbrev pub nonzeroPadding : List ℕ → Bool
-nonzeroPadding r = any nonzero (getD r 37 0 ∷ getD r 38 0 ∷ getD r 39 0 ∷ [])
+nonzeroPadding r = any nonzero (getD r (paddingByte 0 0) 0 ∷ getD r (paddingByte 0 1) 0 ∷ getD r (paddingByte 0 2) 0 ∷ [])
 
 -- "6: address table unsound: n above m, a held address ≥ P or held twice, dirty byte above 1, nonzero padding, or a row from n on not zero."
 unfoldable pub addressesUnsound : (P m n : ℕ) → List ℕ → Bool
@@ -37,7 +37,7 @@ addressesUnsound P m n t =
     || twice (map (λ r. readAddress r .address) (rows n t))
     || any (λ r. ltb 1 (readAddress r .dirty)) (rows n t)
     || any nonzeroPadding (rows n t)
-    || any nonzero (drop (n * 40) t)
+    || any nonzero (drop (tableBytes n) t)
 
 -- "a free row after a used one"
 unfoldable pub freeAfterUsed : List (List ℕ) → Bool
