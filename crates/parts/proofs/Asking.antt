@@ -5,8 +5,8 @@ use mathlib.Core.List.{List, [], _∷_}
 use Prim.Native.Nat.{ℕ, _≤_, _<_}
 use native.Mathlib.Nat.{zero-add}
 use native.Mathlib.Omega.{arith}
-use lib.Dec.{eqb, ltb}
-use lib.ListN.{length, getD}
+use lib.Dec.{ltb}
+use lib.ListN.{length}
 use borrow.Author.Tests.{lt-ltb, le-ltb}
 use Rattle.tables.specs.Rows.{rowAt}
 use Rattle.paper.specs.KeyedLaws.{clash}
@@ -16,15 +16,16 @@ use Rattle.paper.specs.Index.{indexWhere}
 use Rattle.paper.specs.Layout.{Blocks}
 use Rattle.parts.specs.Asked.{noBlock, victimPlace}
 use Rattle.parts.specs.MoveLaws.{used-flag, first-flag}
+use Rattle.tables.specs.Find.{isUsed}
 
 -- victim
 module _ (B d : ℕ) (t : List ℕ) (l : List (AddressRow (Fixed 32))) (used : List (BlockRow (Fixed 32))) where
-  pub victim-first : (free : List ℕ) → Blocks d t free used → 0 < d → eqb (getD (rowAt t 0) 36 0) 1 ≡ false → 0 ≡ victimPlace B l free used
+  pub victim-first : (free : List ℕ) → Blocks d t free used → 0 < d → isUsed (rowAt t 0) ≡ false → 0 ≡ victimPlace B l free used
   unfolding victimPlace
   victim-first [] h b e = clash (used-flag d t [] used h 0 (omega (arith, h .count)) noBlock) e
   victim-first (k ∷ free) h b e = refl
 
-  pub victim-yes : (free : List ℕ) → Blocks d t free used → eqb (getD (rowAt t 0) 36 0) 1 ≡ true → (j : ℕ) → (Blocks d t [] used → j ≡ indexWhere (λ u. not (known (engine B) (u .fingerprint) l)) used) → j < d → j ≡ victimPlace B l free used
+  pub victim-yes : (free : List ℕ) → Blocks d t free used → isUsed (rowAt t 0) ≡ true → (j : ℕ) → (Blocks d t [] used → j ≡ indexWhere (λ u. not (known (engine B) (u .fingerprint) l)) used) → j < d → j ≡ victimPlace B l free used
   unfolding victimPlace
   victim-yes [] h e j f b =
       let c : length used ≡ d = sym (zero-add (length used)) ∙ h .count in
@@ -32,7 +33,7 @@ module _ (B d : ℕ) (t : List ℕ) (l : List (AddressRow (Fixed 32))) (used : L
       f h ∙ rw z refl
   victim-yes (k ∷ free) h e j f b = clash e (first-flag d t k free used h)
 
-  pub victim-no : (free : List ℕ) → Blocks d t free used → eqb (getD (rowAt t 0) 36 0) 1 ≡ true → (j : ℕ) → (Blocks d t [] used → j ≡ indexWhere (λ u. not (known (engine B) (u .fingerprint) l)) used) → d ≤ j → 0 ≡ victimPlace B l free used
+  pub victim-no : (free : List ℕ) → Blocks d t free used → isUsed (rowAt t 0) ≡ true → (j : ℕ) → (Blocks d t [] used → j ≡ indexWhere (λ u. not (known (engine B) (u .fingerprint) l)) used) → d ≤ j → 0 ≡ victimPlace B l free used
   unfolding victimPlace
   victim-no [] h e j f b =
       let c : length used ≡ d = sym (zero-add (length used)) ∙ h .count in

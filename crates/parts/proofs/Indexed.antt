@@ -2,11 +2,12 @@
 use mathlib.Core.Path.{_≡_, refl, sym, ap, _∙_}
 use mathlib.Core.Bool.{Bool, true, false, not, _&&_}
 use mathlib.Core.List.{List, [], _∷_, map}
-use Prim.Native.Nat.{ℕ, suc, zero, _≤_}
+use Prim.Native.Nat.{ℕ, _≤_}
 use lib.Dec.{eqb}
-use lib.ListN.{take, drop}
+use lib.ListN.{take}
 use Rattle.tables.specs.Rows.{rows}
 use Rattle.tables.specs.RowLaws.{take-rows}
+use Rattle.tables.specs.PlaceLaws.{map-take}
 use Rattle.tables.specs.Find.{all, findFrom, absent, caches, hasFingerprint}
 use Rattle.tables.specs.Index.{cachedIn, unknownIn}
 use Rattle.tables.specs.declared.Found.{Found}
@@ -16,23 +17,18 @@ use Rattle.paper.specs.Engine.{Fixed, engine}
 use Rattle.paper.specs.Index.{indexWhere, index-map}
 use Rattle.paper.specs.Layout.{Addrs, Blocks}
 use Rattle.parts.specs.TableLaws.{addrBytes, usedBytes, rows-addrs, rows-blocks, length-blocks, fp-of, fp-used, flag-used, placed, placed-first, isAt, absent-is, fp-known, fp-cached, all-any}
+use Rattle.tables.specs.Records.{readAddress, readBlock}
 
 not-not : (b : Bool) → not (not b) ≡ b
 not-not true = refl
 not-not false = refl
 
-map-take : {A C : Type 0} (f : A → C) (k : ℕ) (l : List A) → take k (map f l) ≡ map f (take k l)
-map-take f zero [] = refl
-map-take f zero (x ∷ xs) = refl
-map-take f (suc k) [] = refl
-map-take {C = C} f (suc k) (x ∷ xs) = ap {B = List C} (λ l. f x ∷ l) (map-take f k xs)
-
 module _ (d : ℕ) (bt : List ℕ) (free : List ℕ) (used : List (BlockRow (Fixed 32))) (hb : Blocks d bt free used) where
   -- an address row's fingerprint is cached
   row-cached : (r : AddressRow (Fixed 32)) → cachedIn (rows d bt) (addrBytes r) ≡ cached (engine 0) (r .fingerprint) used
   row-cached r =
-      ap not (absent-is (findFrom (caches (take 32 (drop 4 (addrBytes r)))) 0 (rows d bt))) ∙ not-not (isAt (findFrom (caches (take 32 (drop 4 (addrBytes r)))) 0 (rows d bt)))
-      ∙ fp-cached d bt free used hb (take 32 (drop 4 (addrBytes r))) (r .fingerprint) (sym (fp-of r))
+      ap not (absent-is (findFrom (caches (readAddress (addrBytes r) .fingerprint)) 0 (rows d bt))) ∙ not-not (isAt (findFrom (caches (readAddress (addrBytes r) .fingerprint)) 0 (rows d bt)))
+      ∙ fp-cached d bt free used hb (readAddress (addrBytes r) .fingerprint) (r .fingerprint) (sym (fp-of r))
 
   all-cached : (B : ℕ) (l : List (AddressRow (Fixed 32))) → not (all (cachedIn (rows d bt)) (map addrBytes l)) ≡ someUncached (engine B) l used
   unfolding all
@@ -49,9 +45,9 @@ module _ (d : ℕ) (bt : List ℕ) (free : List ℕ) (used : List (BlockRow (Fix
 -- a used block row's fingerprint is that of no held row
 row-unknown : (B P m n : ℕ) (t : List ℕ) (l : List (AddressRow (Fixed 32))) → Addrs P m n t l → (u : BlockRow (Fixed 32)) → unknownIn (rows n t) (usedBytes u) ≡ not (known (engine B) (u .fingerprint) l)
 row-unknown B P m n t l h u =
-    ap (λ (k : ℕ). eqb k 1 && absent (findFrom (hasFingerprint (take 32 (usedBytes u))) 0 (rows n t))) (flag-used u)
-    ∙ absent-is (findFrom (hasFingerprint (take 32 (usedBytes u))) 0 (rows n t))
-    ∙ ap not (fp-known P m n t l h (take 32 (usedBytes u)) (u .fingerprint) (sym (fp-used u)) (findFrom (hasFingerprint (take 32 (usedBytes u))) 0 (rows n t)) refl)
+    ap (λ (k : ℕ). eqb k 1 && absent (findFrom (hasFingerprint (readBlock (usedBytes u) .fingerprint)) 0 (rows n t))) (flag-used u)
+    ∙ absent-is (findFrom (hasFingerprint (readBlock (usedBytes u) .fingerprint)) 0 (rows n t))
+    ∙ ap not (fp-known P m n t l h (readBlock (usedBytes u) .fingerprint) (u .fingerprint) (sym (fp-used u)) (findFrom (hasFingerprint (readBlock (usedBytes u) .fingerprint)) 0 (rows n t)) refl)
 
 -- the first such row
 pub unknown-is : (B P m n d : ℕ) (t bt : List ℕ) (l : List (AddressRow (Fixed 32))) (used : List (BlockRow (Fixed 32))) → Addrs P m n t l → Blocks d bt [] used → (f : Found) → findFrom (unknownIn (rows n t)) 0 (rows d bt) ≡ f

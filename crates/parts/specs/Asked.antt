@@ -2,13 +2,15 @@
 use mathlib.Core.Bool.{Bool, not, cond}
 use mathlib.Core.List.{List, [], _∷_}
 use Prim.Native.Nat.{ℕ}
-use lib.Dec.{eqb, ltb}
-use lib.ListN.{length, getD, take}
-use Rattle.tables.specs.Rows.{rows, rowAt, le4}
+use lib.Dec.{ltb}
+use lib.ListN.{length, take}
+use Rattle.tables.specs.Rows.{rows, rowAt}
 use Rattle.tables.specs.Index.{Places}
 use Rattle.paper.specs.Cache.{AddressRow, BlockRow, blockRow, known}
 use Rattle.paper.specs.Engine.{Fixed, fit, engine}
 use Rattle.paper.specs.Index.{indexWhere}
+use Rattle.tables.specs.Records.{readBlock}
+use Rattle.tables.specs.Find.{isUsed}
 
 -- a block row that stands for none
 abbrev pub noBlock : BlockRow (Fixed 32)
@@ -28,8 +30,8 @@ Placed n d addrs blocks places = Places (rows d blocks) (rows n addrs) (take n p
 
 -- the slot of the block row at a place, 0 where there is none
 abbrev pub slotIn : List ℕ → ℕ → ℕ → ℕ
-slotIn blocks d j = cond (ltb j d) (le4 (rowAt blocks j) 32) 0
+slotIn blocks d j = cond (ltb j d) (readBlock (rowAt blocks j) .slot) 0
 
 -- no block row is free: the first one is used
 abbrev pub full : List ℕ → Bool
-full blocks = eqb (getD (rowAt blocks 0) 36 0) 1
+full blocks = isUsed (rowAt blocks 0)

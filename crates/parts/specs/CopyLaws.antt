@@ -5,13 +5,13 @@ use mathlib.Core.List.{List, [], _∷_}
 use Prim.Native.Nat.{ℕ, suc, zero, _≤_, _<_, _+_, _*_}
 use native.Mathlib.Nat.{le-of-suc-le-suc}
 use native.Mathlib.Omega.{arith}
-use lib.Dec.{eqb, ltb}
+use lib.Dec.{ltb}
 use lib.ListN.{length, getD, set, take, drop}
 use lib.Seq.{take-at, drop-append-add}
 use borrow.Author.Tests.{ltb-true, ltb-false, le-ltb}
 use Rattle.block.specs.Blocks.{part, splice}
 use Rattle.parts.specs.declared.BoxRecord.{BoxRecord}
-use Rattle.tables.specs.Rows.{rows, rowAt, le4}
+use Rattle.tables.specs.Rows.{rows, rowAt}
 use Rattle.tables.specs.Index.{code, placeIn}
 use Rattle.tables.specs.PlaceLaws.{place-at}
 use Rattle.tables.specs.declared.Found.{Found}
@@ -26,8 +26,10 @@ use Rattle.parts.specs.Rep.{Rep, Copied, copiedRow, noRow}
 use Rattle.parts.specs.Asked.{slotIn, Placed}
 use Rattle.paper.specs.Index.{indexWhere, slotOf-yes, slotOf-no}
 use Rattle.parts.specs.MoveLaws.{row-is, slot-is, address-is, address-below, dirty-is, cleaned-row}
-use Rattle.tables.specs.Find.{findFrom, hasFingerprint, caches}
+use Rattle.tables.specs.Find.{findFrom, hasFingerprint, caches, isDirty}
 use Rattle.parts.specs.TableLaws.{addrBytes, fp-of, has-fp, block-index}
+use Rattle.tables.specs.Records.{readAddress, readBlock}
+use Rattle.tables.specs.Operations.{rowCleaned}
 
 -- block k of the bytes
 join-part : (n : ℕ) (bs : List (Fixed n)) (k : ℕ) (z : Fixed n) → k < length bs → take n (drop (k * n) (join bs)) ≡ (getD bs k z) .0
@@ -65,15 +67,15 @@ module _ (b : BoxRecord) (disk flash addrs blocks : List ℕ) (s : Box (Fixed 32
   row : AddressRow (Fixed 32)
   row = getD (s .rows) i noRow
 
-  pub row-left : (eqb (getD (rowAt addrs i) 36 0) 1 && chosen (getD (s .rows) i noRow .fingerprint)) ≡ false → _≡_ {A = Copied} (record { count = 0; disk = disk; addrs = addrs }) (copiedRow b chosen s i)
+  pub row-left : (isDirty (rowAt addrs i) && chosen (getD (s .rows) i noRow .fingerprint)) ≡ false → _≡_ {A = Copied} (record { count = 0; disk = disk; addrs = addrs }) (copiedRow b chosen s i)
   unfolding copiedRow
   row-left e =
       let d : (getD (s .rows) i noRow .dirty && chosen (getD (s .rows) i noRow .fingerprint)) ≡ false
       = ap (λ (x : Bool). x && chosen (getD (s .rows) i noRow .fingerprint)) (sym (dirty-is (b .blocks) (b .rows) (b .held) addrs (s .rows) (h .rows-are) i l noRow)) ∙ e in
       rw d (λ j. record { count = 0; disk = h .disk-is .is j; addrs = h .rows-are .is j })
 
-  pub row-copied : (eqb (getD (rowAt addrs i) 36 0) 1 && chosen (getD (s .rows) i noRow .fingerprint)) ≡ true → (a k : ℕ) → a ≡ le4 (rowAt addrs i) 0 → k ≡ slotOf (engine (b .size)) (getD (s .rows) i noRow .fingerprint) (s .used) → k < b .slots
-      → _≡_ {A = Copied} (record { count = 1; disk = splice (a * b .size) (part (k * b .size) (b .size) flash) disk; addrs = set addrs (i * 40 + 36) 0 }) (copiedRow b chosen s i)
+  pub row-copied : (isDirty (rowAt addrs i) && chosen (getD (s .rows) i noRow .fingerprint)) ≡ true → (a k : ℕ) → a ≡ readAddress (rowAt addrs i) .address → k ≡ slotOf (engine (b .size)) (getD (s .rows) i noRow .fingerprint) (s .used) → k < b .slots
+      → _≡_ {A = Copied} (record { count = 1; disk = splice (a * b .size) (part (k * b .size) (b .size) flash) disk; addrs = rowCleaned i addrs }) (copiedRow b chosen s i)
   unfolding copiedRow
   row-copied e a k ea ek kb =
       let d : (getD (s .rows) i noRow .dirty && chosen (getD (s .rows) i noRow .fingerprint)) ≡ true
@@ -96,15 +98,15 @@ module _ (B d : ℕ) (t : List ℕ) (free : List ℕ) (used : List (BlockRow (Fi
   pub slot-none : d ≤ j → 0 ≡ slotOf (engine B) f used
   slot-none b = sym (slotOf-no (engine B) f used (omega (arith, h .count, e)))
 
-  pub slot-some : j < d → (r : ℕ) → r ≡ le4 (rowAt t j) 32 → r ≡ slotOf (engine B) f used
+  pub slot-some : j < d → (r : ℕ) → r ≡ readBlock (rowAt t j) .slot → r ≡ slotOf (engine B) f used
   slot-some b r er =
       let k : ℕ = indexWhere (λ (u : BlockRow (Fixed 32)). engine B .same f (u .fingerprint)) used in
       let kb : k < length used = omega (arith, h .count, e) in
       let z : BlockRow (Fixed 32) = blockRow f 0 in
-      er ∙ ap (λ (x : ℕ). le4 (rowAt t x) 32) e ∙ slot-is d t free used h k kb z ∙ sym (slotOf-yes (engine B) f used z kb)
+      er ∙ ap (λ (x : ℕ). readBlock (rowAt t x) .slot) e ∙ slot-is d t free used h k kb z ∙ sym (slotOf-yes (engine B) f used z kb)
 
   pub slot-placed : slotIn t d j ≡ slotOf (engine B) f used
-  slot-placed = by-test (ltb j d) (λ y. rw y (slot-some (ltb-true j d y) (le4 (rowAt t j) 32) refl)) (λ y. rw y (slot-none (ltb-false j d y)))
+  slot-placed = by-test (ltb j d) (λ y. rw y (slot-some (ltb-true j d y) (readBlock (rowAt t j) .slot) refl)) (λ y. rw y (slot-none (ltb-false j d y)))
 
 -- the same by what `places` has for a row: its block row, or 256
 slot-coded : (B d : ℕ) (t free : List ℕ) (used : List (BlockRow (Fixed 32))) (g : List ℕ) (q : Fixed 32) → Blocks d t free used → d ≤ 256 → q .0 ≡ g → (f : Found) → findFrom (caches g) 0 (rows d t) ≡ f
@@ -117,12 +119,12 @@ pub slot-of-row : (B P m n d : ℕ) (addrs blocks places : List ℕ) (l : List (
 unfolding placeIn
 slot-of-row B P m n d addrs blocks places l free used h k b p i li =
     let r : AddressRow (Fixed 32) = getD l i noRow in
-    let e : getD places i 0 ≡ code (findFrom (caches (take 32 (drop 4 (addrBytes r)))) 0 (rows d blocks))
+    let e : getD places i 0 ≡ code (findFrom (caches (readAddress (addrBytes r) .fingerprint)) 0 (rows d blocks))
     = place-at (rows d blocks) n addrs places p i li ∙ ap (placeIn (rows d blocks)) (row-is P m n addrs l h i li noRow) in
-    ap (slotIn blocks d) e ∙ slot-coded B d blocks free used (take 32 (drop 4 (addrBytes r))) (r .fingerprint) k b (sym (fp-of r)) (findFrom (caches (take 32 (drop 4 (addrBytes r)))) 0 (rows d blocks)) refl
+    ap (slotIn blocks d) e ∙ slot-coded B d blocks free used (readAddress (addrBytes r) .fingerprint) (r .fingerprint) k b (sym (fp-of r)) (findFrom (caches (readAddress (addrBytes r) .fingerprint)) 0 (rows d blocks)) refl
 
 -- a row's block and its place on the disk are there
-pub copy-fits : (b : BoxRecord) (disk flash addrs blocks : List ℕ) (s : Box (Fixed 32) (Fixed (b .size))) → Rep b disk flash addrs blocks s → (i : ℕ) → i < b .held → (a k : ℕ) → a ≡ le4 (rowAt addrs i) 0 → k < b .slots
+pub copy-fits : (b : BoxRecord) (disk flash addrs blocks : List ℕ) (s : Box (Fixed 32) (Fixed (b .size))) → Rep b disk flash addrs blocks s → (i : ℕ) → i < b .held → (a k : ℕ) → a ≡ readAddress (rowAt addrs i) .address → k < b .slots
     → (k * b .size + b .size ≤ length flash) × (a * b .size + b .size ≤ length disk)
 copy-fits b disk flash addrs blocks s h i l a k ea kb =
     let aa : a ≡ getD (s .rows) i noRow .address = ea ∙ address-is (b .blocks) (b .rows) (b .held) addrs (s .rows) (h .rows-are) i l noRow in

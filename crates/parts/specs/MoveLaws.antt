@@ -2,124 +2,81 @@
 use mathlib.Core.Path.{_≡_, refl, sym, ap, ap₂, _∙_}
 use mathlib.Core.Bool.{Bool, true, false}
 use mathlib.Core.List.{List, [], _∷_, _++_, map, append-assoc}
-use Prim.Native.Nat.{ℕ, suc, zero, _<_, _+_, _*_, _-_, _^_}
+use Prim.Native.Nat.{ℕ, suc, zero, _<_, _+_, _-_}
 use native.Mathlib.Nat.{le-of-suc-le-suc, zero-add, suc-add}
 use native.Mathlib.Omega.{arith}
 use lib.Dec.{eqb}
-use lib.ListN.{length, getD, set, take, drop, length-append, length-map, replicate-append-replicate, length-set}
-use lib.Seq.{drop-at, getD-at, set-at, set-append-left, drop-drop}
-use Rattle.tables.specs.Rows.{rows, flat, zeros, removeAt, le4, rowAt, freed, filled}
-use Rattle.tables.specs.Records.{addressRow, addressBytes, blockBytes, bytes4}
+use lib.ListN.{length, getD, set, length-map}
+use Rattle.tables.specs.Rows.{rows, removeAt, rowAt}
+use Rattle.tables.specs.Records.{addressRow, addressBytes, blockBytes, readAddress, readBlock, freeRow, addressTable, blockTable}
 use Rattle.tables.specs.Records as R
-use Rattle.tables.specs.OperationLaws.{map-++, map-removeAt, length-removeAt, le4-bytes4, off}
-use Rattle.tables.specs.KeptAddresses.{le4-ofAddr}
-use Rattle.tables.specs.RowLaws.{rows-at, part-rowAt}
+use Rattle.tables.specs.Find.{isDirty, isUsed}
+use Rattle.tables.specs.Operations.{rowOut, rowAdded, rowCleaned, rowNewest, rowFreed, rowFilled}
+use Rattle.tables.specs.SoundLaws.{map-at}
+use Rattle.tables.specs.ShiftLaws.{length-zeros}
+use Rattle.tables.specs.OperationLaws.{map-++, map-removeAt, map-set}
+use Rattle.tables.specs.Written.{cleanRow, address-address, address-dirty, block-slot, held-at, held-out, held-added, held-clean, block-at, blocks-newest, blocks-freed, blocks-filled}
 use Rattle.paper.specs.KeyedLaws.{All}
 use Rattle.paper.specs.Cache.{AddressRow, BlockRow, newest, blockRow}
 use Rattle.paper.specs.Engine.{Fixed}
-use Rattle.paper.specs.Lent.{bit}
-use Rattle.paper.specs.LentLaws.{bit-back}
+use Rattle.paper.specs.Lent.{bit, heldRow, usedRow}
+use Rattle.paper.specs.LentLaws.{bit-back, held-wide, table-wide, table-length, tableRows}
 use Rattle.paper.specs.Layout.{addressesOf, blocksOf, Addrs, Blocks}
-use Rattle.parts.specs.TableLaws.{addrBytes, usedBytes, freeBytes, addrs-flat, blocks-flat, wide-addrs, length-zeros, rows-addrs, rest-addrs, rows-blocks, fp-of, fp-used, flag-used, flag-free}
+use Rattle.parts.specs.Rep.{clean}
+use Rattle.parts.specs.TableLaws.{addrBytes, usedBytes, freeBytes, fp-of, fp-used, flag-used, flag-free}
 
 pub all-getD : {A : Type 0} (Q : A → Type 0) (l : List A) (i : ℕ) (z : A) → All Q l → i < length l → Q (getD l i z)
 all-getD Q [] i z q h = absurd (omega arith)
 all-getD Q (x ∷ xs) zero z q h = q .0
 all-getD Q (x ∷ xs) (suc i) z q h = all-getD Q xs i z (q .1) (le-of-suc-le-suc h)
 
-map-at : {A B : Type 0} (f : A → B) (l : List A) (i : ℕ) (e : B) (z : A) → i < length l → getD (map f l) i e ≡ f (getD l i z)
-map-at f [] i e z h = absurd (omega arith)
-map-at f (x ∷ xs) zero e z h = refl
-map-at f (x ∷ xs) (suc i) e z h = map-at f xs i e z (le-of-suc-le-suc h)
-
 -- ---- address rows
-module _ (P m n : ℕ) (t : List ℕ) (l : List (AddressRow (Fixed 32))) (h : Addrs P m n t l) (i : ℕ) (b : i < n) (z : AddressRow (Fixed 32)) where
-  within : i < length l
-  within = omega (arith, h .count)
-
-  pub row-is : rowAt t i ≡ addrBytes (getD l i z)
-  row-is = sym (rows-at n t i b) ∙ ap (λ (x : List (List ℕ)). getD x i []) (rows-addrs P m n t l h) ∙ map-at addrBytes l i [] z within
-
-  pub address-is : le4 (rowAt t i) 0 ≡ getD l i z .address
-  address-is =
-      let r = getD l i z in
-      let y : r .address < P = all-getD (λ (x : AddressRow (Fixed 32)). x .address < P) l i z (h .below) within in
-      ap (λ (x : List ℕ). le4 x 0) row-is ∙ le4-ofAddr (r .address) (r .fingerprint .0) (bit (r .dirty)) (omega (arith, h .small))
-
-  pub address-below : getD l i z .address < P
-  address-below = all-getD (λ (x : AddressRow (Fixed 32)). x .address < P) l i z (h .below) within
-
-  flag-of : (r : AddressRow (Fixed 32)) → getD (addrBytes r) 36 0 ≡ bit (r .dirty)
-  unfolding addressBytes
-  flag-of r = getD-at (r .fingerprint .0) (bit (r .dirty)) (0 ∷ 0 ∷ 0 ∷ []) 0 32 (r .fingerprint .1)
-
-  pub dirty-is : eqb (getD (rowAt t i) 36 0) 1 ≡ getD l i z .dirty
-  dirty-is = ap (λ (x : List ℕ). eqb (getD x 36 0) 1) row-is ∙ ap (λ (k : ℕ). eqb k 1) (flag-of (getD l i z)) ∙ bit-back (getD l i z .dirty)
-
-  -- &t[i * 40 + 4..i * 40 + 36]
-  pub fp-part : (k : ℕ) → k ≡ 32 → take k (drop (i * 40 + 4) t) ≡ getD l i z .fingerprint .0
-  fp-part k e = rw e (sym (part-rowAt t i 4 32 (omega arith)) ∙ ap (λ (x : List ℕ). take 32 (drop 4 x)) row-is ∙ fp-of (getD l i z))
-
-zeros-add : (a b : ℕ) → zeros a ++ zeros b ≡ zeros (a + b)
-unfolding zeros
-zeros-add a b = replicate-append-replicate a b 0
-
-drop-zeros : (a b : ℕ) → drop a (zeros (a + b)) ≡ zeros b
-drop-zeros a b = ap (drop a) (sym (zeros-add a b)) ∙ drop-at (zeros a) (zeros b) a (length-zeros a)
-
 module _ (P m n : ℕ) (t : List ℕ) (l : List (AddressRow (Fixed 32))) (h : Addrs P m n t l) where
-  -- remove_row
-  pub removed : (i : ℕ) → i < n → flat (removeAt (rows n t) i) ++ (zeros 40 ++ drop (n * 40) t) ≡ addressesOf m (removeAt l i)
-  removed i b =
-      let lr : length (removeAt l i) ≡ length l - 1 = length-removeAt l i (omega (arith, h .count)) in
-      let e : 40 + (m - n) * 40 ≡ (m - length (removeAt l i)) * 40 = omega (arith, h .count, h .few) in
-      ap₂ {C = List ℕ} (λ x y. flat (removeAt x i) ++ (zeros 40 ++ y)) (rows-addrs P m n t l h) (rest-addrs P m n t l h)
-      ∙ ap₂ {C = List ℕ} (λ x y. flat x ++ y) (sym (map-removeAt addrBytes l i)) (zeros-add 40 ((m - n) * 40) ∙ ap zeros e)
-      ∙ sym (addrs-flat m (removeAt l i))
+  count : length (map heldRow l) ≡ n
+  count = length-map l heldRow ∙ h .count
+
+  module _ (i : ℕ) (b : i < n) (z : AddressRow (Fixed 32)) where
+    within : i < length l
+    within = omega (arith, h .count)
+
+    held-row : getD (map heldRow l) i (heldRow z) ≡ heldRow (getD l i z)
+    held-row = map-at heldRow l i (heldRow z) z within
+
+    pub row-is : rowAt t i ≡ addrBytes (getD l i z)
+    unfolding addressesOf
+    row-is = ap (λ (x : List ℕ). rowAt x i) (h .is) ∙ held-at m (map heldRow l) (held-wide l) n count i b (heldRow z) ∙ ap addressBytes held-row
+
+    pub address-below : getD l i z .address < P
+    address-below = all-getD (λ (x : AddressRow (Fixed 32)). x .address < P) l i z (h .below) within
+
+    pub address-is : readAddress (rowAt t i) .address ≡ getD l i z .address
+    address-is = ap (λ (x : List ℕ). readAddress x .address) row-is ∙ address-address (heldRow (getD l i z)) (omega (arith, h .small, address-below))
+
+    pub dirty-is : isDirty (rowAt t i) ≡ getD l i z .dirty
+    dirty-is =
+        ap isDirty row-is ∙ ap (λ (k : ℕ). eqb k 1) (address-dirty (heldRow (getD l i z)) (getD l i z .fingerprint .1)) ∙ bit-back (getD l i z .dirty)
+
+    pub fp-is : readAddress (rowAt t i) .fingerprint ≡ getD l i z .fingerprint .0
+    fp-is = ap (λ (x : List ℕ). readAddress x .fingerprint) row-is ∙ fp-of (getD l i z)
+
+    -- remove_row
+    pub removed : rowOut n i t ≡ addressesOf m (removeAt l i)
+    unfolding addressesOf
+    removed = ap (rowOut n i) (h .is) ∙ held-out m (map heldRow l) (held-wide l) n count i b (heldRow z) (h .few) ∙ ap (addressTable m) (sym (map-removeAt heldRow l i))
+
+    -- set_clean
+    pub cleaned-row : rowCleaned i t ≡ addressesOf m (set l i (clean (getD l i z)))
+    unfolding addressesOf
+    cleaned-row =
+        ap (rowCleaned i) (h .is) ∙ held-clean m (map heldRow l) (held-wide l) n count i b (heldRow z) (h .few)
+        ∙ ap (addressTable m) (ap (λ (r : R.AddressRow). set (map heldRow l) i (cleanRow r)) held-row ∙ sym (map-set heldRow l i (clean (getD l i z))))
 
   -- push_address
-  pub pushed : n < m → (a : ℕ) (f : Fixed 32) (w : Bool) → flat (rows n t ++ (addressBytes (addressRow a (f .0) (bit w)) ∷ [])) ++ drop (n * 40 + 40) t ≡ addressesOf m (l ++ (newest a f w ∷ []))
+  pub pushed : n < m → (a : ℕ) (f : Fixed 32) (w : Bool) → rowAdded n (addressBytes (addressRow a (f .0) (bit w))) t ≡ addressesOf m (l ++ (newest a f w ∷ []))
+  unfolding addressesOf
   pushed b a f w =
-      let ll : length (l ++ (newest a f w ∷ [])) ≡ length l + 1 = length-append l (newest a f w ∷ []) in
-      let e : (m - n) * 40 ≡ 40 + (m - length (l ++ (newest a f w ∷ []))) * 40 = omega (arith, h .count, h .few) in
-      let r : drop (n * 40 + 40) t ≡ zeros ((m - length (l ++ (newest a f w ∷ []))) * 40)
-      = sym (drop-drop 40 (n * 40) t) ∙ ap (drop 40) (rest-addrs P m n t l h ∙ ap zeros e) ∙ drop-zeros 40 ((m - length (l ++ (newest a f w ∷ []))) * 40) in
-      ap₂ {C = List ℕ} (λ x y. flat (x ++ (addrBytes (newest a f w) ∷ [])) ++ y) (rows-addrs P m n t l h) r
-      ∙ ap (λ (x : List (List ℕ)). flat x ++ zeros ((m - length (l ++ (newest a f w ∷ []))) * 40)) (sym (map-++ addrBytes l (newest a f w ∷ [])))
-      ∙ sym (addrs-flat m (l ++ (newest a f w ∷ [])))
-
--- a row made clean
-abbrev pub clean : AddressRow (Fixed 32) → AddressRow (Fixed 32)
-clean r = newest (r .address) (r .fingerprint) false
-
-clean-bytes : (r : AddressRow (Fixed 32)) → set (addrBytes r) 36 0 ≡ addrBytes (clean r)
-unfolding addressBytes
-clean-bytes r = ap (λ (x : List ℕ). bytes4 (r .address) ++ x) (set-at (r .fingerprint .0) (bit (r .dirty)) (0 ∷ 0 ∷ 0 ∷ []) 0 32 (r .fingerprint .1))
-
-set-right : (xs ys : List ℕ) (j v : ℕ) → set (xs ++ ys) (length xs + j) v ≡ xs ++ set ys j v
-set-right [] ys j v = rw (zero-add j) refl
-set-right (x ∷ xs) ys j v = rw (suc-add (length xs) j) (ap (λ (l : List ℕ). x ∷ l) (set-right xs ys j v))
-
-set-row : (l : List (AddressRow (Fixed 32))) (w : List ℕ) (i : ℕ) (z : AddressRow (Fixed 32)) → i < length l → set (flat (map addrBytes l) ++ w) (i * 40 + 36) 0 ≡ flat (map addrBytes (set l i (clean (getD l i z)))) ++ w
-unfolding flat
-set-row [] w i z h = absurd (omega arith)
-set-row (r ∷ rs) w zero z h =
-    let e : 0 * 40 + 36 ≡ 36 = omega arith in
-    let k : 36 < length (addrBytes r) = omega (arith, (wide-addrs (r ∷ rs)) .0) in
-    rw (append-assoc (addrBytes r) (flat (map addrBytes rs)) w, append-assoc (addrBytes (clean r)) (flat (map addrBytes rs)) w, set-append-left (addrBytes r) (flat (map addrBytes rs) ++ w) 36 0 k)
-    (ap (λ (x : List ℕ). x ++ (flat (map addrBytes rs) ++ w)) (clean-bytes r))
-set-row (r ∷ rs) w (suc i) z h =
-    let e : suc i * 40 + 36 ≡ length (addrBytes r) + (i * 40 + 36) = omega (arith, (wide-addrs (r ∷ rs)) .0) in
-    rw (append-assoc (addrBytes r) (flat (map addrBytes rs)) w, append-assoc (addrBytes r) (flat (map addrBytes (set rs i (clean (getD rs i z))))) w, e)
-    (set-right (addrBytes r) (flat (map addrBytes rs) ++ w) (i * 40 + 36) 0 ∙ ap (λ (x : List ℕ). addrBytes r ++ x) (set-row rs w i z (le-of-suc-le-suc h)))
-
--- set_clean
-pub cleaned-row : (P m n : ℕ) (t : List ℕ) (l : List (AddressRow (Fixed 32))) → Addrs P m n t l → (i : ℕ) → i < n → (z : AddressRow (Fixed 32)) → set t (i * 40 + 36) 0 ≡ addressesOf m (set l i (clean (getD l i z)))
-cleaned-row P m n t l h i b z =
-    ap (λ (x : List ℕ). set x (i * 40 + 36) 0) (h .is ∙ addrs-flat m l)
-    ∙ set-row l (zeros ((m - length l) * 40)) i z (omega (arith, h .count))
-    ∙ ap (λ (k : ℕ). flat (map addrBytes (set l i (clean (getD l i z)))) ++ zeros ((m - k) * 40)) (sym (length-set l i (clean (getD l i z))))
-    ∙ sym (addrs-flat m (set l i (clean (getD l i z))))
+      ap (rowAdded n (addressBytes (addressRow a (f .0) (bit w)))) (h .is) ∙ held-added m (map heldRow l) (held-wide l) n count b (heldRow (newest a f w))
+      ∙ ap (addressTable m) (sym (map-++ heldRow l (newest a f w ∷ [])))
 
 -- ---- block rows
 getD-right : {A : Type 0} (xs ys : List A) (k : ℕ) (e : A) → getD (xs ++ ys) (length xs + k) e ≡ getD ys k e
@@ -130,111 +87,90 @@ removeAt-right : {A : Type 0} (xs ys : List A) (k : ℕ) → removeAt (xs ++ ys)
 removeAt-right [] ys k = rw (zero-add k) refl
 removeAt-right {A} (x ∷ xs) ys k = rw (suc-add (length xs) k) (ap {B = List A} (λ l. x ∷ l) (removeAt-right xs ys k))
 
-slot-of : (g : List ℕ) (k x : ℕ) → length g ≡ 32 → k < 2 ^ 32 → le4 (blockBytes (R.blockRow g k x)) 32 ≡ k
-unfolding blockBytes
-slot-of g k x lg h =
-    let w : List ℕ = bytes4 k ++ (x ∷ 0 ∷ 0 ∷ 0 ∷ []) in
-    rw (off g w 0 lg, off g w 1 lg, off g w 2 lg, off g w 3 lg) (le4-bytes4 k h)
-
--- the four bytes of a slot
-slot-bytes : (g : List ℕ) (k x : ℕ) → length g ≡ 32 → take 4 (drop 32 (blockBytes (R.blockRow g k x))) ≡ bytes4 k
-unfolding blockBytes
-slot-bytes g k x lg = ap (take 4) (drop-at g (bytes4 k ++ (x ∷ 0 ∷ 0 ∷ 0 ∷ [])) 32 lg)
-
-zeros-four : zeros 4 ≡ 0 ∷ 0 ∷ 0 ∷ 0 ∷ []
-unfolding zeros
-zeros-four = refl
-
-zeros-three : zeros 3 ≡ 0 ∷ 0 ∷ 0 ∷ []
-unfolding zeros
-zeros-three = refl
-
-freed-bytes : (u : BlockRow (Fixed 32)) → freed (usedBytes u) ≡ freeBytes (u .slot)
-unfolding blockBytes
-freed-bytes u = ap₂ {C = List ℕ} (λ x y. zeros 32 ++ (x ++ y)) (slot-bytes (u .fingerprint .0) (u .slot) 1 (u .fingerprint .1)) zeros-four
-
-filled-bytes : (f : Fixed 32) (g : List ℕ) (k x : ℕ) → length g ≡ 32 → filled (f .0) (blockBytes (R.blockRow g k x)) ≡ usedBytes (blockRow f k)
-unfolding blockBytes
-filled-bytes f g k x lg = ap₂ {C = List ℕ} (λ y w. f .0 ++ (y ++ (1 ∷ w))) (slot-bytes g k x lg) zeros-three
+-- a used row behind the others
+more-used : (free : List ℕ) (used : List (BlockRow (Fixed 32))) (u : BlockRow (Fixed 32)) → tableRows free used ++ (usedRow u ∷ []) ≡ tableRows free (used ++ (u ∷ []))
+more-used free used u =
+    append-assoc (map freeRow free) (map usedRow used) (usedRow u ∷ []) ∙ ap (λ (x : List R.BlockRow). map freeRow free ++ x) (sym (map-++ usedRow used (u ∷ [])))
 
 module _ (d : ℕ) (t : List ℕ) (free : List ℕ) (used : List (BlockRow (Fixed 32))) (h : Blocks d t free used) where
+  table-count : length (tableRows free used) ≡ d
+  table-count = table-length free used ∙ h .count
+
   -- row `length free + k`, which is used
   module _ (k : ℕ) (b : k < length used) (z : BlockRow (Fixed 32)) where
-    used-at : getD (rows d t) (length free + k) [] ≡ usedBytes (getD used k z)
+    below : length free + k < d
+    below = omega (arith, h .count)
+
+    used-at : getD (tableRows free used) (length free + k) (usedRow z) ≡ usedRow (getD used k z)
     used-at =
-        ap (λ (x : List (List ℕ)). getD x (length free + k) []) (rows-blocks d t free used h)
-        ∙ ap (λ (j : ℕ). getD (map freeBytes free ++ map usedBytes used) (j + k) []) (sym (length-map free freeBytes))
-        ∙ getD-right (map freeBytes free) (map usedBytes used) k [] ∙ map-at usedBytes used k [] z b
+        ap (λ (j : ℕ). getD (tableRows free used) (j + k) (usedRow z)) (sym (length-map free freeRow))
+        ∙ getD-right (map freeRow free) (map usedRow used) k (usedRow z) ∙ map-at usedRow used k (usedRow z) z b
+
+    rest-at : removeAt (tableRows free used) (length free + k) ≡ tableRows free (removeAt used k)
+    rest-at =
+        ap (λ (j : ℕ). removeAt (tableRows free used) (j + k)) (sym (length-map free freeRow))
+        ∙ removeAt-right (map freeRow free) (map usedRow used) k ∙ ap (λ (x : List R.BlockRow). map freeRow free ++ x) (sym (map-removeAt usedRow used k))
+
+    print-at : length (getD (tableRows free used) (length free + k) (usedRow z) .fingerprint) ≡ 32
+    print-at = ap (λ (r : R.BlockRow). length (r .fingerprint)) used-at ∙ getD used k z .fingerprint .1
 
     pub used-row : rowAt t (length free + k) ≡ usedBytes (getD used k z)
-    used-row = sym (rows-at d t (length free + k) (omega (arith, h .count))) ∙ used-at
-
-    rest-at : removeAt (rows d t) (length free + k) ≡ map freeBytes free ++ map usedBytes (removeAt used k)
-    rest-at =
-        ap (λ (x : List (List ℕ)). removeAt x (length free + k)) (rows-blocks d t free used h)
-        ∙ ap (λ (j : ℕ). removeAt (map freeBytes free ++ map usedBytes used) (j + k)) (sym (length-map free freeBytes))
-        ∙ removeAt-right (map freeBytes free) (map usedBytes used) k
-        ∙ ap (λ (x : List (List ℕ)). map freeBytes free ++ x) (sym (map-removeAt usedBytes used k))
-
-    pub slot-is : le4 (rowAt t (length free + k)) 32 ≡ getD used k z .slot
-    slot-is =
-        let u = getD used k z in
-        let y : u .slot < d = all-getD (λ (x : BlockRow (Fixed 32)). x .slot < d) used k z (h .used-below) b in
-        ap (λ (x : List ℕ). le4 x 32) used-row ∙ slot-of (u .fingerprint .0) (u .slot) 1 (u .fingerprint .1) (omega (arith, h .small))
+    unfolding blocksOf
+    used-row = ap (λ (x : List ℕ). rowAt x (length free + k)) (h .is) ∙ block-at (tableRows free used) (table-wide free used) d table-count (length free + k) below (usedRow z) ∙ ap blockBytes used-at
 
     pub slot-below : getD used k z .slot < d
     slot-below = all-getD (λ (x : BlockRow (Fixed 32)). x .slot < d) used k z (h .used-below) b
 
-    pub used-flag : eqb (getD (rowAt t (length free + k)) 36 0) 1 ≡ true
-    used-flag = ap (λ (x : List ℕ). eqb (getD x 36 0) 1) used-row ∙ ap (λ (n : ℕ). eqb n 1) (flag-used (getD used k z))
+    pub slot-is : readBlock (rowAt t (length free + k)) .slot ≡ getD used k z .slot
+    slot-is =
+        ap (λ (x : List ℕ). readBlock x .slot) used-row ∙ block-slot (usedRow (getD used k z)) (getD used k z .fingerprint .1) (omega (arith, h .small, slot-below))
 
-    -- &t[j * 40..j * 40 + 32]
-    pub used-part : (n at : ℕ) → n ≡ 32 → at ≡ (length free + k) * 40 → take n (drop at t) ≡ getD used k z .fingerprint .0
-    used-part n at e f =
-        let o : (length free + k) * 40 + 0 ≡ (length free + k) * 40 = omega arith in
-        rw (e, f) (ap (λ (j : ℕ). take 32 (drop j t)) (sym o) ∙ sym (part-rowAt t (length free + k) 0 32 (omega arith)) ∙ ap (take 32) used-row ∙ fp-used (getD used k z))
+    pub used-flag : isUsed (rowAt t (length free + k)) ≡ true
+    used-flag = ap isUsed used-row ∙ ap (λ (n : ℕ). eqb n 1) (flag-used (getD used k z))
+
+    pub used-fp : readBlock (rowAt t (length free + k)) .fingerprint ≡ getD used k z .fingerprint .0
+    used-fp = ap (λ (x : List ℕ). readBlock x .fingerprint) used-row ∙ fp-used (getD used k z)
 
     -- to_newest
-    pub renewed : flat (removeAt (rows d t) (length free + k) ++ (getD (rows d t) (length free + k) [] ∷ [])) ≡ blocksOf free (removeAt used k ++ (getD used k z ∷ []))
+    pub renewed : rowNewest d (length free + k) t ≡ blocksOf free (removeAt used k ++ (getD used k z ∷ []))
+    unfolding blocksOf
     renewed =
-        ap₂ {C = List ℕ} (λ x y. flat (x ++ (y ∷ []))) rest-at used-at
-        ∙ ap flat (append-assoc (map freeBytes free) (map usedBytes (removeAt used k)) (usedBytes (getD used k z) ∷ []) ∙ ap (λ (x : List (List ℕ)). map freeBytes free ++ x) (sym (map-++ usedBytes (removeAt used k) (getD used k z ∷ []))))
-        ∙ sym (blocks-flat free (removeAt used k ++ (getD used k z ∷ [])))
+        ap (rowNewest d (length free + k)) (h .is) ∙ blocks-newest (tableRows free used) (table-wide free used) d table-count (length free + k) below (usedRow z)
+        ∙ ap blockTable (ap₂ {C = List R.BlockRow} (λ x y. x ++ (y ∷ [])) rest-at used-at ∙ more-used free (removeAt used k) (getD used k z))
 
     -- to_front
-    pub fronted : flat (freed (getD (rows d t) (length free + k) []) ∷ removeAt (rows d t) (length free + k)) ≡ blocksOf (getD used k z .slot ∷ free) (removeAt used k)
+    pub fronted : rowFreed d (length free + k) t ≡ blocksOf (getD used k z .slot ∷ free) (removeAt used k)
+    unfolding blocksOf
     fronted =
-        ap₂ {C = List ℕ} (λ x y. flat (freed y ∷ x)) rest-at used-at
-        ∙ ap (λ (x : List ℕ). flat (x ∷ (map freeBytes free ++ map usedBytes (removeAt used k)))) (freed-bytes (getD used k z))
-        ∙ sym (blocks-flat (getD used k z .slot ∷ free) (removeAt used k))
+        ap (rowFreed d (length free + k)) (h .is) ∙ blocks-freed (tableRows free used) (table-wide free used) d table-count (length free + k) below (usedRow z) print-at
+        ∙ ap blockTable (ap₂ {C = List R.BlockRow} (λ x y. freeRow (y .slot) ∷ x) rest-at used-at)
 
     -- put_block on a used row
-    pub refilled : (f : Fixed 32) → flat (removeAt (rows d t) (length free + k) ++ (filled (f .0) (getD (rows d t) (length free + k) []) ∷ [])) ≡ blocksOf free (removeAt used k ++ (blockRow f (getD used k z .slot) ∷ []))
+    pub refilled : (f : Fixed 32) → rowFilled d (length free + k) (f .0) t ≡ blocksOf free (removeAt used k ++ (blockRow f (getD used k z .slot) ∷ []))
+    unfolding blocksOf
     refilled f =
-        let u = getD used k z in
-        ap₂ {C = List ℕ} (λ x y. flat (x ++ (filled (f .0) y ∷ []))) rest-at used-at
-        ∙ ap (λ (y : List ℕ). flat ((map freeBytes free ++ map usedBytes (removeAt used k)) ++ (y ∷ []))) (filled-bytes f (u .fingerprint .0) (u .slot) 1 (u .fingerprint .1))
-        ∙ ap flat (append-assoc (map freeBytes free) (map usedBytes (removeAt used k)) (usedBytes (blockRow f (u .slot)) ∷ []) ∙ ap (λ (x : List (List ℕ)). map freeBytes free ++ x) (sym (map-++ usedBytes (removeAt used k) (blockRow f (u .slot) ∷ []))))
-        ∙ sym (blocks-flat free (removeAt used k ++ (blockRow f (u .slot) ∷ [])))
+        ap (rowFilled d (length free + k) (f .0)) (h .is) ∙ blocks-filled (tableRows free used) (table-wide free used) d table-count (length free + k) below (usedRow z) print-at (f .0)
+        ∙ ap blockTable (ap₂ {C = List R.BlockRow} (λ x y. x ++ (R.blockRow (f .0) (y .slot) 1 ∷ [])) rest-at used-at ∙ more-used free (removeAt used k) (blockRow f (getD used k z .slot)))
 
 -- the first row, where it is free
 module _ (d : ℕ) (t : List ℕ) (s : ℕ) (free : List ℕ) (used : List (BlockRow (Fixed 32))) (h : Blocks d t (s ∷ free) used) where
-  first-at : getD (rows d t) 0 [] ≡ freeBytes s
-  first-at = ap (λ (x : List (List ℕ)). getD x 0 []) (rows-blocks d t (s ∷ free) used h)
+  some-row : 0 < d
+  some-row = omega (arith, h .count)
 
   pub first-row : rowAt t 0 ≡ freeBytes s
-  first-row = sym (rows-at d t 0 (omega (arith, h .count))) ∙ first-at
+  unfolding blocksOf
+  first-row = ap (λ (x : List ℕ). rowAt x 0) (h .is) ∙ block-at (tableRows (s ∷ free) used) (table-wide (s ∷ free) used) d (table-length (s ∷ free) used ∙ h .count) 0 some-row (freeRow s)
 
-  pub first-flag : eqb (getD (rowAt t 0) 36 0) 1 ≡ false
-  first-flag = ap (λ (x : List ℕ). eqb (getD x 36 0) 1) first-row ∙ ap (λ (n : ℕ). eqb n 1) (flag-free s)
+  pub first-flag : isUsed (rowAt t 0) ≡ false
+  first-flag = ap isUsed first-row ∙ ap (λ (n : ℕ). eqb n 1) (flag-free s)
 
-  pub first-slot : le4 (rowAt t 0) 32 ≡ s
-  first-slot = ap (λ (x : List ℕ). le4 x 32) first-row ∙ slot-of (zeros 32) s 0 (length-zeros 32) (omega (arith, h .small, h .free-below .0))
+  pub first-slot : readBlock (rowAt t 0) .slot ≡ s
+  first-slot = ap (λ (x : List ℕ). readBlock x .slot) first-row ∙ block-slot (freeRow s) (length-zeros 32) (omega (arith, h .small, h .free-below .0))
 
   -- put_block on it
-  pub first-filled : (f : Fixed 32) → flat (removeAt (rows d t) 0 ++ (filled (f .0) (getD (rows d t) 0 []) ∷ [])) ≡ blocksOf free (used ++ (blockRow f s ∷ []))
+  pub first-filled : (f : Fixed 32) → rowFilled d 0 (f .0) t ≡ blocksOf free (used ++ (blockRow f s ∷ []))
+  unfolding blocksOf
   first-filled f =
-      ap₂ {C = List ℕ} (λ x y. flat (removeAt x 0 ++ (filled (f .0) y ∷ []))) (rows-blocks d t (s ∷ free) used h) first-at
-      ∙ ap (λ (y : List ℕ). flat ((map freeBytes free ++ map usedBytes used) ++ (y ∷ []))) (filled-bytes f (zeros 32) s 0 (length-zeros 32))
-      ∙ ap flat (append-assoc (map freeBytes free) (map usedBytes used) (usedBytes (blockRow f s) ∷ []) ∙ ap (λ (x : List (List ℕ)). map freeBytes free ++ x) (sym (map-++ usedBytes used (blockRow f s ∷ []))))
-      ∙ sym (blocks-flat free (used ++ (blockRow f s ∷ [])))
+      ap (rowFilled d 0 (f .0)) (h .is)
+      ∙ blocks-filled (tableRows (s ∷ free) used) (table-wide (s ∷ free) used) d (table-length (s ∷ free) used ∙ h .count) 0 some-row (freeRow s) (length-zeros 32) (f .0)
+      ∙ ap blockTable (more-used free used (blockRow f s))

@@ -2,26 +2,27 @@
 use mathlib.Core.Path.{_≡_, refl, sym, ap, ap₂, _∙_}
 use mathlib.Core.Bool.{Bool, true, false, not, _&&_}
 use mathlib.Core.List.{List, [], _∷_, _++_, map}
-use Prim.Native.Nat.{ℕ, suc, _≤_, _<_, _+_, _*_, _-_}
+use Prim.Native.Nat.{ℕ, suc, _≤_, _<_, _+_, _-_}
 use native.Mathlib.Nat.{zero-add}
 use native.Mathlib.Omega.{arith}
 use lib.Dec.{eqb}
-use lib.ListN.{length, getD, take, drop, length-append, length-map, length-replicate}
-use lib.Seq.{take-at}
-use Rattle.tables.specs.Rows.{rows, flat, zeros}
+use lib.ListN.{length, length-append, length-map}
+use Rattle.tables.specs.Rows.{rows}
 use Rattle.tables.specs.Find.{absent, findFrom, hasAddress, hasFingerprint, caches, same}
 use Rattle.tables.specs.declared.Found.{Found}
 use Rattle.tables.specs.declared.Found.the-variants.{At, Nothing}
-use Rattle.tables.specs.Records.{addressBytes, blockBytes, addressTable, blockTable, bytes4, freeRow}
+use Rattle.tables.specs.Records.{addressBytes, blockBytes, freeRow, readAddress, readBlock}
 use Rattle.tables.specs.Records as R
-use Rattle.tables.specs.OperationLaws.{Wide, wide-append, rows-flat, drop-flat, map-++, rows-whole, off}
-use Rattle.tables.specs.KeptAddresses.{length-ofAddr, le4-ofAddr}
+use Rattle.tables.specs.OperationLaws.{map-++}
+use Rattle.tables.specs.ShiftLaws.{length-zeros}
+use Rattle.tables.specs.Written.{address-address, address-print, block-print, block-used, held-rows, block-rows}
 use Rattle.paper.specs.Keyed.{has}
 use Rattle.paper.specs.KeyedLaws.{All, by-test, eqb→≡, eqb-self, eqb-swap}
-use Rattle.paper.specs.Cache.{AddressRow, BlockRow, known, cached, blockRow}
+use Rattle.paper.specs.Cache.{AddressRow, BlockRow, known, cached}
 use Rattle.paper.specs.Engine.{Fixed, engine}
-use Rattle.paper.specs.Lent.{bit, heldRow, usedRow}
+use Rattle.paper.specs.Lent.{heldRow, usedRow}
 use Rattle.paper.specs.Index.{indexWhere, index-none, index-map}
+use Rattle.paper.specs.LentLaws.{held-wide, table-wide, table-length, tableRows}
 use Rattle.paper.specs.Layout.{addressesOf, blocksOf, Addrs, Blocks}
 
 -- a row's bytes
@@ -38,62 +39,19 @@ map-map : {A B C : Type 0} (f : B → C) (g : A → B) (l : List A) → map f (m
 map-map f g [] = refl
 map-map {C = C} f g (x ∷ xs) = ap {B = List C} (λ l. f (g x) ∷ l) (map-map f g xs)
 
-pub addrs-flat : (m : ℕ) (rows : List (AddressRow (Fixed 32))) → addressesOf m rows ≡ flat (map addrBytes rows) ++ zeros ((m - length rows) * 40)
-unfolding addressesOf addressTable
-addrs-flat m rows = ap₂ {C = List ℕ} _++_ (ap flat (map-map addressBytes heldRow rows)) (ap (λ (k : ℕ). zeros ((m - k) * 40)) (length-map rows heldRow))
-
-pub blocks-flat : (free : List ℕ) (used : List (BlockRow (Fixed 32))) → blocksOf free used ≡ flat (map freeBytes free ++ map usedBytes used)
-unfolding blocksOf blockTable
-blocks-flat free used = ap flat (map-++ blockBytes (map freeRow free) (map usedRow used) ∙ ap₂ {C = List (List ℕ)} _++_ (map-map blockBytes freeRow free) (map-map blockBytes usedRow used))
-
-pub length-zeros : (n : ℕ) → length (zeros n) ≡ n
-unfolding zeros
-length-zeros n = length-replicate n 0
-
-length-ofBlock : (g : List ℕ) (k x : ℕ) → length g ≡ 32 → length (blockBytes (R.blockRow g k x)) ≡ 40
-unfolding blockBytes
-length-ofBlock g k x l = omega (arith, length-append g (bytes4 k ++ (x ∷ 0 ∷ 0 ∷ 0 ∷ [])))
-
-pub wide-addrs : (l : List (AddressRow (Fixed 32))) → Wide (map addrBytes l)
-wide-addrs [] = tt
-wide-addrs (r ∷ rs) = (length-ofAddr (r .address) (r .fingerprint .0) (bit (r .dirty)) (r .fingerprint .1), wide-addrs rs)
-
-pub wide-used : (l : List (BlockRow (Fixed 32))) → Wide (map usedBytes l)
-wide-used [] = tt
-wide-used (u ∷ us) = (length-ofBlock (u .fingerprint .0) (u .slot) 1 (u .fingerprint .1), wide-used us)
-
-pub wide-free : (l : List ℕ) → Wide (map freeBytes l)
-wide-free [] = tt
-wide-free (k ∷ ks) = (length-ofBlock (zeros 32) k 0 (length-zeros 32), wide-free ks)
-
-pub wide-blocks : (free : List ℕ) (used : List (BlockRow (Fixed 32))) → Wide (map freeBytes free ++ map usedBytes used)
-wide-blocks free used = wide-append (map freeBytes free) (map usedBytes used) (wide-free free) (wide-used used)
-
 pub length-blocks : (free : List ℕ) (used : List (BlockRow (Fixed 32))) → length (map freeBytes free ++ map usedBytes used) ≡ length free + length used
 length-blocks free used = length-append (map freeBytes free) (map usedBytes used) ∙ ap₂ _+_ (length-map free freeBytes) (length-map used usedBytes)
 
-module _ (P m n : ℕ) (t : List ℕ) (l : List (AddressRow (Fixed 32))) (h : Addrs P m n t l) where
-  bytes-count : length (map addrBytes l) ≡ n
-  bytes-count = length-map l addrBytes ∙ h .count
+-- the rows of the two tables
+pub rows-addrs : (P m n : ℕ) (t : List ℕ) (l : List (AddressRow (Fixed 32))) → Addrs P m n t l → rows n t ≡ map addrBytes l
+unfolding addressesOf
+rows-addrs P m n t l h = ap (rows n) (h .is) ∙ held-rows m (map heldRow l) (held-wide l) n (length-map l heldRow ∙ h .count) ∙ map-map addressBytes heldRow l
 
-  pub rows-addrs : rows n t ≡ map addrBytes l
-  rows-addrs =
-      ap (rows n) (h .is ∙ addrs-flat m l)
-      ∙ ap (λ (k : ℕ). rows k (flat (map addrBytes l) ++ zeros ((m - length l) * 40))) (sym bytes-count)
-      ∙ rows-flat (map addrBytes l) (zeros ((m - length l) * 40)) (wide-addrs l)
-
-  pub rest-addrs : drop (n * 40) t ≡ zeros ((m - n) * 40)
-  rest-addrs =
-      ap (drop (n * 40)) (h .is ∙ addrs-flat m l)
-      ∙ ap (λ (k : ℕ). drop (k * 40) (flat (map addrBytes l) ++ zeros ((m - length l) * 40))) (sym bytes-count)
-      ∙ drop-flat (map addrBytes l) (zeros ((m - length l) * 40)) (wide-addrs l)
-      ∙ ap (λ (k : ℕ). zeros ((m - k) * 40)) (h .count)
-
-module _ (d : ℕ) (t : List ℕ) (free : List ℕ) (used : List (BlockRow (Fixed 32))) (h : Blocks d t free used) where
-  pub rows-blocks : rows d t ≡ map freeBytes free ++ map usedBytes used
-  rows-blocks =
-      ap (rows d) (h .is ∙ blocks-flat free used)
-      ∙ rows-whole d (map freeBytes free ++ map usedBytes used) (wide-blocks free used) (length-blocks free used ∙ h .count)
+pub rows-blocks : (d : ℕ) (t : List ℕ) (free : List ℕ) (used : List (BlockRow (Fixed 32))) → Blocks d t free used → rows d t ≡ map freeBytes free ++ map usedBytes used
+unfolding blocksOf
+rows-blocks d t free used h =
+    ap (rows d) (h .is) ∙ block-rows (tableRows free used) (table-wide free used) d (table-length free used ∙ h .count)
+    ∙ map-++ blockBytes (map freeRow free) (map usedRow used) ∙ ap₂ {C = List (List ℕ)} _++_ (map-map blockBytes freeRow free) (map-map blockBytes usedRow used)
 
 -- ---- searches
 
@@ -122,32 +80,26 @@ same-is (a ∷ x) [] = refl
 same-is (a ∷ x) (b ∷ y) = ap₂ {C = Bool} _&&_ (eqb-comm a b) (same-is x y)
 
 has-addr : (a P : ℕ) → P ≤ 65536 → (r : AddressRow (Fixed 32)) → r .address < P → hasAddress a (addrBytes r) ≡ eqb a (r .address)
-has-addr a P hp r h = ap (λ (k : ℕ). eqb k a) (le4-ofAddr (r .address) (r .fingerprint .0) (bit (r .dirty)) (omega arith)) ∙ eqb-comm (r .address) a
+has-addr a P hp r h = ap (λ (k : ℕ). eqb k a) (address-address (heldRow r) (omega arith)) ∙ eqb-comm (r .address) a
 
-pub fp-of : (r : AddressRow (Fixed 32)) → take 32 (drop 4 (addrBytes r)) ≡ r .fingerprint .0
-unfolding addressBytes
-fp-of r = take-at (r .fingerprint .0) (bit (r .dirty) ∷ 0 ∷ 0 ∷ 0 ∷ []) 32 (r .fingerprint .1)
+pub fp-of : (r : AddressRow (Fixed 32)) → readAddress (addrBytes r) .fingerprint ≡ r .fingerprint .0
+fp-of r = address-print (heldRow r) (r .fingerprint .1)
 
 pub has-fp : (g : List ℕ) (f : Fixed 32) → f .0 ≡ g → (r : AddressRow (Fixed 32)) → hasFingerprint g (addrBytes r) ≡ engine 0 .same f (r .fingerprint)
 has-fp g f e r = ap (λ (x : List ℕ). same x g) (fp-of r) ∙ same-is (r .fingerprint .0) g ∙ ap (λ (x : List ℕ). same x (r .fingerprint .0)) (sym e)
 
-pub fp-used : (u : BlockRow (Fixed 32)) → take 32 (usedBytes u) ≡ u .fingerprint .0
-unfolding blockBytes
-fp-used u = take-at (u .fingerprint .0) (bytes4 (u .slot) ++ (1 ∷ 0 ∷ 0 ∷ 0 ∷ [])) 32 (u .fingerprint .1)
+pub fp-used : (u : BlockRow (Fixed 32)) → readBlock (usedBytes u) .fingerprint ≡ u .fingerprint .0
+fp-used u = block-print (usedRow u) (u .fingerprint .1)
 
-flag-block : (g : List ℕ) (k x : ℕ) → length g ≡ 32 → getD (blockBytes (R.blockRow g k x)) 36 0 ≡ x
-unfolding blockBytes
-flag-block g k x l = off g (bytes4 k ++ (x ∷ 0 ∷ 0 ∷ 0 ∷ [])) 4 l
+pub flag-used : (u : BlockRow (Fixed 32)) → readBlock (usedBytes u) .used ≡ 1
+flag-used u = block-used (usedRow u) (u .fingerprint .1)
 
-pub flag-used : (u : BlockRow (Fixed 32)) → getD (usedBytes u) 36 0 ≡ 1
-flag-used u = flag-block (u .fingerprint .0) (u .slot) 1 (u .fingerprint .1)
-
-pub flag-free : (k : ℕ) → getD (freeBytes k) 36 0 ≡ 0
-flag-free k = flag-block (zeros 32) k 0 (length-zeros 32)
+pub flag-free : (k : ℕ) → readBlock (freeBytes k) .used ≡ 0
+flag-free k = block-used (freeRow k) (length-zeros 32)
 
 has-used : (g : List ℕ) (f : Fixed 32) → f .0 ≡ g → (u : BlockRow (Fixed 32)) → caches g (usedBytes u) ≡ engine 0 .same f (u .fingerprint)
 has-used g f e u =
-    ap (λ (k : ℕ). eqb k 1 && same (take 32 (usedBytes u)) g) (flag-used u)
+    ap (λ (k : ℕ). eqb k 1 && same (readBlock (usedBytes u) .fingerprint) g) (flag-used u)
     ∙ ap (λ (x : List ℕ). same x g) (fp-used u) ∙ same-is (u .fingerprint .0) g ∙ ap (λ (x : List ℕ). same x (u .fingerprint .0)) (sym e)
 
 abbrev pub isAt : Found → Bool
@@ -168,7 +120,7 @@ used-has g q eq j l = found-has (engine 0 .same) (λ u. u .fingerprint) q (cache
 
 none-free : (g : List ℕ) (l : List ℕ) → All (λ x. caches g x ≡ false) (map freeBytes l)
 none-free g [] = tt
-none-free g (k ∷ ks) = (ap (λ (n : ℕ). eqb n 1 && same (take 32 (freeBytes k)) g) (flag-free k), none-free g ks)
+none-free g (k ∷ ks) = (ap (λ (n : ℕ). eqb n 1 && same (readBlock (freeBytes k) .fingerprint) g) (flag-free k), none-free g ks)
 
 pub all-any : {A : Type 0} (l : List A) → All (λ x. Unit {0}) l
 all-any [] = tt

@@ -1,32 +1,35 @@
 // Blocks of dirty rows copied to the disk, and the rows made clean.
 use crate::BoxRecord;
+use crate::rows;
 use tables::FlashSlot;
+use tables::find;
+use tables::row;
 ghost use mathlib.Core.Path.{_≡_};
 ghost use mathlib.Core.Bool.{true};
 ghost use mathlib.Core.List.{List};
-ghost use Prim.Native.Nat.{ℕ, _*_, _<_, _≤_};
+ghost use Prim.Native.Nat.{ℕ, _<_, _≤_};
 ghost use lib.ListN.{length, getD};
 ghost use Rattle.paper.specs.Cache.{BlockRow, Box, slotOf};
 ghost use Rattle.paper.specs.Engine.{Fixed, engine};
 ghost use Rattle.paper.specs.Layout.{Blocks};
 ghost use Rattle.parts.specs.Rep.{Rep, Lent, LentWith, noRow, copiedRow, copiedRows};
 ghost use Rattle.parts.specs.Asked.{slotIn, Placed};
-use crate::rows;
+ghost use Rattle.tables.specs.Rows.{tableBytes};
 
 // The slot of the block row at `place` among `d`, 0 where there is none.
 pub fn slot_in(t: &[u8], d: usize, place: usize) -> FlashSlot
-    requires { ⌜ length (now t) ≡ d * 40 ⌝ }
+    requires { ⌜ length (now t) ≡ tableBytes d ⌝ }
     ensures { λ r. ⌜ r .0 ≡ slotIn (now (t .entry)) d place ⌝ }
 {
     if d <= place {
         return FlashSlot(0);
     }
-    tables::find::slot_at(t, place)
+    row::slot_at(t, place)
 }
 
 // The slot of the fingerprint `g`, 0 where it is not cached.
 pub fn slot_for(t: &[u8], d: usize, g: &[u8]) -> FlashSlot
-    requires { ⌜ (length (now t) ≡ d * 40) × (length (now g) ≡ 32) ⌝ }
+    requires { ⌜ (length (now t) ≡ tableBytes d) × (length (now g) ≡ 32) ⌝ }
     ensures { λ r. ⌜ ((B : ℕ) (free : List ℕ) (used : List (BlockRow (Fixed 32))) (f : Fixed 32) → Blocks d (now (t .entry)) free used → f .0 ≡ now (g .entry) → r .0 ≡ slotOf (engine B) f used) ⌝ }
 {
     slot_in(t, d, rows::place_of(t, d, g))
@@ -42,18 +45,18 @@ pub fn copy_row(
     blocks: &[u8],
     slot: FlashSlot,
 ) -> usize
-    requires { ⌜ (i < b .held) × (slot .0 < b .slots) × (b .held ≤ b .rows) × (length (now addrs) ≡ b .rows * 40) ⌝ }
+    requires { ⌜ (i < b .held) × (slot .0 < b .slots) × (b .held ≤ b .rows) × (length (now addrs) ≡ tableBytes (b .rows)) ⌝ }
     requires { ⌜ Lent b (now disk) (now flash) (now addrs) (now blocks) ⌝ }
     ensures { λ r. ⌜ r ≤ 1 ⌝ }
     ensures { λ r. ⌜ ((s : Box (Fixed 32) (Fixed (b .size))) → Rep b (now (disk .entry)) (now (flash .entry)) (now (addrs .entry)) (now (blocks .entry)) s
         → slotOf (engine (b .size)) (getD (s .rows) i noRow .fingerprint) (s .used) ≡ slot .0
         → record { count = r; disk = now (disk .exit); addrs = now (addrs .exit) } ≡ copiedRow b (λ f. true) s i) ⌝ }
 {
-    if !tables::find::flag_at(addrs, i) {
+    if !row::is_dirty(addrs, i) {
         return 0;
     }
     let k = slot.0;
-    let x = tables::find::address_at(addrs, i);
+    let x = row::address_at(addrs, i);
     let a = x.0;
     block::copy_block(flash, k as usize, disk, a as usize, b.size);
     tables::put::set_clean(addrs, i);
@@ -69,18 +72,16 @@ pub fn flush_row(
     addrs: &mut [u8],
     blocks: &[u8],
 ) -> usize
-    requires { ⌜ (i < b .held) × (0 < b .slots) × (b .held ≤ b .rows) × (length (now addrs) ≡ b .rows * 40) × (length (now blocks) ≡ b .slots * 40) ⌝ }
+    requires { ⌜ (i < b .held) × (0 < b .slots) × (b .held ≤ b .rows) × (length (now addrs) ≡ tableBytes (b .rows)) × (length (now blocks) ≡ tableBytes (b .slots)) ⌝ }
     requires { ⌜ Lent b (now disk) (now flash) (now addrs) (now blocks) ⌝ }
     ensures { λ r. ⌜ r ≤ 1 ⌝ }
     ensures { λ r. ⌜ ((s : Box (Fixed 32) (Fixed (b .size))) → Rep b (now (disk .entry)) (now (flash .entry)) (now (addrs .entry)) (now (blocks .entry)) s
         → record { count = r; disk = now (disk .exit); addrs = now (addrs .exit) } ≡ copiedRow b (λ f. true) s i) ⌝ }
 {
-    if !tables::find::flag_at(addrs, i) {
+    if !row::is_dirty(addrs, i) {
         return 0;
     }
-    let at = i * 40 + 4;
-    let end = at + 32;
-    let slot = slot_for(blocks, b.slots, &addrs[at..end]);
+    let slot = slot_for(blocks, b.slots, row::address_fingerprint(addrs, i));
     copy_row(b, i, disk, flash, addrs, blocks, slot)
 }
 
@@ -95,17 +96,17 @@ pub fn clean_row(
     g: &[u8],
     slot: FlashSlot,
 ) -> usize
-    requires { ⌜ (i < b .held) × (slot .0 < b .slots) × (length (now g) ≡ 32) × (b .held ≤ b .rows) × (length (now addrs) ≡ b .rows * 40) ⌝ }
+    requires { ⌜ (i < b .held) × (slot .0 < b .slots) × (length (now g) ≡ 32) × (b .held ≤ b .rows) × (length (now addrs) ≡ tableBytes (b .rows)) ⌝ }
     requires { ⌜ Lent b (now disk) (now flash) (now addrs) (now blocks) ⌝ }
     ensures { λ r. ⌜ r ≤ 1 ⌝ }
     ensures { λ r. ⌜ ((s : Box (Fixed 32) (Fixed (b .size))) → Rep b (now (disk .entry)) (now (flash .entry)) (now (addrs .entry)) (now (blocks .entry)) s
         → (v : Fixed 32) → v .0 ≡ now (g .entry) → slotOf (engine (b .size)) v (s .used) ≡ slot .0
         → record { count = r; disk = now (disk .exit); addrs = now (addrs .exit) } ≡ copiedRow b (engine (b .size) .same v) s i) ⌝ }
 {
-    if !tables::find::flag_at(addrs, i) {
+    if !row::is_dirty(addrs, i) {
         return 0;
     }
-    if !tables::find::fingerprint_is(addrs, i, g) {
+    if !find::fingerprint_is(addrs, i, g) {
         return 0;
     }
     copy_row(b, i, disk, flash, addrs, blocks, slot)
@@ -120,7 +121,7 @@ pub fn flush_rows(
     blocks: &[u8],
     places: &[u16],
 ) -> usize
-    requires { ⌜ (0 < b .slots) × (b .slots ≤ 256) × (b .held ≤ b .rows) × (length (now addrs) ≡ b .rows * 40) × (length (now blocks) ≡ b .slots * 40) × (b .held ≤ length (now places)) ⌝ }
+    requires { ⌜ (0 < b .slots) × (b .slots ≤ 256) × (b .held ≤ b .rows) × (length (now addrs) ≡ tableBytes (b .rows)) × (length (now blocks) ≡ tableBytes (b .slots)) × (b .held ≤ length (now places)) ⌝ }
     requires { ⌜ Lent b (now disk) (now flash) (now addrs) (now blocks) ⌝ }
     requires { ⌜ Placed (b .held) (b .slots) (now addrs) (now blocks) (now places) ⌝ }
     ensures { λ r. ⌜ r ≤ b .held ⌝ }
@@ -147,7 +148,7 @@ pub fn clean_rows(
     g: &[u8],
     slot: FlashSlot,
 ) -> usize
-    requires { ⌜ (slot .0 < b .slots) × (length (now g) ≡ 32) × (b .held ≤ b .rows) × (length (now addrs) ≡ b .rows * 40) ⌝ }
+    requires { ⌜ (slot .0 < b .slots) × (length (now g) ≡ 32) × (b .held ≤ b .rows) × (length (now addrs) ≡ tableBytes (b .rows)) ⌝ }
     requires { ⌜ LentWith b (now disk) (now flash) (now addrs) (now blocks) (now g) (slot .0) ⌝ }
     ensures { λ r. ⌜ r ≤ b .held ⌝ }
     ensures { λ r. ⌜ ((s : Box (Fixed 32) (Fixed (b .size))) → Rep b (now (disk .entry)) (now (flash .entry)) (now (addrs .entry)) (now (blocks .entry)) s

@@ -2,14 +2,16 @@
 use crate::BoxRecord;
 use tables::Found;
 use tables::SourceAddress;
+use tables::find;
+use tables::row;
 ghost use mathlib.Core.Path.{_≡_};
 ghost use mathlib.Core.Bool.{true, not, cond};
 ghost use mathlib.Core.List.{List, []};
-ghost use Prim.Native.Nat.{ℕ, _+_, _*_, _<_, _≤_};
-ghost use lib.ListN.{length, take, drop, getD};
+ghost use Prim.Native.Nat.{ℕ, _+_, _<_, _≤_};
+ghost use lib.ListN.{length, take, getD};
 ghost use lib.Dec.{eqb, ltb};
-ghost use Rattle.tables.specs.Rows.{rowAt, rows};
-ghost use Rattle.tables.specs.Find.{every, findFrom, caches};
+ghost use Rattle.tables.specs.Rows.{rowAt, rows, tableBytes};
+ghost use Rattle.tables.specs.Find.{every, findFrom, caches, isDirty};
 ghost use Rattle.tables.specs.Index.{unique, code};
 ghost use Rattle.paper.specs.Cache.{AddressRow, BlockRow, known, someUncached};
 ghost use Rattle.paper.specs.Engine.{Fixed, engine};
@@ -18,13 +20,14 @@ ghost use Rattle.parts.specs.Rep.{noRow};
 ghost use Rattle.paper.specs.Index.{indexWhere};
 ghost use Rattle.paper.specs.Layout.{Addrs, Blocks};
 ghost use Rattle.parts.specs.Asked.{victimPlace, Placed, full};
+ghost use Rattle.tables.specs.Records.{readAddress};
 
 // The index of the row of `a` among `n` held rows.
 pub fn row_of(t: &[u8], n: usize, a: SourceAddress) -> usize
-    requires { ⌜ n * 40 ≤ length (now t) ⌝ }
+    requires { ⌜ tableBytes n ≤ length (now t) ⌝ }
     ensures { λ r. ⌜ ((P m : ℕ) (rows : List (AddressRow (Fixed 32))) → Addrs P m n (now (t .entry)) rows → r ≡ indexWhere (λ x. eqb (a .0) (x .address)) rows) ⌝ }
 {
-    match tables::find::find_address(t, n, a) {
+    match find::find_address(t, n, a) {
         Found::At(i) => i,
         Found::Nothing => n,
     }
@@ -32,10 +35,10 @@ pub fn row_of(t: &[u8], n: usize, a: SourceAddress) -> usize
 
 // Whether one of `n` held rows has the fingerprint `g`.
 pub fn knows(t: &[u8], n: usize, g: &[u8]) -> bool
-    requires { ⌜ (n * 40 ≤ length (now t)) × (length (now g) ≡ 32) ⌝ }
+    requires { ⌜ (tableBytes n ≤ length (now t)) × (length (now g) ≡ 32) ⌝ }
     ensures { λ r. ⌜ ((P m : ℕ) (rows : List (AddressRow (Fixed 32))) (f : Fixed 32) → Addrs P m n (now (t .entry)) rows → f .0 ≡ now (g .entry) → r ≡ known (engine 0) f rows) ⌝ }
 {
-    match tables::find::find_fingerprint(t, n, g) {
+    match find::find_fingerprint(t, n, g) {
         Found::At(_) => true,
         Found::Nothing => false,
     }
@@ -43,10 +46,10 @@ pub fn knows(t: &[u8], n: usize, g: &[u8]) -> bool
 
 // The place of the used row of `g` among `d` block rows.
 pub fn place_of(t: &[u8], d: usize, g: &[u8]) -> usize
-    requires { ⌜ (d * 40 ≤ length (now t)) × (length (now g) ≡ 32) ⌝ }
+    requires { ⌜ (tableBytes d ≤ length (now t)) × (length (now g) ≡ 32) ⌝ }
     ensures { λ r. ⌜ ((free : List ℕ) (used : List (BlockRow (Fixed 32))) (f : Fixed 32) → Blocks d (now (t .entry)) free used → f .0 ≡ now (g .entry) → r ≡ length free + indexWhere (λ u. engine 0 .same f (u .fingerprint)) used) ⌝ }
 {
-    match tables::find::find_cached(t, d, g) {
+    match find::find_cached(t, d, g) {
         Found::At(i) => i,
         Found::Nothing => d,
     }
@@ -54,10 +57,10 @@ pub fn place_of(t: &[u8], d: usize, g: &[u8]) -> usize
 
 // What `places` has for a row of `g`: the place of its block row among `d`, or 256.
 pub fn entry_of(t: &[u8], d: usize, g: &[u8]) -> u16
-    requires { ⌜ (d * 40 ≤ length (now t)) × (length (now g) ≡ 32) × (d ≤ 256) ⌝ }
+    requires { ⌜ (tableBytes d ≤ length (now t)) × (length (now g) ≡ 32) × (d ≤ 256) ⌝ }
     ensures { λ r. ⌜ r ≡ code (findFrom (caches (now (g .entry))) 0 (rows d (now (t .entry)))) ⌝ }
 {
-    match tables::find::find_cached(t, d, g) {
+    match find::find_cached(t, d, g) {
         Found::At(i) => i as u16,
         Found::Nothing => 256,
     }
@@ -74,7 +77,7 @@ pub fn uncached(addrs: &[u8], k: usize, blocks: &[u8], d: usize, places: &[u16])
 
 // The place of the first of `d` used block rows whose fingerprint none of `n` held rows has.
 pub fn unknown_place(addrs: &[u8], n: usize, blocks: &[u8], d: usize, places: &[u16]) -> usize
-    requires { ⌜ (length (now blocks) ≡ d * 40) × (d ≤ 256) × (n ≤ length (now places)) ⌝ }
+    requires { ⌜ (length (now blocks) ≡ tableBytes d) × (d ≤ 256) × (n ≤ length (now places)) ⌝ }
     requires { ⌜ every unique (rows d (now blocks)) ≡ true ⌝ }
     requires { ⌜ Placed n d (now addrs) (now blocks) (now places) ⌝ }
     ensures { λ r. ⌜ ((B P m : ℕ) (rows : List (AddressRow (Fixed 32))) (used : List (BlockRow (Fixed 32))) → Addrs P m n (now (addrs .entry)) rows → Blocks d (now (blocks .entry)) [] used → r ≡ indexWhere (λ u. not (known (engine B) (u .fingerprint) rows)) used) ⌝ }
@@ -87,13 +90,13 @@ pub fn unknown_place(addrs: &[u8], n: usize, blocks: &[u8], d: usize, places: &[
 
 // The place of the block row that step 4 takes.
 pub fn victim(addrs: &[u8], n: usize, blocks: &[u8], d: usize, places: &[u16]) -> usize
-    requires { ⌜ (length (now blocks) ≡ d * 40) × (0 < d) × (d ≤ 256) × (n ≤ length (now places)) ⌝ }
+    requires { ⌜ (length (now blocks) ≡ tableBytes d) × (0 < d) × (d ≤ 256) × (n ≤ length (now places)) ⌝ }
     requires { ⌜ every unique (rows d (now blocks)) ≡ true ⌝ }
     requires { ⌜ (full (now blocks) ≡ true → Placed n d (now addrs) (now blocks) (now places)) ⌝ }
     ensures { λ r. ⌜ r < d ⌝ }
     ensures { λ r. ⌜ ((B P m : ℕ) (rows : List (AddressRow (Fixed 32))) (free : List ℕ) (used : List (BlockRow (Fixed 32))) → Addrs P m n (now (addrs .entry)) rows → Blocks d (now (blocks .entry)) free used → r ≡ victimPlace B rows free used) ⌝ }
 {
-    if !tables::find::flag_at(blocks, 0) {
+    if !row::is_used(blocks, 0) {
         return 0;
     }
     let j = unknown_place(addrs, n, blocks, d, places);
@@ -105,22 +108,20 @@ pub fn victim(addrs: &[u8], n: usize, blocks: &[u8], d: usize, places: &[u16]) -
 
 // The fingerprint in row `i`.
 pub fn fp_at(t: &[u8], i: usize) -> [u8; 32]
-    requires { ⌜ i * 40 + 40 ≤ length (now t) ⌝ }
-    ensures { λ r. ⌜ (length r ≡ 32) × (r ≡ take 32 (drop (i * 40 + 4) (now (t .entry)))) ⌝ }
+    requires { ⌜ tableBytes (i + 1) ≤ length (now t) ⌝ }
+    ensures { λ r. ⌜ (length r ≡ 32) × (r ≡ readAddress (rowAt (now (t .entry)) i) .fingerprint) ⌝ }
 {
     let mut g = [0u8; 32];
-    let at = i * 40 + 4;
-    let end = at + 32;
-    block::copy_all(&t[at..end], &mut g);
+    block::copy_all(row::address_fingerprint(t, i), &mut g);
     g
 }
 
 // The dirty byte of row `i`, as a number.
 pub fn dirty_at(t: &[u8], i: usize) -> u8
-    requires { ⌜ i * 40 + 40 ≤ length (now t) ⌝ }
-    ensures { λ r. ⌜ r ≡ bit (eqb (getD (rowAt (now (t .entry)) i) 36 0) 1) ⌝ }
+    requires { ⌜ tableBytes (i + 1) ≤ length (now t) ⌝ }
+    ensures { λ r. ⌜ r ≡ bit (isDirty (rowAt (now (t .entry)) i)) ⌝ }
 {
-    if tables::find::flag_at(t, i) {
+    if row::is_dirty(t, i) {
         return 1;
     }
     0
@@ -128,14 +129,12 @@ pub fn dirty_at(t: &[u8], i: usize) -> u8
 
 // The place of the block row of row `i`'s fingerprint, the count of block rows where there is no row `i` or it is not cached.
 pub fn place_of_row(b: BoxRecord, i: usize, addrs: &[u8], blocks: &[u8]) -> usize
-    requires { ⌜ (b .held ≤ b .rows) × (length (now addrs) ≡ b .rows * 40) × (length (now blocks) ≡ b .slots * 40) ⌝ }
+    requires { ⌜ (b .held ≤ b .rows) × (length (now addrs) ≡ tableBytes (b .rows)) × (length (now blocks) ≡ tableBytes (b .slots)) ⌝ }
     ensures { λ r. ⌜ ((P m : ℕ) (rows : List (AddressRow (Fixed 32))) (free : List ℕ) (used : List (BlockRow (Fixed 32))) → Addrs P m (b .held) (now (addrs .entry)) rows → Blocks (b .slots) (now (blocks .entry)) free used
         → r ≡ cond (ltb i (b .held)) (length free + indexWhere (λ u. engine 0 .same (getD rows i noRow .fingerprint) (u .fingerprint)) used) (b .slots)) ⌝ }
 {
     if i < b.held {
-        let at = i * 40 + 4;
-        let end = at + 32;
-        return place_of(blocks, b.slots, &addrs[at..end]);
+        return place_of(blocks, b.slots, row::address_fingerprint(addrs, i));
     }
     b.slots
 }

@@ -115,11 +115,11 @@ pub clear-new : (x : List ℕ) (rs : List (List ℕ)) (i : ℕ) → findFrom (ca
 clear-new x rs i e =
     all-removeAt (clear-of x) rs i (all-mono (λ s. not (caches (readBlock x .fingerprint) s)) (clear-of x) (turned x) rs (sym (absent-all (caches (readBlock x .fingerprint)) 0 rs) ∙ ap absent e))
 
-zeros-four : zeros 4 ≡ 0 ∷ 0 ∷ 0 ∷ 0 ∷ []
+pub zeros-four : zeros 4 ≡ 0 ∷ 0 ∷ 0 ∷ 0 ∷ []
 unfolding zeros
 zeros-four = refl
 
-zeros-three : zeros 3 ≡ 0 ∷ 0 ∷ 0 ∷ []
+pub zeros-three : zeros 3 ≡ 0 ∷ 0 ∷ 0 ∷ []
 unfolding zeros
 zeros-three = refl
 
@@ -225,11 +225,11 @@ unfolding blockBytes zeros readBlock
 free-words a zero h = refl
 free-words a (suc d) h = rw (le4-bytes4 a (omega arith), free-words (suc a) d (omega arith))
 
-free-wide : (a d : ℕ) → Wide (map blockBytes (map freeRow (slotsFrom a d)))
+pub free-wide : (a d : ℕ) → Wide (map blockBytes (map freeRow (slotsFrom a d)))
 free-wide a zero = tt
 free-wide a (suc d) = (free-length a, free-wide (suc a) d)
 
-free-count : (a d : ℕ) → length (map blockBytes (map freeRow (slotsFrom a d))) ≡ d
+pub free-count : (a d : ℕ) → length (map blockBytes (map freeRow (slotsFrom a d))) ≡ d
 free-count a zero = refl
 free-count a (suc d) = ap suc (free-count (suc a) d)
 

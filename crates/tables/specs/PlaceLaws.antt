@@ -24,7 +24,7 @@ unfolding placeIn
 place-hit rs r n = elim (findFrom (caches (readAddress r .fingerprint)) 0 rs) as (λ f. findFrom (caches (readAddress r .fingerprint)) 0 rs ≡ f → (code f ≡ 256 → ⊥) → Hit (caches (readAddress r .fingerprint)) rs [] (code f)) [ At i ↦ λ e m. found-at (caches (readAddress r .fingerprint)) rs [] i e | Nothing ↦ λ e m. absurd (m refl) ] refl n
 
 -- the numbers after a row is taken out, and after one is added
-map-take : {A B : Type 0} (f : A → B) (k : ℕ) (xs : List A) → take k (map f xs) ≡ map f (take k xs)
+pub map-take : {A B : Type 0} (f : A → B) (k : ℕ) (xs : List A) → take k (map f xs) ≡ map f (take k xs)
 map-take f zero xs = refl
 map-take f (suc k) [] = refl
 map-take f (suc k) (x ∷ xs) = ap (λ l. f x ∷ l) (map-take f k xs)

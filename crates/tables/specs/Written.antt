@@ -1,7 +1,7 @@
 -- For the crates above, which do not open the layout: a row that is written and read back field by field, a table that is written from records and its rows,
 -- and what each operation makes of it, as records. Assumes nothing.
 use mathlib.Core.Path.{_≡_, refl, sym, ap, ap₂, _∙_}
-use mathlib.Core.Bool.{true, cond, _&&_}
+use mathlib.Core.Bool.{true, false, cond, _&&_}
 use mathlib.Core.List.{List, [], _∷_, _++_, map}
 use Prim.Native.Nat.{ℕ, suc, zero, _+_, _-_, _*_, _^_, _≤_, _<_}
 use native.Mathlib.Omega.{arith}
@@ -17,9 +17,10 @@ use Rattle.tables.specs.Sound.{isZero, tailOk}
 use Rattle.tables.specs.Index.{rowOk}
 use Rattle.tables.specs.RowLaws.{rows-at, length-part}
 use Rattle.tables.specs.SoundLaws.{and-left, map-at}
-use Rattle.tables.specs.ShiftLaws.{length-zeros}
-use Rattle.tables.specs.OperationLaws.{Wide, rows-flat, length-flat, drop-flat, rows-whole, map-++, map-removeAt, map-set, length-removeAt, le4-bytes4, off, addr-forth, clean-rows, free-length}
+use Rattle.tables.specs.ShiftLaws.{length-zeros, length-freed}
+use Rattle.tables.specs.OperationLaws.{Wide, rows-flat, length-flat, drop-flat, rows-whole, map-++, map-removeAt, map-set, length-removeAt, le4-bytes4, off, clean-rows, block-freed}
 use Rattle.tables.specs.KeptLists.{both}
+use Rattle.tables.specs.KeptBlocks.{zeros-four, zeros-three, free-wide, free-count}
 
 -- ---- a row
 
@@ -193,14 +194,6 @@ slot-bytes : (r : BlockRow) → length (r .fingerprint) ≡ 32 → take 4 (drop 
 unfolding blockBytes
 slot-bytes r l = ap (take 4) (drop-at (r .fingerprint) (bytes4 (r .slot) ++ (r .used ∷ 0 ∷ 0 ∷ 0 ∷ [])) 32 l)
 
-zeros-four : zeros 4 ≡ 0 ∷ 0 ∷ 0 ∷ 0 ∷ []
-unfolding zeros
-zeros-four = refl
-
-zeros-three : zeros 3 ≡ 0 ∷ 0 ∷ 0 ∷ []
-unfolding zeros
-zeros-three = refl
-
 freed-bytes : (r : BlockRow) → length (r .fingerprint) ≡ 32 → freed (blockBytes r) ≡ blockBytes (freeRow (r .slot))
 unfolding freed blockBytes
 freed-bytes r l = ap₂ {C = List ℕ} (λ x y. zeros 32 ++ (x ++ y)) (slot-bytes r l) zeros-four
@@ -250,15 +243,15 @@ module _ (rs : List BlockRow) (w : Wide (map blockBytes rs)) (d : ℕ) (e : leng
       unfolding rowFilled
       blocks-filled g = last (filled g (getD (rows d (blockTable rs)) i [])) (blockRow g (getD rs i z .slot) 1) (ap (filled g) at ∙ filled-bytes g (getD rs i z) l)
 
+-- a row that is freed is the first, and free
+pub front-free : (d i : ℕ) (t : List ℕ) → length t ≡ tableBytes d → i < d → isUsed (rowAt (rowFreed d i t) 0) ≡ false
+unfolding rowFreed flat
+front-free d i t l h =
+    let r : List ℕ = getD (rows d t) i [] in
+    let w : length r ≡ rowBytes = ap length (rows-at d t i h) ∙ length-part t (i * 40) 40 (omega arith) in
+    ap isUsed (take-at (freed r) (flat (removeAt (rows d t) i)) 40 (length-freed r w)) ∙ ap (λ (x : BlockRow). eqb (x .used) 1) (block-freed r w)
+
 -- ---- fresh tables
-
-free-wide : (k d : ℕ) → Wide (map blockBytes (map freeRow (slotsFrom k d)))
-free-wide k zero = tt
-free-wide k (suc d) = (free-length k, free-wide (suc k) d)
-
-free-count : (k d : ℕ) → length (map freeRow (slotsFrom k d)) ≡ d
-free-count k zero = refl
-free-count k (suc d) = ap suc (free-count (suc k) d)
 
 pub fresh-addresses-length : (m : ℕ) → length (freshAddresses m) ≡ tableBytes m
 unfolding freshAddresses
@@ -266,4 +259,4 @@ fresh-addresses-length m = held-length m [] tt 0 refl (omega arith)
 
 pub fresh-blocks-length : (d : ℕ) → length (freshBlocks d) ≡ tableBytes d
 unfolding freshBlocks
-fresh-blocks-length d = blocks-length (map freeRow (slotsFrom 0 d)) (free-wide 0 d) d (free-count 0 d)
+fresh-blocks-length d = blocks-length (map freeRow (slotsFrom 0 d)) (free-wide 0 d) d (sym (length-map (map freeRow (slotsFrom 0 d)) blockBytes) ∙ free-count 0 d)

@@ -12,7 +12,7 @@ returns : tie.Need-returns
 returns c =
     let start = c .before .before .before .before .before .before .before in
     let a = start .args in
-    (omega arith, λ s h k. row-left (a .b) (a .disk .now) (a .flash .now) (a .addrs .now) (a .blocks .now) s h (λ f. true) (a .i) (start .pre .0 .0) (left-no _ true (sym (c .before .flag-at .ensures) ∙ not-true _ (c .if1 .taken))))
+    (omega arith, λ s h k. row-left (a .b) (a .disk .now) (a .flash .now) (a .addrs .now) (a .blocks .now) s h (λ f. true) (a .i) (start .pre .0 .0) (left-no _ true (sym (c .before .is-dirty .ensures) ∙ not-true _ (c .if1 .taken))))
 
 copy-block-requires : tie.Need-copy-block-requires
 copy-block-requires c κs =
@@ -30,7 +30,7 @@ returns-2 c =
       omega arith,
       λ s h k.
           rw (c .before .before .set-clean .ensures, at-copy-block .copy-block .ensures)
-          (row-copied (a .b) (a .disk .now) (a .flash .now) (a .addrs .now) (a .blocks .now) s h (λ f. true) (a .i) (start .pre .0 .0) (both-yes _ true (sym (at-if1 .before .flag-at .ensures) ∙ not-false _ (at-if1 .if1 .left)) refl)
+          (row-copied (a .b) (a .disk .now) (a .flash .now) (a .addrs .now) (a .blocks .now) s h (λ f. true) (a .i) (start .pre .0 .0) (both-yes _ true (sym (at-if1 .before .is-dirty .ensures) ∙ not-false _ (at-if1 .if1 .left)) refl)
           (at-address-at .address-at .result .0) (a .slot .0) (at-address-at .address-at .ensures) (sym k) (start .pre .0 .1)),
     )
 

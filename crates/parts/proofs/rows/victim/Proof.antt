@@ -11,27 +11,27 @@ unknown-place-requires : tie.Need-unknown-place-requires
 unknown-place-requires c κs =
     let at-flag-at = c .before in
     let start = at-flag-at .before .before .before .before in
-    (search needs, (start .pre .1 .0, start .pre .1 .1 (sym (at-flag-at .flag-at .ensures) ∙ not-false _ (c .if1 .left))))
+    (search needs, (start .pre .1 .0, start .pre .1 .1 (sym (at-flag-at .is-used .ensures) ∙ not-false _ (c .if1 .left))))
 
 returns : tie.Need-returns
 returns c =
     let start = c .before .before .before .before .before in
     let a = start .args in
-    (omega arith, λ B P m l free used h hb. victim-first B (a .d) (a .blocks .now) l used free hb (start .pre .0 .1) (sym (c .before .flag-at .ensures) ∙ not-true _ (c .if1 .taken)))
+    (omega arith, λ B P m l free used h hb. victim-first B (a .d) (a .blocks .now) l used free hb (start .pre .0 .1) (sym (c .before .is-used .ensures) ∙ not-true _ (c .if1 .taken)))
 
 returns-2 : tie.Need-returns-2
 returns-2 c =
     let at-flag-at = c .before .before .before in
     let start = at-flag-at .before .before .before .before in
     let a = start .args in
-    (omega arith, λ B P m l free used h hb. victim-yes B (a .d) (a .blocks .now) l used free hb (sym (at-flag-at .flag-at .ensures) ∙ not-false _ (c .before .before .if1 .left)) (c .before .unknown-place .result) (λ hb0. c .before .unknown-place .ensures B P m l used h hb0) (c .if2 .taken))
+    (omega arith, λ B P m l free used h hb. victim-yes B (a .d) (a .blocks .now) l used free hb (sym (at-flag-at .is-used .ensures) ∙ not-false _ (c .before .before .if1 .left)) (c .before .unknown-place .result) (λ hb0. c .before .unknown-place .ensures B P m l used h hb0) (c .if2 .taken))
 
 returns-3 : tie.Need-returns-3
 returns-3 c =
     let at-flag-at = c .before .before .before in
     let start = at-flag-at .before .before .before .before in
     let a = start .args in
-    (omega arith, λ B P m l free used h hb. victim-no B (a .d) (a .blocks .now) l used free hb (sym (at-flag-at .flag-at .ensures) ∙ not-false _ (c .before .before .if1 .left)) (c .before .unknown-place .result) (λ hb0. c .before .unknown-place .ensures B P m l used h hb0) (c .if2 .left))
+    (omega arith, λ B P m l free used h hb. victim-no B (a .d) (a .blocks .now) l used free hb (sym (at-flag-at .is-used .ensures) ∙ not-false _ (c .before .before .if1 .left)) (c .before .unknown-place .result) (λ hb0. c .before .unknown-place .ensures B P m l used h hb0) (c .if2 .left))
 
 pub victim-spec : {M : Type 1} → statement M
 victim-spec =
