@@ -1,14 +1,14 @@
 -- A row taken out and its block row freed, by what the code finds. Assumes nothing.
 use mathlib.Core.Path.{_≡_, refl, sym, ap, ap₂, _∙_}
 use mathlib.Core.Bool.{Bool, true, false, not}
-use mathlib.Core.List.{List, [], _∷_}
+use mathlib.Core.List.{List, _∷_}
 use mathlib.Core.Option.{Option, none, some}
-use Prim.Native.Nat.{ℕ, _≤_, _<_, _*_, _-_}
+use Prim.Native.Nat.{ℕ, _≤_, _<_, _-_}
 use lib.Dec.{eqb}
 use native.Mathlib.Omega.{arith}
-use lib.ListN.{length, getD, take, drop}
-use Rattle.tables.specs.Rows.{rows, flat, removeAt}
-use Rattle.tables.specs.Rows as T
+use lib.ListN.{length, getD}
+use Rattle.tables.specs.Rows.{rows, removeAt, rowAt}
+use Rattle.tables.specs.Operations.{rowFreed}
 use Rattle.tables.specs.OperationLaws.{length-removeAt}
 use Rattle.paper.specs.KeyedLaws.{Distinct, eqb→≡, all-without, without-absent}
 use Rattle.paper.specs.Cache.{AddressRow, BlockRow, withoutAddress, rowOf, known, cached, dropped, freed}
@@ -18,8 +18,9 @@ use Rattle.paper.specs.Layout.{Addrs, Blocks, addressesOf, blocksOf}
 use Rattle.parts.specs.Rep.{noRow}
 use Rattle.parts.specs.Asked.{noBlock}
 use Rattle.step.specs.Steps.{placeOf, blockBytes}
-use Rattle.parts.specs.MoveLaws.{used-part, fronted}
+use Rattle.parts.specs.MoveLaws.{used-fp, fronted}
 use Rattle.parts.specs.CopyLaws.{right-no}
+use Rattle.tables.specs.Records.{readBlock}
 
 -- the block row of the fingerprint q, by its place
 module _ (B d : ℕ) (t : List ℕ) (free : List ℕ) (used : List (BlockRow (Fixed 32))) (h : Blocks d t free used) (place : ℕ) (q : Fixed 32) (e : place ≡ placeOf (some q) free used) where
@@ -34,18 +35,18 @@ module _ (B d : ℕ) (t : List ℕ) (free : List ℕ) (used : List (BlockRow (Fi
     there = has-yes (engine 0 .same) (λ (u : BlockRow (Fixed 32)). u .fingerprint) q used below
 
     -- a row has the fingerprint whose bytes are there
-    pub known-as : (l : List (AddressRow (Fixed 32))) (v : Bool) (n : ℕ) → n ≡ 32 → ((f : Fixed 32) → f .0 ≡ take n (drop (place * 40) t) → v ≡ known (engine 0) f l) → known (engine B) q l ≡ v
-    known-as l v n en f =
+    pub known-as : (l : List (AddressRow (Fixed 32))) (v : Bool) (g : List ℕ) → g ≡ readBlock (rowAt t place) .fingerprint → ((f : Fixed 32) → f .0 ≡ g → v ≡ known (engine 0) f l) → known (engine B) q l ≡ v
+    known-as l v g eg f =
         let is : q ≡ getD used (indexWhere (λ (u : BlockRow (Fixed 32)). engine 0 .same q (u .fingerprint)) used) noBlock .fingerprint = engine 0 .same→≡ q (getD used (indexWhere (λ (u : BlockRow (Fixed 32)). engine 0 .same q (u .fingerprint)) used) noBlock .fingerprint) (index-holds (λ (u : BlockRow (Fixed 32)). engine 0 .same q (u .fingerprint)) used noBlock below) in
-        sym (f q (ap (λ (x : Fixed 32). x .0) is ∙ sym (used-part d t free used h (indexWhere (λ (u : BlockRow (Fixed 32)). engine 0 .same q (u .fingerprint)) used) below noBlock n (place * 40) en (ap (λ (x : ℕ). x * 40) e))))
+        sym (f q (ap (λ (x : Fixed 32). x .0) is ∙ sym (eg ∙ ap (λ (x : ℕ). readBlock (rowAt t x) .fingerprint) e ∙ used-fp d t free used h (indexWhere (λ (u : BlockRow (Fixed 32)). engine 0 .same q (u .fingerprint)) used) below noBlock)))
 
     -- it is freed
-    pub freed-at : Distinct (engine 0 .same) (λ u. u .fingerprint) used → flat (T.freed (getD (rows d t) place []) ∷ removeAt (rows d t) place) ≡ blockBytes (freed (engine B) q (record { free = free; used = used }))
+    pub freed-at : Distinct (engine 0 .same) (λ u. u .fingerprint) used → rowFreed d place t ≡ blockBytes (freed (engine B) q (record { free = free; used = used }))
     unfolding freed
     freed-at ds =
         let slot = slotOf-yes (engine B) q used noBlock below in
         let rest = without-yes (engine 0 .same) (λ (u : BlockRow (Fixed 32)). u .fingerprint) q (engine 0 .same→≡) used ds below in
-        ap (λ (x : ℕ). flat (T.freed (getD (rows d t) x []) ∷ removeAt (rows d t) x)) e ∙ fronted d t free used h (indexWhere (λ (u : BlockRow (Fixed 32)). engine 0 .same q (u .fingerprint)) used) below noBlock ∙ ap₂ {C = List ℕ} (λ x y. blocksOf (x ∷ free) y) (sym slot) (sym rest)
+        ap (λ (x : ℕ). rowFreed d x t) e ∙ fronted d t free used h (indexWhere (λ (u : BlockRow (Fixed 32)). engine 0 .same q (u .fingerprint)) used) below noBlock ∙ ap₂ {C = List ℕ} (λ x y. blocksOf (x ∷ free) y) (sym slot) (sym rest)
 
 -- write invalidate's block rows
 module _ (B d : ℕ) (t : List ℕ) (l : List (AddressRow (Fixed 32))) (free : List ℕ) (used : List (BlockRow (Fixed 32))) (h : Blocks d t free used) where

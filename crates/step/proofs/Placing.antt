@@ -1,20 +1,17 @@
--- The entries of `places` through steps 1 to 3: a row taken out, a row added, a block row freed. Assumes nothing.
+-- The entries of `places` through steps 1 and 2: a row taken out, a row added. Assumes nothing.
 use mathlib.Core.Path.{_≡_, sym, ap, _∙_}
 use mathlib.Core.Bool.{Bool, true, false}
 use mathlib.Core.List.{List, [], _∷_, _++_, map}
-use Prim.Native.Nat.{ℕ, _≤_, _<_, _*_, _-_}
+use Prim.Native.Nat.{ℕ, _≤_, _<_, _-_}
 use native.Mathlib.Omega.{arith}
 use lib.Dec.{eqb}
-use lib.ListN.{length, getD, take}
-use lib.Seq.{take-at}
+use lib.ListN.{length, take}
 use borrow.Author.Tests.{eq-eqb, ne-eqb}
-use Rattle.tables.specs.Rows.{rows, flat, removeAt, freed}
+use Rattle.tables.specs.Rows.{rows, removeAt}
 use Rattle.tables.specs.Records as R
 use Rattle.tables.specs.Find.{findFrom, caches}
 use Rattle.tables.specs.Index.{code, placeIn, Places}
-use Rattle.tables.specs.RowLaws.{rows-at, length-part}
-use Rattle.tables.specs.ShiftLaws.{length-freed}
-use Rattle.tables.specs.OperationLaws.{map-++, map-removeAt, block-freed}
+use Rattle.tables.specs.OperationLaws.{map-++, map-removeAt}
 use Rattle.tables.specs.PlaceLaws.{places-removed, places-pushed}
 use Rattle.paper.specs.KeyedLaws.{Distinct}
 use Rattle.paper.specs.Cache.{AddressRow, Box, held, newest, step1}
@@ -23,7 +20,6 @@ use Rattle.paper.specs.Index.{indexWhere, has-yes, has-no}
 use Rattle.paper.specs.Layout.{Addrs}
 use Rattle.parts.specs.declared.BoxRecord.{BoxRecord}
 use Rattle.parts.specs.Rep.{Rep}
-use Rattle.parts.specs.Asked.{full}
 use Rattle.parts.specs.TableLaws.{addrBytes, rows-addrs, fp-of}
 use Rattle.step.proofs.Dropping.{without-row}
 use Rattle.step.proofs.Stepping.{oldest-is}
@@ -69,11 +65,3 @@ module _ (P m n : ℕ) (t : List ℕ) (l : List (AddressRow (Fixed 32))) (h : Ad
 
   pub of-bytes : Places rs (map addrBytes l) ks → Places rs (rows n t) ks
   of-bytes q = q ∙ ap (map (placeIn rs)) (sym (rows-addrs P m n t l h))
-
--- step 3: a row freed is the first, and free
-pub front-free : (d i : ℕ) (t : List ℕ) → length t ≡ d * 40 → i < d → full (flat (freed (getD (rows d t) i []) ∷ removeAt (rows d t) i)) ≡ false
-unfolding flat
-front-free d i t l b =
-    let w : length (getD (rows d t) i []) ≡ 40 = ap length (rows-at d t i b) ∙ length-part t (i * 40) 40 (omega arith) in
-    ap (λ (x : List ℕ). eqb (getD x 36 0) 1) (take-at (freed (getD (rows d t) i [])) (flat (removeAt (rows d t) i)) 40 (length-freed (getD (rows d t) i []) w))
-    ∙ ap (λ (x : R.BlockRow). eqb (x .used) 1) (block-freed (getD (rows d t) i []) w)

@@ -3,17 +3,17 @@ use mathlib.Core.Path.{_≡_, refl, sym, ap, ap₂, _∙_}
 use mathlib.Core.Bool.{Bool, true, false, not, _&&_, cond}
 use mathlib.Core.List.{List, [], _∷_, _++_}
 use mathlib.Core.Option.{Option, none, some}
-use Prim.Native.Nat.{ℕ, suc, _≤_, _<_, _+_, _*_, _-_}
+use Prim.Native.Nat.{ℕ, suc, _≤_, _<_, _+_, _-_}
 use native.Mathlib.Nat.{zero-add}
 use native.Mathlib.Omega.{arith}
 use lib.Dec.{eqb}
 use lib.ListN.{length, getD, set, take, drop}
 use borrow.Author.Tests.{eq-eqb, ne-eqb}
 use Rattle.parts.specs.declared.BoxRecord.{BoxRecord}
-use Rattle.tables.specs.Rows.{rowAt, rows, flat, removeAt, filled}
-use Rattle.tables.specs.Rows as T
+use Rattle.tables.specs.Rows.{rowAt, rows, removeAt}
+use Rattle.tables.specs.Operations.{rowFreed, rowFilled}
 use Rattle.paper.specs.KeyedLaws.{All, by-test, clash, Distinct}
-use Rattle.paper.specs.Cache.{AddressRow, BlockRow, Box, blockRow, held, known, cached, someUncached, slotOf, copied, copies, cleaned, step1, oldestOut, step3, freed}
+use Rattle.paper.specs.Cache.{AddressRow, BlockRow, Box, blockRow, held, known, cached, someUncached, slotOf, copied, copies, cleaned, step1, oldestOut, step3}
 use Rattle.paper.specs.Engine.{Fixed, engine}
 use Rattle.paper.specs.Lent.{join}
 use Rattle.paper.specs.Index.{indexWhere, has-yes, has-no}
@@ -21,10 +21,12 @@ use Rattle.paper.specs.Layout.{Addrs, Blocks, addressesOf, blocksOf}
 use Rattle.parts.specs.Rep.{Rep, Copied, copiedRow, copiedRows, partBox, noRow, clean}
 use Rattle.parts.specs.Asked.{noBlock}
 use Rattle.step.specs.Steps.{placeOf, Out1, out1, blockBytes, Picked, pickedTaken}
-use Rattle.parts.specs.MoveLaws.{used-flag, first-flag, used-part, refilled, first-filled}
+use Rattle.parts.specs.MoveLaws.{used-flag, first-flag, used-fp, refilled, first-filled}
 use Rattle.step.proofs.Taking.{own-slot}
 use Rattle.parts.specs.CopyLaws.{right-no}
 use Rattle.step.proofs.Dropping.{not-there, there, known-as, freed-at, without-row, row-is, one-less}
+use Rattle.tables.specs.Records.{readBlock}
+use Rattle.tables.specs.Find.{isUsed}
 
 -- ---- step 1
 module _ (b : BoxRecord) (disk flash addrs blocks : List ℕ) (s : Box (Fixed 32) (Fixed (b .size))) (h : Rep b disk flash addrs blocks s) (a : ℕ) (i : ℕ) (e : i ≡ indexWhere (λ x. eqb a (x .address)) (s .rows)) where
@@ -123,17 +125,17 @@ module _ (B d : ℕ) (t : List ℕ) (others l : List (AddressRow (Fixed 32))) (f
   gone-cached (some q) f = rw (right-no (cached (engine B) q used && not (known (engine B) q l)) (someUncached (engine B) others used) f) (h .is)
 
   -- q's row is there: what is known of its bytes
-  module _ (v : Bool) (n : ℕ) (en : n ≡ 32) (f : (q : Fixed 32) → q .0 ≡ take n (drop (place * 40) t) → v ≡ known (engine 0) q l) (b : place < d) where
+  module _ (v : Bool) (g : List ℕ) (eg : g ≡ readBlock (rowAt t place) .fingerprint) (f : (q : Fixed 32) → q .0 ≡ g → v ≡ known (engine 0) q l) (b : place < d) where
     pub gone-known : (gone : Option (Fixed 32)) → place ≡ placeOf gone free used → v ≡ true → t ≡ blockBytes (step3 (engine B) gone others l (record { free = free; used = used }))
     unfolding step3
     gone-known none e y = absurd (omega (arith, e, h .count))
-    gone-known (some q) e y = rw (there B d t free used h place q e b, known-as B d t free used h place q e b l v n en f ∙ y) (h .is)
+    gone-known (some q) e y = rw (there B d t free used h place q e b, known-as B d t free used h place q e b l v g eg f ∙ y) (h .is)
 
     pub gone-freed : (gone : Option (Fixed 32)) → place ≡ placeOf gone free used → v ≡ false → Distinct (engine 0 .same) (λ u. u .fingerprint) used → someUncached (engine B) others used ≡ true
-        → flat (T.freed (getD (rows d t) place []) ∷ removeAt (rows d t) place) ≡ blockBytes (step3 (engine B) gone others l (record { free = free; used = used }))
+        → rowFreed d place t ≡ blockBytes (step3 (engine B) gone others l (record { free = free; used = used }))
     unfolding step3
-    gone-freed none e y ds g = absurd (omega (arith, e, h .count))
-    gone-freed (some q) e y ds g = rw (there B d t free used h place q e b, known-as B d t free used h place q e b l v n en f ∙ y, g) (freed-at B d t free used h place q e b ds)
+    gone-freed none e y ds u = absurd (omega (arith, e, h .count))
+    gone-freed (some q) e y ds u = rw (there B d t free used h place q e b, known-as B d t free used h place q e b l v g eg f ∙ y, u) (freed-at B d t free used h place q e b ds)
 
 -- ---- step 4
 none-cleaned : (B : ℕ) (l : List (AddressRow (Fixed 32))) → cleaned (engine B) (λ f. false) l ≡ l
@@ -154,35 +156,35 @@ none-lost b disk flash addrs blocks s h n =
     let r : cleaned (engine (b .size)) (λ f. false) (take n (s .rows)) ++ drop n (s .rows) ≡ s .rows = ap (λ (x : List (AddressRow (Fixed 32))). x ++ drop n (s .rows)) (none-cleaned (b .size) (take n (s .rows))) ∙ lib.ListN.take-append-drop n (s .rows) in
     λ j. record { count = sym (none-copies (b .size) (take n (s .rows))) j; disk = (h .disk-is .is ∙ ap join (sym (none-copied {B = b .size} (take n (s .rows)) (s .used) (s .flash) (s .disk)))) j; addrs = (h .rows-are .is ∙ ap (addressesOf (b .rows)) (sym r)) j }
 
-flag-at : (t i j : ℕ) (x : List ℕ) → i ≡ j → (c : Bool) → eqb (getD (rowAt x i) 36 0) 1 ≡ c → eqb (getD (rowAt x j) 36 0) 1 ≡ c
-flag-at t i j x e c q = ap (λ (k : ℕ). eqb (getD (rowAt x k) 36 0) 1) (sym e) ∙ q
+flag-at : (t i j : ℕ) (x : List ℕ) → i ≡ j → (c : Bool) → isUsed (rowAt x i) ≡ c → isUsed (rowAt x j) ≡ c
+flag-at t i j x e c q = ap (λ (k : ℕ). isUsed (rowAt x k)) (sym e) ∙ q
 
 -- the row at t is free, or it is used
-pub picked-free : (d : ℕ) (bt : List ℕ) (free : List ℕ) (used : List (BlockRow (Fixed 32))) (t : ℕ) → Blocks d bt free used → Picked free used t → eqb (getD (rowAt bt t) 36 0) 1 ≡ false → pickedTaken free used t .lost ≡ none
+pub picked-free : (d : ℕ) (bt : List ℕ) (free : List ℕ) (used : List (BlockRow (Fixed 32))) (t : ℕ) → Blocks d bt free used → Picked free used t → isUsed (rowAt bt t) ≡ false → pickedTaken free used t .lost ≡ none
 unfolding pickedTaken
 picked-free d bt (k ∷ free) used t h p e = refl
 picked-free d bt [] used t h p e = clash (flag-at 0 (0 + t) t bt (zero-add t) true (used-flag d bt [] used h t p noBlock)) e
 
 pub record Used (B : ℕ) (bt : List ℕ) (free : List ℕ) (used : List (BlockRow (Fixed 32))) (t : ℕ) : Type 0 where
   pub lost : pickedTaken free used t .lost ≡ some (getD used t noBlock .fingerprint)
-  pub bytes : (n : ℕ) → n ≡ 32 → getD used t noBlock .fingerprint .0 ≡ take n (drop (t * 40) bt)
+  pub bytes : getD used t noBlock .fingerprint .0 ≡ readBlock (rowAt bt t) .fingerprint
   pub slot : slotOf (engine B) (getD used t noBlock .fingerprint) used ≡ pickedTaken free used t .slot
 
-pub picked-used : (B d : ℕ) (bt : List ℕ) (free : List ℕ) (used : List (BlockRow (Fixed 32))) (t : ℕ) → Blocks d bt free used → Distinct (engine 0 .same) (λ u. u .fingerprint) used → Picked free used t → eqb (getD (rowAt bt t) 36 0) 1 ≡ true → Used B bt free used t
+pub picked-used : (B d : ℕ) (bt : List ℕ) (free : List ℕ) (used : List (BlockRow (Fixed 32))) (t : ℕ) → Blocks d bt free used → Distinct (engine 0 .same) (λ u. u .fingerprint) used → Picked free used t → isUsed (rowAt bt t) ≡ true → Used B bt free used t
 unfolding pickedTaken
 picked-used B d bt (k ∷ free) used t h ds p e = clash (flag-at 0 t 0 bt p true e) (first-flag d bt k free used h)
 picked-used B d bt [] used t h ds p e =
     record {
       lost = refl;
-      bytes = λ n en. sym (used-part d bt [] used h t p noBlock n (t * 40) en (ap (λ (k : ℕ). k * 40) (sym (zero-add t))));
+      bytes = sym (used-fp d bt [] used h t p noBlock) ∙ ap (λ (k : ℕ). readBlock (rowAt bt k) .fingerprint) (zero-add t);
       slot = own-slot B used t ds p;
     }
 
 -- fill
 pub filled-at : (d : ℕ) (bt : List ℕ) (free : List ℕ) (used : List (BlockRow (Fixed 32))) (t k : ℕ) (f : Fixed 32) → Blocks d bt free used → Picked free used t → k ≡ pickedTaken free used t .slot
-    → flat (removeAt (rows d bt) t ++ (filled (f .0) (getD (rows d bt) t []) ∷ [])) ≡ blocksOf (pickedTaken free used t .free) (pickedTaken free used t .used ++ (blockRow f k ∷ []))
+    → rowFilled d t (f .0) bt ≡ blocksOf (pickedTaken free used t .free) (pickedTaken free used t .used ++ (blockRow f k ∷ []))
 unfolding pickedTaken
 filled-at d bt (x ∷ free) used t k f h p e =
-    ap (λ (i : ℕ). flat (removeAt (rows d bt) i ++ (filled (f .0) (getD (rows d bt) i []) ∷ []))) p ∙ first-filled d bt x free used h f ∙ ap (λ (j : ℕ). blocksOf free (used ++ (blockRow f j ∷ []))) (sym e)
+    ap (λ (i : ℕ). rowFilled d i (f .0) bt) p ∙ first-filled d bt x free used h f ∙ ap (λ (j : ℕ). blocksOf free (used ++ (blockRow f j ∷ []))) (sym e)
 filled-at d bt [] used t k f h p e =
-    ap (λ (i : ℕ). flat (removeAt (rows d bt) i ++ (filled (f .0) (getD (rows d bt) i []) ∷ []))) (sym (zero-add t)) ∙ refilled d bt [] used h t p noBlock f ∙ ap (λ (j : ℕ). blocksOf [] ((take t used ++ drop (suc t) used) ++ (blockRow f j ∷ []))) (sym e)
+    ap (λ (i : ℕ). rowFilled d i (f .0) bt) (sym (zero-add t)) ∙ refilled d bt [] used h t p noBlock f ∙ ap (λ (j : ℕ). blocksOf [] ((take t used ++ drop (suc t) used) ++ (blockRow f j ∷ []))) (sym e)

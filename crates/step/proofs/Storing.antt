@@ -8,7 +8,7 @@ use native.Mathlib.Omega.{arith}
 use lib.ListN.{length, getD, set, take, drop, drop-of-length-le}
 use lib.Seq.{take-all}
 use Rattle.parts.specs.declared.BoxRecord.{BoxRecord}
-use Rattle.tables.specs.Rows.{rowAt, rows, flat, removeAt, le4}
+use Rattle.tables.specs.Rows.{rowAt, rows, removeAt}
 use Rattle.paper.specs.KeyedLaws.{Distinct}
 use Rattle.paper.specs.Cache.{AddressRow, BlockRow, Box, Taken, blockRow, withoutBlock, cached, slotOf, copied, copies, cleaned, isLost, taken, stored, step4}
 use Rattle.paper.specs.Engine.{Fixed, engine}
@@ -20,18 +20,20 @@ use Rattle.parts.specs.Asked.{noBlock, victimPlace}
 use Rattle.step.specs.Steps.{Picked, pickedTaken, Out4, out4}
 use Rattle.parts.specs.MoveLaws.{slot-is, slot-below, first-slot, renewed}
 use Rattle.step.proofs.Taking.{victim-picked, taken-is}
+use Rattle.tables.specs.Records.{readBlock}
+use Rattle.tables.specs.Operations.{rowNewest}
 
-picked-slot : (d : ℕ) (bt : List ℕ) (free : List ℕ) (used : List (BlockRow (Fixed 32))) (t : ℕ) → Blocks d bt free used → Picked free used t → le4 (rowAt bt t) 32 ≡ pickedTaken free used t .slot
+picked-slot : (d : ℕ) (bt : List ℕ) (free : List ℕ) (used : List (BlockRow (Fixed 32))) (t : ℕ) → Blocks d bt free used → Picked free used t → readBlock (rowAt bt t) .slot ≡ pickedTaken free used t .slot
 unfolding pickedTaken
-picked-slot d bt (k ∷ free) used t h p = ap (λ (i : ℕ). le4 (rowAt bt i) 32) p ∙ first-slot d bt k free used h
-picked-slot d bt [] used t h p = ap (λ (i : ℕ). le4 (rowAt bt i) 32) (sym (zero-add t)) ∙ slot-is d bt [] used h t p noBlock
+picked-slot d bt (k ∷ free) used t h p = ap (λ (i : ℕ). readBlock (rowAt bt i) .slot) p ∙ first-slot d bt k free used h
+picked-slot d bt [] used t h p = ap (λ (i : ℕ). readBlock (rowAt bt i) .slot) (sym (zero-add t)) ∙ slot-is d bt [] used h t p noBlock
 
 picked-below : (d : ℕ) (bt : List ℕ) (free : List ℕ) (used : List (BlockRow (Fixed 32))) (t : ℕ) → Blocks d bt free used → Picked free used t → pickedTaken free used t .slot < d
 unfolding pickedTaken
 picked-below d bt (k ∷ free) used t h p = h .free-below .0
 picked-below d bt [] used t h p = slot-below d bt [] used h t p noBlock
 
-module _ (b : BoxRecord) (disk flash addrs blocks : List ℕ) (s : Box (Fixed 32) (Fixed (b .size))) (h : Rep b disk flash addrs blocks s) (ds : Distinct (engine 0 .same) (λ u. u .fingerprint) (s .used)) (d0 : 0 < b .slots) (t k : ℕ) (et : t ≡ victimPlace (b .size) (s .rows) (s .free) (s .used)) (ek : k ≡ le4 (rowAt blocks t) 32) where
+module _ (b : BoxRecord) (disk flash addrs blocks : List ℕ) (s : Box (Fixed 32) (Fixed (b .size))) (h : Rep b disk flash addrs blocks s) (ds : Distinct (engine 0 .same) (λ u. u .fingerprint) (s .used)) (d0 : 0 < b .slots) (t k : ℕ) (et : t ≡ victimPlace (b .size) (s .rows) (s .free) (s .used)) (ek : k ≡ readBlock (rowAt blocks t) .slot) where
   pub at-picked : Picked (s .free) (s .used) t
   at-picked = subst (Picked (s .free) (s .used)) (sym et) (victim-picked (b .size) (b .slots) blocks (s .rows) (s .used) (s .free) (h .blocks-are) d0)
 
@@ -72,7 +74,7 @@ module _ (b : BoxRecord) (disk flash addrs blocks : List ℕ) (s : Box (Fixed 32
 
 -- step 4
 module _ (b : BoxRecord) (disk flash addrs blocks : List ℕ) (s : Box (Fixed 32) (Fixed (b .size))) (h : Rep b disk flash addrs blocks s) (f : Fixed 32) (x : Fixed (b .size)) (j : ℕ) (ej : j ≡ length (s .free) + indexWhere (λ u. engine 0 .same f (u .fingerprint)) (s .used)) where
-  pub step4-hit : Distinct (engine 0 .same) (λ u. u .fingerprint) (s .used) → j < b .slots → (blocks′ : List ℕ) → blocks′ ≡ flat (removeAt (rows (b .slots) blocks) j ++ (getD (rows (b .slots) blocks) j [] ∷ []))
+  pub step4-hit : Distinct (engine 0 .same) (λ u. u .fingerprint) (s .used) → j < b .slots → (blocks′ : List ℕ) → blocks′ ≡ rowNewest (b .slots) j blocks
       → _≡_ {A = Out4} (record { flashed = 0; primary = 0; disk = disk; flash = flash; addrs = addrs; blocks = blocks′ }) (out4 b (step4 (engine (b .size)) (s .rows) (record { free = s .free; used = s .used }) (s .flash) (s .disk) f x 0))
   unfolding out4 step4
   step4-hit ds l blocks′ eb =
@@ -84,7 +86,7 @@ module _ (b : BoxRecord) (disk flash addrs blocks : List ℕ) (s : Box (Fixed 32
       let ue : getD (s .used) i noBlock ≡ blockRow f (slotOf (engine (b .size)) f (s .used)) = λ n. record { fingerprint = fe n; slot = se n } in
       let wo : withoutBlock (engine (b .size)) f (s .used) ≡ removeAt (s .used) i = without-yes (engine 0 .same) (λ (u : BlockRow (Fixed 32)). u .fingerprint) f (engine 0 .same→≡) (s .used) ds ib in
       let e5 : blocks′ ≡ blocksOf (s .free) (withoutBlock (engine (b .size)) f (s .used) ++ (blockRow f (slotOf (engine (b .size)) f (s .used)) ∷ []))
-      = eb ∙ ap (λ (n : ℕ). flat (removeAt (rows (b .slots) blocks) n ++ (getD (rows (b .slots) blocks) n [] ∷ []))) ej ∙ renewed (b .slots) blocks (s .free) (s .used) (h .blocks-are) i ib noBlock
+      = eb ∙ ap (λ (n : ℕ). rowNewest (b .slots) n blocks) ej ∙ renewed (b .slots) blocks (s .free) (s .used) (h .blocks-are) i ib noBlock
       ∙ ap₂ {C = List ℕ} (λ u v. blocksOf (s .free) (u ++ (v ∷ []))) (sym wo) ue in
       rw y (λ n. record { flashed = 0; primary = 0; disk = h .disk-is .is n; flash = h .flash-is .is n; addrs = h .rows-are .is n; blocks = e5 n })
 

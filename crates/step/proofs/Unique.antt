@@ -3,7 +3,6 @@ use mathlib.Core.Path.{_≡_, refl, sym, ap, _∙_}
 use mathlib.Core.Bool.{true, not}
 use mathlib.Core.List.{List, [], _∷_, _++_, map}
 use Prim.Native.Nat.{ℕ}
-use lib.ListN.{take}
 use Rattle.tables.specs.Rows.{rows}
 use Rattle.tables.specs.Find.{every, findFrom, absent, caches}
 use Rattle.tables.specs.Index.{unique}
@@ -12,13 +11,14 @@ use Rattle.paper.specs.Cache.{BlockRow}
 use Rattle.paper.specs.Engine.{Fixed, engine}
 use Rattle.paper.specs.Layout.{Blocks}
 use Rattle.parts.specs.TableLaws.{usedBytes, freeBytes, rows-blocks, fp-used, flag-used, flag-free, absent-is, used-has}
+use Rattle.tables.specs.Records.{readBlock}
 
 -- no fingerprint is used twice
 unique-used : (l : List (BlockRow (Fixed 32))) → Distinct (engine 0 .same) (λ u. u .fingerprint) l → every unique (map usedBytes l) ≡ true
 unfolding every
 unique-used [] ds = refl
 unique-used (u ∷ l) ds =
-    let e : absent (findFrom (caches (take 32 (usedBytes u))) 0 (map usedBytes l)) ≡ true = absent-is (findFrom (caches (take 32 (usedBytes u))) 0 (map usedBytes l)) ∙ ap not (used-has (take 32 (usedBytes u)) (u .fingerprint) (sym (fp-used u)) 0 l ∙ ds .0) in
+    let e : absent (findFrom (caches (readBlock (usedBytes u) .fingerprint)) 0 (map usedBytes l)) ≡ true = absent-is (findFrom (caches (readBlock (usedBytes u) .fingerprint)) 0 (map usedBytes l)) ∙ ap not (used-has (readBlock (usedBytes u) .fingerprint) (u .fingerprint) (sym (fp-used u)) 0 l ∙ ds .0) in
     rw (flag-used u, e) (unique-used l (ds .1))
 
 unique-all : (free : List ℕ) (used : List (BlockRow (Fixed 32))) → Distinct (engine 0 .same) (λ u. u .fingerprint) used → every unique (map freeBytes free ++ map usedBytes used) ≡ true

@@ -3,15 +3,15 @@ use mathlib.Core.Path.{_≡_, refl, sym, ap, ap₂, _∙_}
 use mathlib.Core.Bool.{Bool, true}
 use mathlib.Core.List.{List, [], _∷_, _++_, map, List·Permᴰ, Permᴰ·symm}
 use mathlib.Core.Logic.{_⊎_, inl, inr}
-use Prim.Native.Nat.{ℕ, _≤_, _<_, _+_, _*_, _-_}
+use Prim.Native.Nat.{ℕ, _≤_, _<_, _+_, _-_}
 use native.Mathlib.Nat.{zero-add, add-zero}
 use native.Mathlib.Omega.{arith}
-use lib.ListN.{length, take, drop, length-append, length-map}
+use lib.ListN.{length, take, length-append, length-map}
 use lib.Seq.{take-at}
 use Rattle.tables.specs.Find.{findFrom, caches}
 use Rattle.tables.specs.Index.{code, Places}
 use Rattle.parts.specs.declared.BoxRecord.{BoxRecord}
-use Rattle.tables.specs.Rows.{rows, flat}
+use Rattle.tables.specs.Rows.{rows}
 use Rattle.tables.specs.Records.{addressRow, addressBytes, slotsFrom}
 use Rattle.paper.specs.KeyedLaws.{All, all-map, all-perm, all-append, by-test, Distinct, all-of-map, all-left, all-right}
 use Rattle.paper.specs.Cache.{AddressRow, BlockRow, BlockRows, Box, RowOut, Stepped, newest, blockRow, cached, withoutBlock, slotOf, step1, step3, step4, stored, taken, step, copies, isLost}
@@ -27,6 +27,7 @@ use Rattle.step.specs.Steps.{placeOf, Out1, out1, blockBytes, Out4, out4
 use Rattle.parts.specs.TableLaws.{addrBytes}
 use Rattle.parts.specs.MoveLaws.{pushed}
 use Rattle.step.proofs.Placing.{placed-added, of-rows, of-bytes}
+use Rattle.tables.specs.Operations.{rowAdded}
 
 -- block rows whose slots are 0 to d - 1
 pub blocks-from : (d : ℕ) (t : List ℕ) (free : List ℕ) (used : List (BlockRow (Fixed 32))) → List·Permᴰ (free ++ map (λ u. u .slot) used) (slotsFrom 0 d) → d ≤ 256 → t ≡ blocksOf free used → Blocks d t free used
@@ -57,7 +58,7 @@ step4-rows B l t fl di f x w = by-test (cached (engine B) f (t .used)) (λ e. rw
 
 module _ (b : BoxRecord) (disk flash addrs blocks : List ℕ) (s : Box (Fixed 32) (Fixed (b .size))) (h : Rep b disk flash addrs blocks s) (sd : Sure b s) (m1 : 0 < b .rows) (d1 : 0 < b .slots) (a : ℕ) (la : a < b .blocks) (f : Fixed 32) (w : Bool)
     (n place primary : ℕ) (disk₁ addrs₁ : List ℕ) (e₁ : _≡_ {A = Out1} (record { held = n; place = place; primary = primary; disk = disk₁; addrs = addrs₁ }) (out1 b s (step1 (engine (b .size)) (b .rows) s a)))
-    (addrs₂ : List ℕ) (e₂ : addrs₂ ≡ flat (rows n addrs₁ ++ (addressBytes (addressRow a (f .0) (bit w)) ∷ [])) ++ drop (n * 40 + 40) addrs₁) where
+    (addrs₂ : List ℕ) (e₂ : addrs₂ ≡ rowAdded n (addressBytes (addressRow a (f .0) (bit w))) addrs₁) where
   abbrev o : RowOut (Fixed 32) (Fixed (b .size))
   o = step1 (engine (b .size)) (b .rows) s a
 

@@ -4,16 +4,20 @@ use parts::copy;
 use parts::rows;
 use tables::FlashSlot;
 use tables::SourceAddress;
+use tables::put;
+use tables::row;
+use tables::shift;
 ghost use mathlib.Core.Path.{_≡_};
 ghost use mathlib.Core.Bool.{Bool, true};
 ghost use mathlib.Core.List.{List, [], _∷_, _++_, map};
 ghost use mathlib.Core.Option.{Option};
 ghost use Prim.Native.Nat.{ℕ, _+_, _*_, _-_, _<_, _≤_};
-ghost use lib.ListN.{length, getD, take, drop, set};
+ghost use lib.ListN.{length, getD, take, set};
 ghost use lib.Dec.{eqb};
-ghost use Rattle.tables.specs.Rows.{removeAt, rows, flat};
+ghost use Rattle.tables.specs.Rows.{tableBytes, removeAt, rows};
 ghost use Rattle.tables.specs.Records.{addressRow, addressBytes};
 ghost use Rattle.tables.specs.Find.{findFrom, caches};
+ghost use Rattle.tables.specs.Operations.{rowAdded};
 ghost use Rattle.tables.specs.Index.{Places, code};
 ghost use Rattle.paper.specs.KeyedLaws.{Distinct};
 ghost use Rattle.paper.specs.Index.{indexWhere};
@@ -35,14 +39,12 @@ pub struct Out {
 
 // Takes row `i` out. The place of its fingerprint's block row.
 pub fn take_row(b: BoxRecord, i: usize, addrs: &mut [u8], blocks: &[u8]) -> usize
-    requires { ⌜ (i < b .held) × (b .held ≤ b .rows) × (length (now addrs) ≡ b .rows * 40) × (length (now blocks) ≡ b .slots * 40) ⌝ }
+    requires { ⌜ (i < b .held) × (b .held ≤ b .rows) × (length (now addrs) ≡ tableBytes (b .rows)) × (length (now blocks) ≡ tableBytes (b .slots)) ⌝ }
     ensures { λ r. ⌜ ((rows : List (AddressRow (Fixed 32))) (free : List ℕ) (used : List (BlockRow (Fixed 32))) → Addrs (b .blocks) (b .rows) (b .held) (now (addrs .entry)) rows → Blocks (b .slots) (now (blocks .entry)) free used
         → (r ≡ placeOf (Option.some (getD rows i noRow .fingerprint)) free used) × (now (addrs .exit) ≡ addressesOf (b .rows) (removeAt rows i))) ⌝ }
 {
-    let at = i * 40 + 4;
-    let end = at + 32;
-    let place = rows::place_of(blocks, b.slots, &addrs[at..end]);
-    tables::shift::remove_row(addrs, b.held, i);
+    let place = rows::place_of(blocks, b.slots, row::address_fingerprint(addrs, i));
+    shift::remove_row(addrs, b.held, i);
     place
 }
 
@@ -56,7 +58,7 @@ pub fn step1(
     blocks: &[u8],
     places: &mut [u16],
 ) -> Out
-    requires { ⌜ (0 < b .rows) × (0 < b .slots) × (b .held ≤ b .rows) × (length (now addrs) ≡ b .rows * 40) × (length (now blocks) ≡ b .slots * 40) × (b .held ≤ length (now places)) ⌝ }
+    requires { ⌜ (0 < b .rows) × (0 < b .slots) × (b .held ≤ b .rows) × (length (now addrs) ≡ tableBytes (b .rows)) × (length (now blocks) ≡ tableBytes (b .slots)) × (b .held ≤ length (now places)) ⌝ }
     requires { ⌜ Lent b (now disk) (now flash) (now addrs) (now blocks) ⌝ }
     ensures { λ r. ⌜ (r .held < b .rows) × (r .primary ≤ 1) ⌝ }
     ensures { λ r. ⌜ ((s : Box (Fixed 32) (Fixed (b .size))) → Rep b (now (disk .entry)) (now (flash .entry)) (now (addrs .entry)) (now (blocks .entry)) s → Distinct eqb (λ x. x .address) (s .rows)
@@ -102,18 +104,18 @@ pub fn hold(
     g: &[u8],
     places: &mut [u16],
 )
-    requires { ⌜ (n * 40 + 40 ≤ length (now addrs)) × (length (now g) ≡ 32) × (d * 40 ≤ length (now blocks)) × (d ≤ 256) × (n < length (now places)) ⌝ }
-    ensures { λ _. ⌜ now (addrs .exit) ≡ flat (rows n (now (addrs .entry)) ++ (addressBytes (addressRow (a .0) (now (g .entry)) dirty) ∷ [])) ++ drop (n * 40 + 40) (now (addrs .entry)) ⌝ }
+    requires { ⌜ (tableBytes (n + 1) ≤ length (now addrs)) × (length (now g) ≡ 32) × (tableBytes d ≤ length (now blocks)) × (d ≤ 256) × (n < length (now places)) ⌝ }
+    ensures { λ _. ⌜ now (addrs .exit) ≡ rowAdded n (addressBytes (addressRow (a .0) (now (g .entry)) dirty)) (now (addrs .entry)) ⌝ }
     ensures { λ _. ⌜ take (n + 1) (now (places .exit)) ≡ take n (now (places .entry)) ++ (code (findFrom (caches (now (g .entry))) 0 (rows d (now (blocks .entry)))) ∷ []) ⌝ }
 {
     let v = rows::entry_of(blocks, d, g);
-    tables::put::push_address(addrs, n, a, g, dirty);
+    put::push_address(addrs, n, a, g, dirty);
     checks::known::remember(places, n, v);
 }
 
 // Step 3, where the fingerprint taken out has its block row at `place`. Where no row is free then, none was moved.
 pub fn step3(b: BoxRecord, place: usize, addrs: &[u8], blocks: &mut [u8], places: &[u16])
-    requires { ⌜ (0 < b .held) × (b .held ≤ b .rows) × (length (now addrs) ≡ b .rows * 40) × (length (now blocks) ≡ b .slots * 40) × (b .slots ≤ 256) × (b .held ≤ length (now places)) ⌝ }
+    requires { ⌜ (0 < b .held) × (b .held ≤ b .rows) × (length (now addrs) ≡ tableBytes (b .rows)) × (length (now blocks) ≡ tableBytes (b .slots)) × (b .slots ≤ 256) × (b .held ≤ length (now places)) ⌝ }
     requires { ⌜ Placed (b .held) (b .slots) (now addrs) (now blocks) (now places) ⌝ }
     ensures { λ _. ⌜ ((B : ℕ) (l : List (AddressRow (Fixed 32))) (free : List ℕ) (used : List (BlockRow (Fixed 32))) (gone : Option (Fixed 32)) → Addrs (b .blocks) (b .rows) (b .held) (now (addrs .entry)) l → Blocks (b .slots) (now (blocks .entry)) free used
         → Distinct (engine 0 .same) (λ u. u .fingerprint) used → place ≡ placeOf gone free used → now (blocks .exit) ≡ blockBytes (step3 (engine B) gone (take (b .held - 1) l) l (record { free = free; used = used }))) ⌝ }
@@ -123,13 +125,11 @@ pub fn step3(b: BoxRecord, place: usize, addrs: &[u8], blocks: &mut [u8], places
     if d <= place {
         return;
     }
-    let at = place * 40;
-    let end = at + 32;
-    if rows::knows(addrs, b.held, &blocks[at..end]) {
+    if rows::knows(addrs, b.held, row::block_fingerprint(blocks, place)) {
         return;
     }
     if rows::uncached(addrs, b.held - 1, blocks, d, places) {
-        tables::shift::to_front(blocks, d, place);
+        shift::to_front(blocks, d, place);
     }
 }
 
@@ -143,18 +143,17 @@ pub fn lose(
     addrs: &mut [u8],
     blocks: &[u8],
 ) -> usize
-    requires { ⌜ (t < b .slots) × (slot .0 < b .slots) × (b .held ≤ b .rows) × (length (now addrs) ≡ b .rows * 40) × (length (now blocks) ≡ b .slots * 40) ⌝ }
+    requires { ⌜ (t < b .slots) × (slot .0 < b .slots) × (b .held ≤ b .rows) × (length (now addrs) ≡ tableBytes (b .rows)) × (length (now blocks) ≡ tableBytes (b .slots)) ⌝ }
     requires { ⌜ ((s : Box (Fixed 32) (Fixed (b .size))) × Rep b (now disk) (now flash) (now addrs) (now blocks) s × Distinct (engine 0 .same) (λ u. u .fingerprint) (s .used) × Picked (s .free) (s .used) t × (slot .0 ≡ pickedTaken (s .free) (s .used) t .slot)) ⌝ }
     ensures { λ r. ⌜ r ≤ b .held ⌝ }
     ensures { λ r. ⌜ ((s : Box (Fixed 32) (Fixed (b .size))) → Rep b (now (disk .entry)) (now (flash .entry)) (now (addrs .entry)) (now (blocks .entry)) s → Distinct (engine 0 .same) (λ u. u .fingerprint) (s .used) → Picked (s .free) (s .used) t → slot .0 ≡ pickedTaken (s .free) (s .used) t .slot
         → record { count = r; disk = now (disk .exit); addrs = now (addrs .exit) } ≡ copiedRows b (isLost (engine (b .size)) (pickedTaken (s .free) (s .used) t .lost)) s (b .held)) ⌝ }
 {
-    if !tables::find::flag_at(blocks, t) {
+    if !row::is_used(blocks, t) {
         return 0;
     }
-    let at = t * 40;
-    let end = at + 32;
-    copy::clean_rows(b, disk, flash, addrs, blocks, &blocks[at..end], slot)
+    let g = row::block_fingerprint(blocks, t);
+    copy::clean_rows(b, disk, flash, addrs, blocks, g, slot)
 }
 
 // Puts `block` into `slot`, and `g` into the block row at `t`, which becomes newest.
@@ -167,14 +166,14 @@ pub fn fill(
     g: &[u8],
     block: &[u8],
 )
-    requires { ⌜ (t < b .slots) × (slot .0 * b .size + b .size ≤ length (now flash)) × (length (now g) ≡ 32) × (length (now block) ≡ b .size) × (length (now blocks) ≡ b .slots * 40) ⌝ }
+    requires { ⌜ (t < b .slots) × (slot .0 * b .size + b .size ≤ length (now flash)) × (length (now g) ≡ 32) × (length (now block) ≡ b .size) × (length (now blocks) ≡ tableBytes (b .slots)) ⌝ }
     ensures { λ _. ⌜ ((free : List ℕ) (used : List (BlockRow (Fixed 32))) (fl : List (Fixed (b .size))) (f : Fixed 32) (x : Fixed (b .size)) → Blocks (b .slots) (now (blocks .entry)) free used → Parts (b .size) (b .slots) (now (flash .entry)) fl → Picked free used t → slot .0 < b .slots → slot .0 ≡ pickedTaken free used t .slot
         → f .0 ≡ now (g .entry) → x .0 ≡ now (block .entry)
         → (now (flash .exit) ≡ join (set fl (slot .0) x)) × (now (blocks .exit) ≡ blocksOf (pickedTaken free used t .free) (pickedTaken free used t .used ++ (blockRow f (slot .0) ∷ [])))) ⌝ }
 {
     let k = slot.0;
     block::put(block, flash, k as usize * b.size);
-    tables::put::put_block(blocks, b.slots, t, g);
+    put::put_block(blocks, b.slots, t, g);
 }
 
 // Step 4 where `g` is not cached. How many blocks were copied to the disk.
@@ -188,7 +187,7 @@ pub fn store(
     block: &[u8],
     places: &[u16],
 ) -> usize
-    requires { ⌜ (0 < b .slots) × (b .held ≤ b .rows) × (length (now addrs) ≡ b .rows * 40) × (length (now blocks) ≡ b .slots * 40) × (length (now g) ≡ 32) × (length (now block) ≡ b .size) × (b .slots ≤ 256) × (b .held ≤ length (now places)) ⌝ }
+    requires { ⌜ (0 < b .slots) × (b .held ≤ b .rows) × (length (now addrs) ≡ tableBytes (b .rows)) × (length (now blocks) ≡ tableBytes (b .slots)) × (length (now g) ≡ 32) × (length (now block) ≡ b .size) × (b .slots ≤ 256) × (b .held ≤ length (now places)) ⌝ }
     requires { ⌜ ((s : Box (Fixed 32) (Fixed (b .size))) × Rep b (now disk) (now flash) (now addrs) (now blocks) s × Distinct (engine 0 .same) (λ u. u .fingerprint) (s .used)) ⌝ }
     requires { ⌜ (full (now blocks) ≡ true → Placed (b .held) (b .slots) (now addrs) (now blocks) (now places)) ⌝ }
     ensures { λ r. ⌜ r ≤ b .held ⌝ }
@@ -197,7 +196,7 @@ pub fn store(
         ≡ out4 b (stored (engine (b .size)) (s .rows) (s .used) (s .flash) (s .disk) f x 0 (taken (engine (b .size)) (s .rows) (s .free) (s .used)))) ⌝ }
 {
     let t = rows::victim(addrs, b.held, blocks, b.slots, places);
-    let slot = tables::find::slot_at(blocks, t);
+    let slot = row::slot_at(blocks, t);
     let count = lose(b, t, slot, disk, flash, addrs, blocks);
     fill(b, t, slot, flash, blocks, g, block);
     count
@@ -220,7 +219,7 @@ pub fn step4(
     block: &[u8],
     places: &[u16],
 ) -> Wrote
-    requires { ⌜ (0 < b .slots) × (b .held ≤ b .rows) × (length (now addrs) ≡ b .rows * 40) × (length (now blocks) ≡ b .slots * 40) × (length (now g) ≡ 32) × (length (now block) ≡ b .size) × (b .slots ≤ 256) × (b .held ≤ length (now places)) ⌝ }
+    requires { ⌜ (0 < b .slots) × (b .held ≤ b .rows) × (length (now addrs) ≡ tableBytes (b .rows)) × (length (now blocks) ≡ tableBytes (b .slots)) × (length (now g) ≡ 32) × (length (now block) ≡ b .size) × (b .slots ≤ 256) × (b .held ≤ length (now places)) ⌝ }
     requires { ⌜ ((s : Box (Fixed 32) (Fixed (b .size))) × Rep b (now disk) (now flash) (now addrs) (now blocks) s × Distinct (engine 0 .same) (λ u. u .fingerprint) (s .used)) ⌝ }
     requires { ⌜ (full (now blocks) ≡ true → Placed (b .held) (b .slots) (now addrs) (now blocks) (now places)) ⌝ }
     ensures { λ r. ⌜ (r .flashed ≤ 1) × (r .primary ≤ b .held) ⌝ }
@@ -230,7 +229,7 @@ pub fn step4(
 {
     let j = rows::place_of(blocks, b.slots, g);
     if j < b.slots {
-        tables::shift::to_newest(blocks, b.slots, j);
+        shift::to_newest(blocks, b.slots, j);
         return Wrote {
             flashed: 0,
             primary: 0,
@@ -263,7 +262,7 @@ pub fn step(
     block: &[u8],
     places: &mut [u16],
 ) -> Done
-    requires { ⌜ (0 < b .rows) × (0 < b .slots) × (b .held ≤ b .rows) × (length (now addrs) ≡ b .rows * 40) × (length (now blocks) ≡ b .slots * 40) × (length (now g) ≡ 32) × (length (now block) ≡ b .size) × (a .0 < b .blocks) × (b .rows ≤ 1024) × (length (now places) ≡ 1024) ⌝ }
+    requires { ⌜ (0 < b .rows) × (0 < b .slots) × (b .held ≤ b .rows) × (length (now addrs) ≡ tableBytes (b .rows)) × (length (now blocks) ≡ tableBytes (b .slots)) × (length (now g) ≡ 32) × (length (now block) ≡ b .size) × (a .0 < b .blocks) × (b .rows ≤ 1024) × (length (now places) ≡ 1024) ⌝ }
     requires { ⌜ ((s : Box (Fixed 32) (Fixed (b .size))) × (w : Bool) × Rep b (now disk) (now flash) (now addrs) (now blocks) s × Sure b s × (dirty ≡ bit w)) ⌝ }
     requires { ⌜ Placed (b .held) (b .slots) (now addrs) (now blocks) (now places) ⌝ }
     ensures { λ r. ⌜ (r .flashed ≤ 1) × (r .primary ≤ 1 + b .rows) × (length (now (places .exit)) ≡ 1024) ⌝ }
@@ -292,7 +291,7 @@ pub fn step(
 
 // Frees the block row at `place` where no held row has its fingerprint.
 pub fn free_unknown(b: BoxRecord, place: usize, addrs: &[u8], blocks: &mut [u8])
-    requires { ⌜ (b .held ≤ b .rows) × (length (now addrs) ≡ b .rows * 40) × (length (now blocks) ≡ b .slots * 40) ⌝ }
+    requires { ⌜ (b .held ≤ b .rows) × (length (now addrs) ≡ tableBytes (b .rows)) × (length (now blocks) ≡ tableBytes (b .slots)) ⌝ }
     ensures { λ _. ⌜ ((B : ℕ) (l : List (AddressRow (Fixed 32))) (free : List ℕ) (used : List (BlockRow (Fixed 32))) (r : AddressRow (Fixed 32)) → Addrs (b .blocks) (b .rows) (b .held) (now (addrs .entry)) l → Blocks (b .slots) (now (blocks .entry)) free used
         → Distinct (engine 0 .same) (λ u. u .fingerprint) used → place ≡ placeOf (Option.some (r .fingerprint)) free used → now (blocks .exit) ≡ blockBytes (dropped (engine B) l (record { free = free; used = used }) (Option.some r))) ⌝ }
 {
@@ -300,17 +299,15 @@ pub fn free_unknown(b: BoxRecord, place: usize, addrs: &[u8], blocks: &mut [u8])
     if d <= place {
         return;
     }
-    let at = place * 40;
-    let end = at + 32;
-    if rows::knows(addrs, b.held, &blocks[at..end]) {
+    if rows::knows(addrs, b.held, row::block_fingerprint(blocks, place)) {
         return;
     }
-    tables::shift::to_front(blocks, d, place);
+    shift::to_front(blocks, d, place);
 }
 
 // Takes row `i` out, if there is one, and frees its fingerprint's block row where no other row has it. The rows then held.
 pub fn drop_row(b: BoxRecord, i: usize, addrs: &mut [u8], blocks: &mut [u8]) -> usize
-    requires { ⌜ (b .held ≤ b .rows) × (length (now addrs) ≡ b .rows * 40) × (length (now blocks) ≡ b .slots * 40) ⌝ }
+    requires { ⌜ (b .held ≤ b .rows) × (length (now addrs) ≡ tableBytes (b .rows)) × (length (now blocks) ≡ tableBytes (b .slots)) ⌝ }
     ensures { λ r. ⌜ ((B a : ℕ) (l : List (AddressRow (Fixed 32))) (free : List ℕ) (used : List (BlockRow (Fixed 32))) → Addrs (b .blocks) (b .rows) (b .held) (now (addrs .entry)) l → Blocks (b .slots) (now (blocks .entry)) free used
         → Distinct eqb (λ x. x .address) l → Distinct (engine 0 .same) (λ u. u .fingerprint) used → i ≡ indexWhere (λ x. eqb a (x .address)) l
         → (r ≡ length (withoutAddress a l)) × (now (addrs .exit) ≡ addressesOf (b .rows) (withoutAddress a l)) × (now (blocks .exit) ≡ blockBytes (dropped (engine B) (withoutAddress a l) (record { free = free; used = used }) (rowOf a l)))) ⌝ }

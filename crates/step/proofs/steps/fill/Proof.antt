@@ -1,10 +1,9 @@
 -- The block goes to its part of the flash, the fingerprint to its row. Assumes nothing.
 use mathlib.Core.Path.{sym, ap, _∙_}
-use mathlib.Core.List.{List, [], _∷_, _++_}
+use mathlib.Core.List.{List}
 use Prim.Native.Nat.{ℕ, _*_}
-use lib.ListN.{getD}
 use Rattle.block.specs.Blocks.{splice}
-use Rattle.tables.specs.Rows.{rows, flat, removeAt, filled}
+use Rattle.tables.specs.Operations.{rowFilled}
 use Rattle.parts.specs.CopyLaws.{put-block-is}
 use Rattle.step.proofs.Stepping.{filled-at}
 use borrow.Author.Needs.{needs}
@@ -18,7 +17,7 @@ returns c =
     let a = start .args in
     λ free used fl f x hb hf p kb e ef ex. (
       at-put .put .ensures ∙ ap (λ (y : List ℕ). splice (a .slot .0 * a .b .size) y (a .flash .now)) (sym ex) ∙ put-block-is (a .b .size) (a .b .slots) (a .flash .now) fl hf (a .slot .0) kb x,
-      c .before .before .put-block .ensures ∙ ap (λ (y : List ℕ). flat (removeAt (rows (a .b .slots) (a .blocks .now)) (a .t) ++ (filled y (getD (rows (a .b .slots) (a .blocks .now)) (a .t) []) ∷ []))) (sym ef) ∙ filled-at (a .b .slots) (a .blocks .now) free used (a .t) (a .slot .0) f hb p e,
+      c .before .before .put-block .ensures ∙ ap (λ (y : List ℕ). rowFilled (a .b .slots) (a .t) y (a .blocks .now)) (sym ef) ∙ filled-at (a .b .slots) (a .blocks .now) free used (a .t) (a .slot .0) f hb p e,
     )
 
 pub fill-spec : {M : Type 1} → statement M

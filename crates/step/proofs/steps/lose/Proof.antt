@@ -1,9 +1,9 @@
 -- By whether the row taken is used. Assumes nothing.
-use mathlib.Core.Path.{_≡_, sym, ap, _∙_}
+use mathlib.Core.Path.{sym, ap, _∙_}
 use mathlib.Core.Option.{Option}
-use Prim.Native.Nat.{_+_, _*_, _-_}
+use Prim.Native.Nat.{_-_}
 use native.Mathlib.Omega.{arith}
-use lib.ListN.{length, getD}
+use lib.ListN.{getD}
 use Rattle.paper.specs.Cache.{isLost}
 use Rattle.paper.specs.Engine.{Fixed, engine}
 use Rattle.parts.specs.Rep.{copiedRows}
@@ -18,33 +18,35 @@ returns : tie.Need-returns
 returns c =
     let start = c .before .before .before .before .before .before in
     let a = start .args in
-    (omega arith, λ s h ds p e. none-lost (a .b) (a .disk .now) (a .flash .now) (a .addrs .now) (a .blocks .now) s h (a .b .held) ∙ ap (λ (o : Option (Fixed 32)). copiedRows (a .b) (isLost (engine (a .b .size)) o) s (a .b .held)) (sym (picked-free (a .b .slots) (a .blocks .now) (s .free) (s .used) (a .t) (h .blocks-are) p (sym (c .before .flag-at .ensures) ∙ not-true _ (c .if1 .taken)))))
+    (omega arith, λ s h ds p e. none-lost (a .b) (a .disk .now) (a .flash .now) (a .addrs .now) (a .blocks .now) s h (a .b .held) ∙ ap (λ (o : Option (Fixed 32)). copiedRows (a .b) (isLost (engine (a .b .size)) o) s (a .b .held)) (sym (picked-free (a .b .slots) (a .blocks .now) (s .free) (s .used) (a .t) (h .blocks-are) p (sym (c .before .is-used .ensures) ∙ not-true _ (c .if1 .taken)))))
 
 clean-rows-requires : tie.Need-clean-rows-requires
 clean-rows-requires c κs =
-    let at-if1 = c .before .before .before in
-    let at-flag-at = at-if1 .before in
-    let start = at-flag-at .before .before .before .before .before in
+    let at-print = c .before .before in
+    let at-if1 = at-print .before in
+    let at-is-used = at-if1 .before in
+    let start = at-is-used .before .before .before .before .before in
     let a = start .args in
     let q = start .pre .1 in
-    let u = picked-used (a .b .size) (a .b .slots) (a .blocks .now) (q .0 .free) (q .0 .used) (a .t) (q .1 .blocks-are) (q .2) (q .3) (sym (at-flag-at .flag-at .ensures) ∙ not-false _ (at-if1 .if1 .left)) in
-    let n : a .t * 40 + 32 - a .t * 40 ≡ 32 = omega arith in (
-      (start .pre .0 .1, sym (ap length (u .bytes (a .t * 40 + 32 - a .t * 40) n)) ∙ getD (q .0 .used) (a .t) noBlock .fingerprint .1, start .pre .0 .2, start .pre .0 .3),
-      (q .0, getD (q .0 .used) (a .t) noBlock .fingerprint, q .1, u .bytes (a .t * 40 + 32 - a .t * 40) n, u .slot ∙ sym (q .4)),
+    let u = picked-used (a .b .size) (a .b .slots) (a .blocks .now) (q .0 .free) (q .0 .used) (a .t) (q .1 .blocks-are) (q .2) (q .3) (sym (at-is-used .is-used .ensures) ∙ not-false _ (at-if1 .if1 .left)) in
+    let g = at-print .block-fingerprint .ensures in (
+      (start .pre .0 .1, g .1, start .pre .0 .2, start .pre .0 .3),
+      (q .0, getD (q .0 .used) (a .t) noBlock .fingerprint, q .1, u .bytes ∙ sym (g .0), u .slot ∙ sym (q .4)),
     )
 
 returns-2 : tie.Need-returns-2
 returns-2 c =
     let at-clean-rows = c .before .before .before .before in
-    let at-if1 = at-clean-rows .before .before .before .before in
-    let at-flag-at = at-if1 .before in
-    let start = at-flag-at .before .before .before .before .before in
+    let at-print = at-clean-rows .before .before .before in
+    let at-if1 = at-print .before in
+    let at-is-used = at-if1 .before in
+    let start = at-is-used .before .before .before .before .before in
     let a = start .args in
     let f = at-clean-rows .clean-rows in (
       f .ensures .0,
       λ s h ds p e.
-          let u = picked-used (a .b .size) (a .b .slots) (a .blocks .now) (s .free) (s .used) (a .t) (h .blocks-are) ds p (sym (at-flag-at .flag-at .ensures) ∙ not-false _ (at-if1 .if1 .left)) in
-          f .ensures .1 s h (getD (s .used) (a .t) noBlock .fingerprint) (u .bytes (a .t * 40 + 32 - a .t * 40) (omega arith)) (u .slot ∙ sym e)
+          let u = picked-used (a .b .size) (a .b .slots) (a .blocks .now) (s .free) (s .used) (a .t) (h .blocks-are) ds p (sym (at-is-used .is-used .ensures) ∙ not-false _ (at-if1 .if1 .left)) in
+          f .ensures .1 s h (getD (s .used) (a .t) noBlock .fingerprint) (u .bytes ∙ sym (at-print .block-fingerprint .ensures .0)) (u .slot ∙ sym e)
           ∙ ap (λ (o : Option (Fixed 32)). copiedRows (a .b) (isLost (engine (a .b .size)) o) s (a .b .held)) (sym (u .lost)),
     )
 
@@ -54,11 +56,7 @@ lose-spec =
     (tie.spec
     (λ c κs. search needs)
     returns
-    (λ c. search needs)
-    (λ c. search needs)
-    (λ c. search needs)
-    (λ c. search needs)
-    (λ c. search needs)
+    (λ c κs. search needs)
     clean-rows-requires
     (λ c. search needs)
     (λ c. search needs)

@@ -1,17 +1,17 @@
 -- The four parts in turn: what each leaves is a paper box again, so that the next can be asked. Assumes nothing.
 use mathlib.Core.Path.{refl, sym, ap₂, _∙_}
 use mathlib.Core.List.{List, [], _∷_, _++_}
-use Prim.Native.Nat.{ℕ, _+_, _*_}
+use Prim.Native.Nat.{ℕ, _+_}
 use native.Mathlib.Omega.{arith}
-use lib.ListN.{drop}
 use Rattle.paper.specs.Cache.{step1, newest}
 use Rattle.paper.specs.Engine.{Fixed, engine}
-use Rattle.tables.specs.Rows.{rows, flat}
+use Rattle.tables.specs.Rows.{rows}
 use Rattle.tables.specs.Records.{addressRow, addressBytes}
 use Rattle.step.proofs.Whole.{addrs₂-are, placed₂, place-is, distinct₃, s₃, rep₃, step-is}
 use borrow.Author.Needs.{needs}
 use Rattle.step.proofs.steps.step.Statement.{statement}
 use Rattle.step.proofs.steps.step.Tie as tie
+use Rattle.tables.specs.Operations.{rowAdded}
 
 step1-requires : tie.Need-step1-requires
 step1-requires c κs =
@@ -50,7 +50,7 @@ step3-requires c κs =
     let small = q .2 .blocks-are .small in
     let few = st .ensures .0 .0 in
     let e1 = st .ensures .1 .0 (q .0) (q .2) ((q .3) .addresses) in
-    let e2 = pu .ensures .0 ∙ ap₂ {C = List ℕ} (λ y d. flat (rows n (st .last .1 .1 .1 .1 .0) ++ (addressBytes (addressRow (a .a .0) y d) ∷ [])) ++ drop (n * 40 + 40) (st .last .1 .1 .1 .1 .0)) refl (q .4) in
+    let e2 = pu .ensures .0 ∙ ap₂ {C = List ℕ} (λ y d. rowAdded n (addressBytes (addressRow (a .a .0) y d)) (st .last .1 .1 .1 .1 .0)) refl (q .4) in
     let l2 = pu .kept .1 .1 .1 .0 ∙ st .kept .1 .1 .1 .1 .0 ∙ p .3 in
     let k2 = pu .kept .1 .1 .1 .1 .1 .1 .1 .0 ∙ st .kept .1 .1 .1 .1 .1 .1 .0 ∙ p .9 in
     ((omega arith, omega (arith, few), l2, p .4, small, omega (arith, few, k2, p .8)), placed₂ (a .b) (a .disk .now) (a .flash .now) (a .addrs .now) (a .blocks .now) (q .0) (q .2) (q .3) (p .0) (p .1) (a .a .0) (p .7) f (q .1) n (st .result .place) (st .result .primary) _ _ e1 _ e2 (a .places .now) _ _ (start .pre .1 .1) (st .ensures .1 .1 (q .0) (rows (a .b .slots) (a .blocks .now)) (q .2) ((q .3) .addresses)) (pu .ensures .1))
@@ -81,7 +81,7 @@ step4-requires c κs =
           let s3 = at-step3 .step3 in
           let n = st .result .held in
           let e1 = st .ensures .1 .0 (q .0) (q .2) ((q .3) .addresses) in
-          let e2 = pu .ensures .0 ∙ ap₂ {C = List ℕ} (λ y d. flat (rows n (st .last .1 .1 .1 .1 .0) ++ (addressBytes (addressRow (a .a .0) y d) ∷ [])) ++ drop (n * 40 + 40) (st .last .1 .1 .1 .1 .0)) refl (q .4) in
+          let e2 = pu .ensures .0 ∙ ap₂ {C = List ℕ} (λ y d. rowAdded n (addressBytes (addressRow (a .a .0) y d)) (st .last .1 .1 .1 .1 .0)) refl (q .4) in
           let X = addrs₂-are (a .b) (a .disk .now) (a .flash .now) (a .addrs .now) (a .blocks .now) (q .0) (q .2) (q .3) m1 d1 (a .a .0) la f (q .1) n (st .result .place) (st .result .primary) _ _ e1 _ e2 in
           let Y = place-is (a .b) (a .disk .now) (a .flash .now) (a .addrs .now) (a .blocks .now) (q .0) (q .2) (q .3) m1 d1 (a .a .0) la f (q .1) n (st .result .place) (st .result .primary) _ _ e1 _ e2 in
           let e3 = s3 .ensures .0 (a .b .size) (step1 (engine (a .b .size)) (a .b .rows) (q .0) (a .a .0) .rows ++ (newest (a .a .0) f (q .1) ∷ [])) ((q .0) .free) ((q .0) .used) (step1 (engine (a .b .size)) (a .b .rows) (q .0) (a .a .0) .gone) X ((q .2) .blocks-are) ((q .3) .fingerprints) Y in
@@ -141,7 +141,7 @@ returns c =
           let s3 = at-step3 .step3 in
           let n = st .result .held in
           let e1 = st .ensures .1 .0 s h (sd .addresses) in
-          let e2 = pu .ensures .0 ∙ ap₂ {C = List ℕ} (λ y d. flat (rows n (st .last .1 .1 .1 .1 .0) ++ (addressBytes (addressRow (a .a .0) y d) ∷ [])) ++ drop (n * 40 + 40) (st .last .1 .1 .1 .1 .0)) (sym ef) ed in
+          let e2 = pu .ensures .0 ∙ ap₂ {C = List ℕ} (λ y d. rowAdded n (addressBytes (addressRow (a .a .0) y d)) (st .last .1 .1 .1 .1 .0)) (sym ef) ed in
           let X = addrs₂-are (a .b) (a .disk .now) (a .flash .now) (a .addrs .now) (a .blocks .now) s h sd m1 d1 (a .a .0) la f w n (st .result .place) (st .result .primary) _ _ e1 _ e2 in
           let Y = place-is (a .b) (a .disk .now) (a .flash .now) (a .addrs .now) (a .blocks .now) s h sd m1 d1 (a .a .0) la f w n (st .result .place) (st .result .primary) _ _ e1 _ e2 in
           let e3 = s3 .ensures .0 (a .b .size) (step1 (engine (a .b .size)) (a .b .rows) s (a .a .0) .rows ++ (newest (a .a .0) f w ∷ [])) (s .free) (s .used) (step1 (engine (a .b .size)) (a .b .rows) s (a .a .0) .gone) X (h .blocks-are) (sd .fingerprints) Y in

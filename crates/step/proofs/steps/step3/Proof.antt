@@ -1,13 +1,13 @@
 -- By the three conditions of the step, in the order of the code. Assumes nothing.
 use mathlib.Core.Path.{refl, sym, ap, _∙_}
-use Prim.Native.Nat.{_+_, _*_, _-_}
+use Prim.Native.Nat.{_-_}
 use native.Mathlib.Omega.{arith}
 use lib.ListN.{take}
 use Rattle.tables.specs.Rows.{rows}
 use Rattle.tables.specs.PlaceLaws.{places-first}
 use Rattle.paper.specs.KeyedLaws.{clash}
 use Rattle.parts.specs.Asked.{full}
-use Rattle.step.proofs.Placing.{front-free}
+use Rattle.tables.specs.Written.{front-free}
 use Rattle.step.proofs.Stepping.{gone-out, gone-known, gone-cached, gone-freed}
 use borrow.Author.Needs.{needs}
 use Rattle.step.proofs.steps.step3.Statement.{statement}
@@ -20,9 +20,10 @@ returns c =
 
 returns-2 : tie.Need-returns-2
 returns-2 c =
-    let at-if1 = c .before .before .before .before in
+    let p = c .before .before in
+    let at-if1 = p .before .before in
     let a = at-if1 .before .before .before .before .args in
-    ((λ B l free used gone h hb ds e. gone-known B (a .b .slots) (a .blocks .now) (take (a .b .held - 1) l) l free used hb (a .place) (c .before .knows .result) (a .place * 40 + 32 - a .place * 40) (omega arith) (λ q. c .before .knows .ensures (a .b .blocks) (a .b .rows) l q h) (omega (arith, at-if1 .if1 .left)) gone e (c .if2 .taken)), λ f. refl)
+    ((λ B l free used gone h hb ds e. gone-known B (a .b .slots) (a .blocks .now) (take (a .b .held - 1) l) l free used hb (a .place) (c .before .knows .result) _ (p .block-fingerprint .ensures .0) (λ q. c .before .knows .ensures (a .b .blocks) (a .b .rows) l q h) (omega (arith, at-if1 .if1 .left)) gone e (c .if2 .taken)), λ f. refl)
 
 uncached-requires : tie.Need-uncached-requires
 uncached-requires c κs =
@@ -36,11 +37,12 @@ returns-3 c =
     let at-uncached = at-if3 .before in
     let at-if2 = at-uncached .before .before .before in
     let at-knows = at-if2 .before in
-    let at-if1 = at-knows .before .before .before in
+    let p = at-knows .before in
+    let at-if1 = p .before .before in
     let start = at-if1 .before .before .before .before in
     let a = start .args in (
       (λ B l free used gone h hb ds e. c .before .before .to-front .ensures
-          ∙ gone-freed B (a .b .slots) (a .blocks .now) (take (a .b .held - 1) l) l free used hb (a .place) (at-knows .knows .result) (a .place * 40 + 32 - a .place * 40) (omega arith) (λ q. at-knows .knows .ensures (a .b .blocks) (a .b .rows) l q h) (omega (arith, at-if1 .if1 .left)) gone e (at-if2 .if2 .left) ds
+          ∙ gone-freed B (a .b .slots) (a .blocks .now) (take (a .b .held - 1) l) l free used hb (a .place) (at-knows .knows .result) _ (p .block-fingerprint .ensures .0) (λ q. at-knows .knows .ensures (a .b .blocks) (a .b .rows) l q h) (omega (arith, at-if1 .if1 .left)) gone e (at-if2 .if2 .left) ds
           (sym (at-uncached .uncached .ensures B (a .b .blocks) (a .b .rows) (a .b .held) l free used h hb (omega arith)) ∙ at-if3 .if3 .taken)),
       λ f. clash (ap full (sym (c .before .before .to-front .ensures)) ∙ f) (front-free (a .b .slots) (a .place) (a .blocks .now) (start .pre .0 .3) (omega (arith, at-if1 .if1 .left))),
     )
@@ -59,11 +61,7 @@ step3-spec =
     tie.close
     (tie.spec
     returns
-    (λ c. search needs)
-    (λ c. search needs)
-    (λ c. search needs)
-    (λ c. search needs)
-    (λ c. search needs)
+    (λ c κs. search needs)
     (λ c κs. search needs)
     (λ c. search needs)
     returns-2
