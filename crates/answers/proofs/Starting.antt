@@ -14,13 +14,14 @@ use Rattle.open.specs.Contract.{Opened, begun, opens}
 use Rattle.open.specs.declared.Begun.{Begun}
 use Rattle.answers.specs.Replay.{startDisk, started}
 use Rattle.answers.specs.Done.{recordOf}
+use Rattle.tables.specs.Rows.{tableBytes}
 
-lengths-right : (N : Numbers) (t : Lent) → length (t .disk) ≡ N .P * N .B → length (t .flash) ≡ N .d * N .B → length (t .addresses) ≡ N .m * 40 → length (t .blocks) ≡ N .d * 40 → wrongBuffers N t ≡ false
+lengths-right : (N : Numbers) (t : Lent) → length (t .disk) ≡ N .P * N .B → length (t .flash) ≡ N .d * N .B → length (t .addresses) ≡ tableBytes (N .m) → length (t .blocks) ≡ tableBytes (N .d) → wrongBuffers N t ≡ false
 unfolding wrongBuffers
-lengths-right N t a b c d = rw (eq-eqb (length (t .disk)) (N .P * N .B) a, eq-eqb (length (t .flash)) (N .d * N .B) b, eq-eqb (length (t .addresses)) (N .m * 40) c, eq-eqb (length (t .blocks)) (N .d * 40) d)
+lengths-right N t a b c d = rw (eq-eqb (length (t .disk)) (N .P * N .B) a, eq-eqb (length (t .flash)) (N .d * N .B) b, eq-eqb (length (t .addresses)) (tableBytes (N .m)) c, eq-eqb (length (t .blocks)) (tableBytes (N .d)) d)
 
 pub start-is : (r : Begun) (b : BoxRecord) (d f a′ t′ a t : List ℕ) (k : Counters) → unfit (numbersOf b) ≡ false
-    → length d ≡ b .blocks * b .size → length f ≡ b .slots * b .size → length a ≡ b .rows * 40 → length t ≡ b .slots * 40
+    → length d ≡ b .blocks * b .size → length f ≡ b .slots * b .size → length a ≡ tableBytes (b .rows) → length t ≡ tableBytes (b .slots)
     → d ≡ startDisk (b .size) (b .blocks) → f ≡ replicate (b .slots * b .size) 0
     → begun r d f a′ t′ ≡ opens (recordOf (numbersOf b) 0) d f a t k
     → (numbersOf (r .box_record) ≡ numbersOf b) × (lent (r .box_record) d f a′ t′ (countersOf (r .counters)) ≡ started (numbersOf b))

@@ -9,6 +9,7 @@ ghost use lib.ListN.{length, replicate};
 ghost use Rattle.paper.specs.Lent.{unfit};
 ghost use Rattle.refusals.specs.Given.{numbersOf, countersOf, lent};
 ghost use Rattle.answers.specs.Replay.{startDisk, started};
+ghost use Rattle.tables.specs.Rows.{tableBytes};
 
 // Fills a slice with one byte.
 pub fn fill(s: &mut [u8], x: u8)
@@ -44,7 +45,7 @@ pub fn start(
     blocks: &mut [u8],
 ) -> Begun
     requires { ⌜ (b .size ≤ 4096) × (b .blocks ≤ 256) × (unfit (numbersOf b) ≡ false) ⌝ }
-    requires { ⌜ (length (now disk) ≡ b .blocks * b .size) × (length (now flash) ≡ b .slots * b .size) × (length (now addresses) ≡ b .rows * 40) × (length (now blocks) ≡ b .slots * 40) ⌝ }
+    requires { ⌜ (length (now disk) ≡ b .blocks * b .size) × (length (now flash) ≡ b .slots * b .size) × (length (now addresses) ≡ tableBytes (b .rows)) × (length (now blocks) ≡ tableBytes (b .slots)) ⌝ }
     ensures { λ r. ⌜ numbersOf (r .box_record) ≡ numbersOf b ⌝ }
     ensures { λ r. ⌜ lent (r .box_record) (now (disk .exit)) (now (flash .exit)) (now (addresses .exit)) (now (blocks .exit)) (countersOf (r .counters)) ≡ started (numbersOf b) ⌝ }
 {

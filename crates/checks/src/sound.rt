@@ -148,7 +148,7 @@ pub fn addresses_unsound(t: &[u8], m: usize, n: usize, p: usize) -> bool
     if 1024 < m {
         return true;
     }
-    if t.len() != row::table_bytes(m) {
+    if t.len() != m * row::BYTES {
         return true;
     }
     !addresses_sound(t, m, n, p as u32)
@@ -165,7 +165,7 @@ pub fn blocks_unsound(t: &[u8], d: usize, heads: &mut [u16]) -> bool
     if 256 < d {
         return true;
     }
-    if t.len() != row::table_bytes(d) {
+    if t.len() != d * row::BYTES {
         return true;
     }
     !blocks_sound(t, d, heads)

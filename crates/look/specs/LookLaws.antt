@@ -6,7 +6,8 @@ use Prim.Native.Nat.{ℕ, _≤_, _<_, _+_, _*_}
 use lib.Dec.{eqb, ltb}
 use lib.ListN.{length, getD}
 use borrow.Author.Tests.{eqb-true, eqb-false, ne-eqb}
-use Rattle.tables.specs.Rows.{rowAt, le4}
+use Rattle.tables.specs.Rows.{rowAt}
+use Rattle.tables.specs.Records.{readBlock}
 use Rattle.block.specs.Blocks.{part}
 use Rattle.paper.specs.KeyedLaws.{by-test, by-option}
 use Rattle.paper.specs.Cache.{Box, Counters, rowWithBlock, slotOf, serve, lookAs}
@@ -36,7 +37,7 @@ module _ (b : BoxRecord) (disk flash addrs blocks : List ℕ) (k : Counters) (a 
 
   -- what the two searches find
   module _ (i j : ℕ) (ei : i ≡ indexWhere (λ x. eqb a (x .address)) (box .rows)) (ej : j ≡ cond (ltb i (b .held)) (length (box .free) + indexWhere (λ u. engine 0 .same (getD (box .rows) i noRow .fingerprint) (u .fingerprint)) (box .used)) (b .slots)) where
-    pub found-flash : j < b .slots → (r : ℕ) → r ≡ le4 (rowAt blocks j) 32 → Flash (record { 0 = r }) ≡ whereIs (numbersOf b) (lent b disk flash addrs blocks k) a
+    pub found-flash : j < b .slots → (r : ℕ) → r ≡ readBlock (rowAt blocks j) .slot → Flash (record { 0 = r }) ≡ whereIs (numbersOf b) (lent b disk flash addrs blocks k) a
     unfolding whereIs placeIn
     found-flash l r er =
         let q = found-hit b disk flash addrs blocks box is a i j ei ej l in

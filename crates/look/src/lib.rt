@@ -37,7 +37,7 @@ pub(crate) fn found(
     let i = rows::row_of(addresses, b.held, a);
     let j = rows::place_of_row(b, i, addresses, blocks);
     if j < b.slots {
-        return Place::Flash(tables::find::slot_at(blocks, j));
+        return Place::Flash(tables::row::slot_at(blocks, j));
     }
     Place::Disk
 }

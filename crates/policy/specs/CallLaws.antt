@@ -27,6 +27,7 @@ use Rattle.step.specs.Steps.{Out4, out4, Sure}
 use Rattle.serve.specs.Calls.{Leaves, leaves, isYes, returned}
 use Rattle.refusals.specs.Given.{numbersOf, countersOf, lent}
 use Rattle.policy.specs.Contract.{wordOf, Told, told, called}
+use Rattle.tables.specs.Rows.{tableBytes}
 
 -- bytes below 256, one by one
 pub all-bytes : (l : List ℕ) → ((i : ℕ) → getD l i 0 < 256) → Bytes l
@@ -55,7 +56,7 @@ module _ (b : BoxRecord) (disk flash addrs blocks : List ℕ) (k : Counters) (q 
         disk-is = passes-disk N t (finds .passes) x y;
       }
 
-  pub sizes : Bytes addrs → Bytes blocks → (0 < b .rows) × (0 < b .slots) × (b .held ≤ b .rows) × (length addrs ≡ b .rows * 40) × (length blocks ≡ b .slots * 40) × (b .rows ≤ 1024) × (length disk ≡ b .blocks * b .size)
+  pub sizes : Bytes addrs → Bytes blocks → (0 < b .rows) × (0 < b .slots) × (b .held ≤ b .rows) × (length addrs ≡ tableBytes (b .rows)) × (length blocks ≡ tableBytes (b .slots)) × (b .rows ≤ 1024) × (length disk ≡ b .blocks * b .size)
   sizes x y = (finds .fits .m-least, finds .fits .d-least, rep x y .rows-are .few, finds .passes .lengths .addresses, finds .passes .lengths .blocks, finds .fits .m-most, finds .passes .lengths .disk)
 
   pub block-fits : (l : List ℕ) → lentBlock q ≡ some l → length l ≡ b .size

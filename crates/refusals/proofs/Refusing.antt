@@ -2,7 +2,7 @@
 use mathlib.Core.Path.{_≡_, refl}
 use mathlib.Core.Bool.{Bool, true, false, not, _||_, cond}
 use mathlib.Core.List.{List, [], _∷_}
-use Prim.Native.Nat.{ℕ, _≤_, _*_}
+use Prim.Native.Nat.{ℕ, _≤_}
 use native.Mathlib.Omega.{arith}
 use lib.Dec.{eqb, leb}
 use lib.ListN.{length}
@@ -16,6 +16,7 @@ use Rattle.parts.specs.declared.BoxRecord.{BoxRecord}
 use Rattle.refusals.specs.Given.{numbersOf, lent}
 use Rattle.refusals.specs.Sizes.{Opens}
 use Rattle.refusals.specs.Checks.{wrongLengths, tablesRefusal, stateRefusal}
+use Rattle.tables.specs.Rows.{tableBytes}
 
 -- a number in a list, by its first element
 pub elem-yes : (s x : ℕ) (xs : List ℕ) → s ≡ x → true ≡ elem s (x ∷ xs)
@@ -44,12 +45,12 @@ refused-first N t q n =
     (λ e. by-test (wrongBuffers N t) (λ f. rw (e, f) refl) (λ f. absurd (n (rw (e, f) refl))))
 
 -- 6, 7 and 8, of tables that the checks can be run on
-pub tables-are : (b : BoxRecord) (addresses blocks : List ℕ) → b .blocks ≤ 65536 → b .rows ≤ 1024 → b .slots ≤ 256 → length addresses ≡ b .rows * 40 → length blocks ≡ b .slots * 40
+pub tables-are : (b : BoxRecord) (addresses blocks : List ℕ) → b .blocks ≤ 65536 → b .rows ≤ 1024 → b .slots ≤ 256 → length addresses ≡ tableBytes (b .rows) → length blocks ≡ tableBytes (b .slots)
     → cond (not (addressesFit (b .blocks) (b .rows) addresses) || addressesUnsound (b .blocks) (b .rows) (b .held) addresses) 6 (cond (not (blocksFit (b .slots) blocks) || blocksUnsound (b .slots) blocks) 7 (cond (dirtyUncached (b .held) (b .slots) addresses blocks) 8 0))
     ≡ tablesRefusal b addresses blocks
 unfolding addressesFit blocksFit tablesRefusal
 tables-are b addresses blocks p r d la lb =
-    rw (le-leb (b .blocks) 65536 p, le-leb (b .rows) 1024 r, le-leb (b .slots) 256 d, eq-eqb (length addresses) (b .rows * 40) la, eq-eqb (length blocks) (b .slots * 40) lb) refl
+    rw (le-leb (b .blocks) 65536 p, le-leb (b .rows) 1024 r, le-leb (b .slots) 256 d, eq-eqb (length addresses) (tableBytes (b .rows)) la, eq-eqb (length blocks) (tableBytes (b .slots)) lb) refl
 
 -- 9 comes after them
 pub state-tables : (b : BoxRecord) (addresses blocks : List ℕ) (k : Counters) → (tablesRefusal b addresses blocks ≡ 0 → ⊥) → tablesRefusal b addresses blocks ≡ stateRefusal b addresses blocks k

@@ -7,6 +7,7 @@ use Rattle.tables.specs.Unsound.{addressesUnsound, blocksUnsound, dirtyUncached
 use Rattle.paper.specs.Cache.{Counters}
 use Rattle.paper.specs.Lent.{over}
 use Rattle.parts.specs.declared.BoxRecord.{BoxRecord}
+use Rattle.tables.specs.Rows.{tableBytes}
 
 -- the block sizes
 abbrev pub sizes : List ℕ
@@ -15,7 +16,7 @@ sizes = 64 ∷ 128 ∷ 256 ∷ 512 ∷ 1024 ∷ 2048 ∷ 4096 ∷ []
 -- a length of the four buffers is another than the box's
 unfoldable pub wrongLengths : BoxRecord → (disk flash addresses blocks : ℕ) → Bool
 wrongLengths b disk flash addresses blocks =
-    not (eqb disk (b .blocks * b .size)) || not (eqb flash (b .slots * b .size)) || not (eqb addresses (b .rows * 40)) || not (eqb blocks (b .slots * 40))
+    not (eqb disk (b .blocks * b .size)) || not (eqb flash (b .slots * b .size)) || not (eqb addresses (tableBytes (b .rows))) || not (eqb blocks (tableBytes (b .slots)))
 
 -- the first of 6, 7 and 8, 0 for none
 unfoldable pub tablesRefusal : BoxRecord → (addresses blocks : List ℕ) → ℕ

@@ -1,6 +1,7 @@
 // The refusals, in document 01's order.
 use parts::BoxRecord;
 use tables::SourceAddress;
+use tables::row;
 ghost use mathlib.Core.Path.{_≡_};
 ghost use Prim.Native.Nat.{_*_, _≤_};
 ghost use lib.Dec.{leb};
@@ -11,6 +12,7 @@ ghost use Rattle.paper.specs.Lent.{Ask, opening, calling, between, unfit, over,
 ghost use Rattle.parts.specs.Asked.{Placed};
 ghost use Rattle.refusals.specs.Given.{numbersOf, countersOf, lent};
 ghost use Rattle.refusals.specs.Checks.{sizes, wrongLengths, tablesRefusal, stateRefusal};
+ghost use Rattle.tables.specs.Rows.{tableBytes};
 
 // Whether `s` is a power of two from 64 to 4,096.
 pub(crate) fn block_size(s: usize) -> bool
@@ -80,10 +82,10 @@ pub(crate) fn lengths_wrong(
     if flash != b.slots * b.size {
         return true;
     }
-    if addresses != b.rows * 40 {
+    if addresses != b.rows * row::BYTES {
         return true;
     }
-    blocks != b.slots * 40
+    blocks != b.slots * row::BYTES
 }
 
 // Refusals 1 and 2: what an opening is refused with.
@@ -101,7 +103,7 @@ pub fn of_opening(b: BoxRecord, disk: &[u8], flash: &[u8], addresses: &[u8], blo
 
 // Refusals 6, 7 and 8, of tables with the box's lengths. Where none applies, `places` has the place of each held row's block row.
 pub(crate) fn of_tables(b: BoxRecord, addresses: &[u8], blocks: &[u8], places: &mut [u16]) -> u32
-    requires { ⌜ (b .blocks ≤ 65536) × (b .rows ≤ 1024) × (b .slots ≤ 256) × (length (now addresses) ≡ b .rows * 40) × (length (now blocks) ≡ b .slots * 40) × (length (now places) ≡ 1024) ⌝ }
+    requires { ⌜ (b .blocks ≤ 65536) × (b .rows ≤ 1024) × (b .slots ≤ 256) × (length (now addresses) ≡ tableBytes (b .rows)) × (length (now blocks) ≡ tableBytes (b .slots)) × (length (now places) ≡ 1024) ⌝ }
     ensures { λ r. ⌜ r ≡ tablesRefusal b (now (addresses .entry)) (now (blocks .entry)) ⌝ }
     ensures { λ r. ⌜ (r ≡ 0 → Placed (b .held) (b .slots) (now (addresses .entry)) (now (blocks .entry)) (now (places .exit))) ⌝ }
 {
@@ -140,7 +142,7 @@ pub(crate) fn of_state(
     c: counters::Counters,
     places: &mut [u16],
 ) -> u32
-    requires { ⌜ (b .blocks ≤ 65536) × (b .rows ≤ 1024) × (b .slots ≤ 256) × (length (now addresses) ≡ b .rows * 40) × (length (now blocks) ≡ b .slots * 40) × (length (now places) ≡ 1024) ⌝ }
+    requires { ⌜ (b .blocks ≤ 65536) × (b .rows ≤ 1024) × (b .slots ≤ 256) × (length (now addresses) ≡ tableBytes (b .rows)) × (length (now blocks) ≡ tableBytes (b .slots)) × (length (now places) ≡ 1024) ⌝ }
     ensures { λ r. ⌜ r ≡ stateRefusal b (now (addresses .entry)) (now (blocks .entry)) (countersOf c) ⌝ }
     ensures { λ r. ⌜ (r ≡ 0 → Placed (b .held) (b .slots) (now (addresses .entry)) (now (blocks .entry)) (now (places .exit))) ⌝ }
 {

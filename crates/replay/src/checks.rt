@@ -1,5 +1,6 @@
 // The tests before a line is answered.
 use parts::BoxRecord;
+use tables::row;
 ghost use mathlib.Core.Path.{_≡_};
 ghost use Rattle.session.specs.Memory.{lengthsFit, numbersFit};
 
@@ -23,10 +24,10 @@ pub fn lengths_fit(
     if flash != 16384 {
         return false;
     }
-    if addresses != 40960 {
+    if addresses != 1024 * row::BYTES {
         return false;
     }
-    if blocks != 10240 {
+    if blocks != 256 * row::BYTES {
         return false;
     }
     out == 256

@@ -1,6 +1,7 @@
 // Replays the list on standard input to standard output.
 use replay::feed;
 use session::Session;
+use tables::row;
 ghost use mathlib.Core.Path.{_≡_};
 ghost use mathlib.Core.Bool.{_&&_};
 ghost use mathlib.Core.List.{List};
@@ -147,8 +148,8 @@ fn main() {
     let mut line = [0u8; 33];
     let mut disk = [0u8; 16384];
     let mut flash = [0u8; 16384];
-    let mut addresses = [0u8; 40960];
-    let mut blocks = [0u8; 10240];
+    let mut addresses = [0u8; 1024 * row::BYTES];
+    let mut blocks = [0u8; 256 * row::BYTES];
     let mut out = [0u8; 256];
     let s = all(
         &mut chunk,

@@ -8,6 +8,7 @@ ghost use mathlib.Core.Path.{_≡_};
 ghost use mathlib.Core.List.{List};
 ghost use Prim.Native.Nat.{ℕ, _+_, _*_, _<_, _≤_};
 ghost use lib.ListN.{length};
+ghost use Rattle.tables.specs.Rows.{tableBytes};
 ghost use mathlib.Core.Option.{Option};
 ghost use Rattle.paper.specs.Cache.{Box, Call, serve, rowWithBlock};
 ghost use Rattle.paper.specs.Engine.{Fixed, engine};
@@ -35,7 +36,7 @@ pub fn serve_back(
     block: &[u8],
     places: &mut [u16],
 ) -> Served
-    requires { ⌜ (0 < b .rows) × (0 < b .slots) × (b .held ≤ b .rows) × (length (now addrs) ≡ b .rows * 40) × (length (now blocks) ≡ b .slots * 40) × (length (now block) ≡ b .size) × (a .0 < b .blocks) × (b .rows ≤ 1024) × (length (now places) ≡ 1024) ⌝ }
+    requires { ⌜ (0 < b .rows) × (0 < b .slots) × (b .held ≤ b .rows) × (length (now addrs) ≡ tableBytes (b .rows)) × (length (now blocks) ≡ tableBytes (b .slots)) × (length (now block) ≡ b .size) × (a .0 < b .blocks) × (b .rows ≤ 1024) × (length (now places) ≡ 1024) ⌝ }
     requires { ⌜ ((s : Box (Fixed 32) (Fixed (b .size))) × Rep b (now disk) (now flash) (now addrs) (now blocks) s × Sure b s) ⌝ }
     requires { ⌜ Placed (b .held) (b .slots) (now addrs) (now blocks) (now places) ⌝ }
     ensures { λ r. ⌜ (r .flashed ≤ 1) × (r .primary ≤ 2 + b .rows) × (length (now (places .exit)) ≡ 1024) ⌝ }
@@ -63,7 +64,7 @@ pub fn serve_flush(
     blocks: &[u8],
     places: &[u16],
 ) -> Served
-    requires { ⌜ (0 < b .slots) × (b .slots ≤ 256) × (b .held ≤ b .rows) × (length (now addrs) ≡ b .rows * 40) × (length (now blocks) ≡ b .slots * 40) × (b .held ≤ length (now places)) ⌝ }
+    requires { ⌜ (0 < b .slots) × (b .slots ≤ 256) × (b .held ≤ b .rows) × (length (now addrs) ≡ tableBytes (b .rows)) × (length (now blocks) ≡ tableBytes (b .slots)) × (b .held ≤ length (now places)) ⌝ }
     requires { ⌜ ((s : Box (Fixed 32) (Fixed (b .size))) × Rep b (now disk) (now flash) (now addrs) (now blocks) s) ⌝ }
     requires { ⌜ Placed (b .held) (b .slots) (now addrs) (now blocks) (now places) ⌝ }
     ensures { λ r. ⌜ (r .flashed ≤ 1) × (r .primary ≤ 2 + b .rows) ⌝ }
@@ -91,7 +92,7 @@ pub fn serve_through(
     block: &[u8],
     places: &mut [u16],
 ) -> Served
-    requires { ⌜ (0 < b .rows) × (0 < b .slots) × (b .held ≤ b .rows) × (length (now addrs) ≡ b .rows * 40) × (length (now blocks) ≡ b .slots * 40) × (length (now block) ≡ b .size) × (a .0 < b .blocks) × (b .rows ≤ 1024) × (length (now disk) ≡ b .blocks * b .size) × (length (now places) ≡ 1024) ⌝ }
+    requires { ⌜ (0 < b .rows) × (0 < b .slots) × (b .held ≤ b .rows) × (length (now addrs) ≡ tableBytes (b .rows)) × (length (now blocks) ≡ tableBytes (b .slots)) × (length (now block) ≡ b .size) × (a .0 < b .blocks) × (b .rows ≤ 1024) × (length (now disk) ≡ b .blocks * b .size) × (length (now places) ≡ 1024) ⌝ }
     requires { ⌜ ((s : Box (Fixed 32) (Fixed (b .size))) × Rep b (now disk) (now flash) (now addrs) (now blocks) s × Sure b s) ⌝ }
     requires { ⌜ Placed (b .held) (b .slots) (now addrs) (now blocks) (now places) ⌝ }
     ensures { λ r. ⌜ (r .flashed ≤ 1) × (r .primary ≤ 2 + b .rows) × (length (now (places .exit)) ≡ 1024) ⌝ }
@@ -121,7 +122,7 @@ pub fn serve_invalidate(
     blocks: &mut [u8],
     block: &[u8],
 ) -> Served
-    requires { ⌜ (0 < b .rows) × (0 < b .slots) × (b .held ≤ b .rows) × (length (now addrs) ≡ b .rows * 40) × (length (now blocks) ≡ b .slots * 40) × (length (now block) ≡ b .size) × (a .0 < b .blocks) × (b .rows ≤ 1024) × (length (now disk) ≡ b .blocks * b .size) ⌝ }
+    requires { ⌜ (0 < b .rows) × (0 < b .slots) × (b .held ≤ b .rows) × (length (now addrs) ≡ tableBytes (b .rows)) × (length (now blocks) ≡ tableBytes (b .slots)) × (length (now block) ≡ b .size) × (a .0 < b .blocks) × (b .rows ≤ 1024) × (length (now disk) ≡ b .blocks * b .size) ⌝ }
     requires { ⌜ ((s : Box (Fixed 32) (Fixed (b .size))) × (flash : List ℕ) × Rep b (now disk) flash (now addrs) (now blocks) s × Sure b s) ⌝ }
     ensures { λ r. ⌜ (r .flashed ≤ 1) × (r .primary ≤ 2 + b .rows) ⌝ }
     ensures { λ r. ⌜ ((s : Box (Fixed 32) (Fixed (b .size))) (flash : List ℕ) (x : Fixed (b .size)) → Rep b (now (disk .entry)) flash (now (addrs .entry)) (now (blocks .entry)) s → Sure b s → x .0 ≡ now (block .entry)
@@ -155,7 +156,7 @@ pub fn read_hit(
     block: &mut [u8],
     places: &mut [u16],
 ) -> Served
-    requires { ⌜ (0 < b .rows) × (0 < b .slots) × (b .held ≤ b .rows) × (length (now addrs) ≡ b .rows * 40) × (length (now blocks) ≡ b .slots * 40) × (length (now block) ≡ b .size) × (a .0 < b .blocks) × (b .rows ≤ 1024) × (i < b .held) × (j < b .slots) × (length (now places) ≡ 1024) ⌝ }
+    requires { ⌜ (0 < b .rows) × (0 < b .slots) × (b .held ≤ b .rows) × (length (now addrs) ≡ tableBytes (b .rows)) × (length (now blocks) ≡ tableBytes (b .slots)) × (length (now block) ≡ b .size) × (a .0 < b .blocks) × (b .rows ≤ 1024) × (i < b .held) × (j < b .slots) × (length (now places) ≡ 1024) ⌝ }
     requires { ⌜ ((s : Box (Fixed 32) (Fixed (b .size))) × Rep b (now disk) (now flash) (now addrs) (now blocks) s × Sure b s × HitAt b s (a .0) i j) ⌝ }
     requires { ⌜ Placed (b .held) (b .slots) (now addrs) (now blocks) (now places) ⌝ }
     ensures { λ r. ⌜ (r .flashed ≤ 1) × (r .primary ≤ 2 + b .rows) × (length (now (places .exit)) ≡ 1024) ⌝ }
@@ -165,7 +166,7 @@ pub fn read_hit(
 {
     let g = rows::fp_at(addrs, i);
     let dirty = rows::dirty_at(addrs, i);
-    let x = tables::find::slot_at(blocks, j);
+    let x = tables::row::slot_at(blocks, j);
     let k = x.0;
     block::copy_block(flash, k as usize, block, 0, b.size);
     let d = steps::step(b, a, dirty, disk, flash, addrs, blocks, &g, block, places);
@@ -188,7 +189,7 @@ pub fn read_miss(
     block: &mut [u8],
     places: &mut [u16],
 ) -> Served
-    requires { ⌜ (0 < b .rows) × (0 < b .slots) × (b .held ≤ b .rows) × (length (now addrs) ≡ b .rows * 40) × (length (now blocks) ≡ b .slots * 40) × (length (now block) ≡ b .size) × (a .0 < b .blocks) × (b .rows ≤ 1024) × (length (now places) ≡ 1024) ⌝ }
+    requires { ⌜ (0 < b .rows) × (0 < b .slots) × (b .held ≤ b .rows) × (length (now addrs) ≡ tableBytes (b .rows)) × (length (now blocks) ≡ tableBytes (b .slots)) × (length (now block) ≡ b .size) × (a .0 < b .blocks) × (b .rows ≤ 1024) × (length (now places) ≡ 1024) ⌝ }
     requires { ⌜ ((s : Box (Fixed 32) (Fixed (b .size))) × Rep b (now disk) (now flash) (now addrs) (now blocks) s × Sure b s) ⌝ }
     requires { ⌜ Placed (b .held) (b .slots) (now addrs) (now blocks) (now places) ⌝ }
     ensures { λ r. ⌜ (r .flashed ≤ 1) × (r .primary ≤ 2 + b .rows) × (length (now (places .exit)) ≡ 1024) ⌝ }
@@ -219,7 +220,7 @@ pub fn serve_read(
     block: &mut [u8],
     places: &mut [u16],
 ) -> Served
-    requires { ⌜ (0 < b .rows) × (0 < b .slots) × (b .held ≤ b .rows) × (length (now addrs) ≡ b .rows * 40) × (length (now blocks) ≡ b .slots * 40) × (length (now block) ≡ b .size) × (a .0 < b .blocks) × (b .rows ≤ 1024) × (length (now places) ≡ 1024) ⌝ }
+    requires { ⌜ (0 < b .rows) × (0 < b .slots) × (b .held ≤ b .rows) × (length (now addrs) ≡ tableBytes (b .rows)) × (length (now blocks) ≡ tableBytes (b .slots)) × (length (now block) ≡ b .size) × (a .0 < b .blocks) × (b .rows ≤ 1024) × (length (now places) ≡ 1024) ⌝ }
     requires { ⌜ ((s : Box (Fixed 32) (Fixed (b .size))) × Rep b (now disk) (now flash) (now addrs) (now blocks) s × Sure b s) ⌝ }
     requires { ⌜ Placed (b .held) (b .slots) (now addrs) (now blocks) (now places) ⌝ }
     ensures { λ r. ⌜ (r .flashed ≤ 1) × (r .primary ≤ 2 + b .rows) × (length (now (places .exit)) ≡ 1024) ⌝ }

@@ -13,6 +13,7 @@ use Rattle.paper.specs.KeyedLaws.{by-test}
 use Rattle.paper.specs.Cache.{Counters}
 use Rattle.parts.specs.declared.BoxRecord.{BoxRecord}
 use Rattle.session.specs.Memory.{buffers, held, within, over}
+use Rattle.tables.specs.Rows.{tableBytes}
 
 pub same-buffers : {d d′ f f′ a a′ e e′ : List ℕ} → d ≡ d′ → f ≡ f′ → a ≡ a′ → e ≡ e′ → buffers d f a e ≡ buffers d′ f′ a′ e′
 same-buffers p q r s = cc
@@ -30,4 +31,4 @@ splice-first n d = ap (λ k. take n d ++ drop k d) (zero-add (length (take n d))
 -- what the buffers hold, written over them
 pub over-same : (b : BoxRecord) (k : Counters) (d f a e : List ℕ) → held (b .held) k (buffers d f a e) ≡ over (within b (buffers d f a e) k) (buffers d f a e)
 unfolding over
-over-same b k d f a e = ap (held (b .held) k) (same-buffers (sym (splice-first (b .blocks * b .size) d)) (sym (splice-first (b .slots * b .size) f)) (sym (splice-first (b .rows * 40) a)) (sym (splice-first (b .slots * 40) e)))
+over-same b k d f a e = ap (held (b .held) k) (same-buffers (sym (splice-first (b .blocks * b .size) d)) (sym (splice-first (b .slots * b .size) f)) (sym (splice-first (tableBytes (b .rows)) a)) (sym (splice-first (tableBytes (b .slots)) e)))

@@ -15,6 +15,7 @@ use Rattle.answers.specs.Done.{recordOf}
 use Rattle.session.specs.Bytewise.{State, Printed, byteIn, atEnd}
 use Rattle.session.specs.declared.Session.{Session}
 use Rattle.session.specs.declared.Fed.{Fed}
+use Rattle.tables.specs.Rows.{tableBytes}
 
 -- ---- the buffers of the box
 
@@ -30,7 +31,7 @@ buffers disk flash addresses blocks = record { disk = disk; flash = flash; addre
 
 -- what is lent in them
 abbrev pub within : BoxRecord → Buffers → Counters → Lent
-within b B k = lent b (take (b .blocks * b .size) (B .disk)) (take (b .slots * b .size) (B .flash)) (take (b .rows * 40) (B .addresses)) (take (b .slots * 40) (B .blocks)) k
+within b B k = lent b (take (b .blocks * b .size) (B .disk)) (take (b .slots * b .size) (B .flash)) (take (tableBytes (b .rows)) (B .addresses)) (take (tableBytes (b .slots)) (B .blocks)) k
 
 -- a box record's n, the counters and the buffers; those of a box written over the buffers
 pub record Held : Type 0 where
@@ -58,14 +59,14 @@ memory s line disk flash addresses blocks out = record { session = s; line = lin
 
 -- The buffers hold every box that replay opens
 abbrev pub Sized : (disk flash addresses blocks : List ℕ) → Type 0
-Sized disk flash addresses blocks = (length disk ≡ 16384) × (length flash ≡ 16384) × (length addresses ≡ 40960) × (length blocks ≡ 10240)
+Sized disk flash addresses blocks = (length disk ≡ 16384) × (length flash ≡ 16384) × (length addresses ≡ tableBytes 1024) × (length blocks ≡ tableBytes 256)
 
 abbrev pub Holds : BoxRecord → Type 0
 Holds b = (b .size ≤ 4096) × (b .blocks ≤ 256) × (b .rows ≤ 1024) × (b .slots ≤ 256) × (b .blocks * b .size ≤ 16384) × (b .slots * b .size ≤ 16384)
 
 -- the same as tests
 unfoldable pub lengthsFit : (line disk flash addresses blocks out : ℕ) → Bool
-lengthsFit line disk flash addresses blocks out = eqb line 33 && eqb disk 16384 && eqb flash 16384 && eqb addresses 40960 && eqb blocks 10240 && eqb out 256
+lengthsFit line disk flash addresses blocks out = eqb line 33 && eqb disk 16384 && eqb flash 16384 && eqb addresses (tableBytes 1024) && eqb blocks (tableBytes 256) && eqb out 256
 
 unfoldable pub numbersFit : BoxRecord → Bool
 numbersFit b = leb (b .size) 4096 && leb (b .blocks) 256 && leb (b .rows) 1024 && leb (b .slots) 256 && leb (b .blocks * b .size) 16384 && leb (b .slots * b .size) 16384

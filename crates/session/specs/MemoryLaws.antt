@@ -1,11 +1,11 @@
 -- A byte keeps a state that fits its buffers, so that what is written over them is read back. By the tests and the lengths of each part.
 -- Assumes nothing.
-use mathlib.Core.Path.{_≡_, refl, sym, ap, ap₂, _∙_, subst}
+use mathlib.Core.Path.{_≡_, refl, sym, ap₂, _∙_, subst}
 use mathlib.Core.Bool.{Bool, true, false, _&&_, _||_, cond}
-use mathlib.Core.List.{List, [], _∷_, _++_, map}
+use mathlib.Core.List.{List, [], _∷_, _++_}
 use mathlib.Core.Option.{Option, none, some}
 use Prim.Native.Nat.{ℕ, zero, suc, _+_, _-_, _*_, _≤_}
-use native.Mathlib.Nat.{zero-mul, suc-mul, sub-zero}
+use native.Mathlib.Nat.{zero-mul, suc-mul}
 use native.Mathlib.Omega.{arith}
 use lib.Dec.{eqb, ltb, leb}
 use lib.ListN.{length, take, drop, replicate, length-append, length-replicate}
@@ -13,10 +13,7 @@ use lib.Seq.{take-at, length-take-le}
 use borrow.Author.Tests.{eqb-true, eqb-false, leb-true, ltb-true, ltb-false, le-leb}
 use Rattle.block.specs.Blocks.{splice}
 use Rattle.block.specs.Laws.{length-splice}
-use Rattle.tables.specs.Rows.{flat}
-use Rattle.tables.specs.Records.{blockBytes, addressTable, blockTable, freeRow, slotsFrom, freshAddresses, freshBlocks}
-use Rattle.tables.specs.ShiftLaws.{length-zeros}
-use Rattle.tables.specs.OperationLaws.{free-length}
+use Rattle.tables.specs.Written.{fresh-addresses-length, fresh-blocks-length}
 use Rattle.paper.specs.KeyedLaws.{by-test, and-left, and-right, or-false-left, or-false-right}
 use Rattle.paper.specs.Cache.{Word, hit, miss, sameBlock, newBlock, fromCache, fromDisk, done}
 use Rattle.paper.specs.Lent.{Numbers, Lent, Ask, calling, Answer, refused, answered, refusal, unfit, fresh}
@@ -33,6 +30,7 @@ use Rattle.print.specs.DecimalLaws.{decimal-length}
 use Rattle.session.specs.Bytewise.{State, Printed, firstLine, laterLine, endLine, keep, byteIn, atEnd}
 use Rattle.answers.specs.Done.{recordOf}
 use Rattle.session.specs.Memory.{Memory, Sized, Holds, lengthsFit, numbersFit, fits, over, stateIn, stored, fed, ended}
+use Rattle.tables.specs.Rows.{tableBytes}
 
 -- ---- a text put at the start of a buffer
 
@@ -79,19 +77,14 @@ unfolding startDisk
 disk-length B zero = sym (zero-mul B)
 disk-length B (suc k) = length-append (startDisk B k) (replicate B k) ∙ ap₂ _+_ (disk-length B k) (length-replicate B k) ∙ sym (suc-mul k B)
 
-free-lengths : (k d : ℕ) → length (flat (map blockBytes (map freeRow (slotsFrom k d)))) ≡ d * 40
-unfolding flat
-free-lengths k zero = refl
-free-lengths k (suc d) = omega (arith, length-append (blockBytes (freeRow k)) (flat (map blockBytes (map freeRow (slotsFrom (suc k) d)))), free-length k, free-lengths (suc k) d)
-
 started-lengths : (N : Numbers) → Lengths N (started N)
-unfolding started fresh freshAddresses addressTable flat freshBlocks blockTable
+unfolding started fresh
 started-lengths N =
     record {
       disk = disk-length (N .B) (N .P);
       flash = length-replicate (N .d * N .B) 0;
-      addresses = length-zeros ((N .m - 0) * 40) ∙ ap (λ k. k * 40) (sub-zero (N .m));
-      blocks = free-lengths 0 (N .d);
+      addresses = fresh-addresses-length (N .m);
+      blocks = fresh-blocks-length (N .d);
     }
 
 -- ---- a later line keeps the lengths
@@ -213,12 +206,12 @@ fitting M h =
     let L = lengthsFit l d f a t o in
     let n = numbersFit b in
     let k = leb (M .session .kept) 33 in
-    let x = six-tests (eqb l 33) (eqb d 16384) (eqb f 16384) (eqb a 40960) (eqb t 10240) (eqb o 256) (and-left L n (and-left (L && n) k h)) in
+    let x = six-tests (eqb l 33) (eqb d 16384) (eqb f 16384) (eqb a (tableBytes 1024)) (eqb t (tableBytes 256)) (eqb o 256) (and-left L n (and-left (L && n) k h)) in
     let y = six-tests (leb (b .size) 4096) (leb (b .blocks) 256) (leb (b .rows) 1024) (leb (b .slots) 256) (leb (b .blocks * b .size) 16384) (leb (b .slots * b .size) 16384)
     (and-right L n (and-left (L && n) k h)) in
     record {
       line = eqb-true l 33 (x .0);
-      sized = (eqb-true d 16384 (x .1), eqb-true f 16384 (x .2), eqb-true a 40960 (x .3), eqb-true t 10240 (x .4));
+      sized = (eqb-true d 16384 (x .1), eqb-true f 16384 (x .2), eqb-true a (tableBytes 1024) (x .3), eqb-true t (tableBytes 256) (x .4));
       out = eqb-true o 256 (x .5);
       holds = (
         leb-true (b .size) 4096 (y .0),
@@ -267,8 +260,8 @@ state-fitted M h =
       lengths = record {
         disk = length-take-le (b .blocks * b .size) (B .disk) (omega arith);
         flash = length-take-le (b .slots * b .size) (B .flash) (omega arith);
-        addresses = length-take-le (b .rows * 40) (B .addresses) (omega arith);
-        blocks = length-take-le (b .slots * 40) (B .blocks) (omega arith);
+        addresses = length-take-le (tableBytes (b .rows)) (B .addresses) (omega arith);
+        blocks = length-take-le (tableBytes (b .slots)) (B .blocks) (omega arith);
       };
     }
 
@@ -283,8 +276,8 @@ stored-back M o h =
       take-splice (length (s .kept)) (s .kept) (M .line) refl,
       take-splice (N .P * N .B) (t .disk) (M .buffers .disk) (l .disk),
       take-splice (N .d * N .B) (t .flash) (M .buffers .flash) (l .flash),
-      take-splice (N .m * 40) (t .addresses) (M .buffers .addresses) (l .addresses),
-      take-splice (N .d * 40) (t .blocks) (M .buffers .blocks) (l .blocks),
+      take-splice (tableBytes (N .m)) (t .addresses) (M .buffers .addresses) (l .addresses),
+      take-splice (tableBytes (N .d)) (t .blocks) (M .buffers .blocks) (l .blocks),
     )
 
 stored-fits : (M : Memory) (o : Printed) → fits M ≡ true → Small o → fits ((stored M o) .memory) ≡ true

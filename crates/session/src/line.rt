@@ -10,6 +10,7 @@ use open::Begun;
 use parts::BoxRecord;
 use policy::Answer;
 use policy::calls::Outcome;
+use tables::row;
 ghost use mathlib.Core.Path.{_≡_};
 ghost use mathlib.Core.Bool.{false};
 ghost use mathlib.Core.List.{List};
@@ -39,8 +40,8 @@ fn open_box(
 {
     let p = b.blocks * b.size;
     let f = b.slots * b.size;
-    let m = b.rows * 40;
-    let d = b.slots * 40;
+    let m = b.rows * row::BYTES;
+    let d = b.slots * row::BYTES;
     start::start(
         b,
         &mut disk[0..p],
@@ -69,8 +70,8 @@ fn call_box(
 {
     let p = b.blocks * b.size;
     let f = b.slots * b.size;
-    let m = b.rows * 40;
-    let d = b.slots * 40;
+    let m = b.rows * row::BYTES;
+    let d = b.slots * row::BYTES;
     call::call(
         c,
         b,

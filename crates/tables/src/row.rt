@@ -9,13 +9,8 @@ ghost use Rattle.tables.specs.Find.{isDirty, isUsed};
 ghost use Rattle.tables.specs.Records.{readAddress, readBlock};
 ghost use Rattle.tables.specs.Sound.{tailOk};
 
-// The bytes of a table of `n` rows.
-pub fn table_bytes(n: usize) -> usize
-    requires { ⌜ n ≤ 1024 ⌝ }
-    ensures { λ r. ⌜ r ≡ tableBytes n ⌝ }
-{
-    n * 40
-}
+// The bytes of a row.
+pub const BYTES: usize = 40;
 
 // The bytes of a table behind its first `n` rows, as a part of it.
 pub fn behind<'a>(t: &'a [u8], n: usize) -> &'a [u8]

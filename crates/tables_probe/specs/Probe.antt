@@ -1,5 +1,5 @@
 -- What the probe's functions answer, and where what they are given fits. Assumes nothing.
-use Prim.Native.Nat.{ℕ, _+_, _*_}
+use Prim.Native.Nat.{ℕ, _+_}
 use mathlib.Core.Bool.{Bool, not, cond, _&&_, _||_}
 use mathlib.Core.List.{List}
 use lib.Dec.{eqb, leb, ltb}
@@ -8,6 +8,7 @@ use Rattle.tables.specs.Sound.{addressesFit, blocksFit}
 use Rattle.tables.specs.Unsound.{addressesUnsound, blocksUnsound, dirtyUncached}
 use Rattle.tables.specs.declared.Found.{Found}
 use Rattle.tables.specs.declared.Found.the-variants.{At, Nothing}
+use Rattle.tables.specs.Rows.{tableBytes}
 
 -- the answer where there is no such row, or what is given does not fit
 abbrev pub none : ℕ
@@ -19,7 +20,7 @@ number Nothing = none
 
 -- n rows, at most 1,024, are in t
 unfoldable pub fits : ℕ → List ℕ → Bool
-fits n t = leb n 1024 && leb (n * 40) (length t)
+fits n t = leb n 1024 && leb (tableBytes n) (length t)
 
 -- and g has 32 bytes
 abbrev pub fitsWith : ℕ → List ℕ → List ℕ → Bool
@@ -31,11 +32,11 @@ fitsRow n t i = ltb i n && fits n t
 
 -- a row more is in t behind n, and g has 32 bytes
 abbrev pub fitsMore : ℕ → List ℕ → List ℕ → Bool
-fitsMore n t g = eqb (length g) 32 && (leb n 1023 && leb (n * 40 + 40) (length t))
+fitsMore n t g = eqb (length g) 32 && (leb n 1023 && leb (tableBytes (n + 1)) (length t))
 
 -- t is a table of m rows, at most 1,024
 abbrev pub fitsTable : ℕ → List ℕ → Bool
-fitsTable m t = leb m 1024 && eqb (length t) (m * 40)
+fitsTable m t = leb m 1024 && eqb (length t) (tableBytes m)
 
 -- row i is one of the d rows of a block table
 abbrev pub fitsBlock : ℕ → List ℕ → ℕ → Bool

@@ -6,18 +6,15 @@ use tables::put;
 use tables::shift;
 ghost use mathlib.Core.Path.{_≡_};
 ghost use mathlib.Core.Bool.{cond};
-ghost use mathlib.Core.List.{[], _∷_, _++_};
-ghost use Prim.Native.Nat.{_+_, _*_};
-ghost use lib.ListN.{drop, getD, set};
-ghost use Rattle.tables.specs.Rows.{rows, flat, zeros, removeAt, freed, filled};
 ghost use Rattle.tables.specs.Records.{addressBytes, addressRow, freshAddresses, freshBlocks};
 ghost use Rattle.tables.specs.Sound.{blocksFit};
 ghost use Rattle.tables_probe.specs.Probe.{fitsMore, fitsRow, fitsTable, fitsBlock, fitsBlockWith};
+ghost use Rattle.tables.specs.Operations.{rowOut, rowAdded, rowCleaned, rowNewest, rowFreed, rowFilled};
 
 // Takes row `i` out of the first `n`.
 #[no_mangle]
 pub extern "C" fn tables_probe_remove_row(t: &mut [u8], n: usize, i: usize)
-    ensures { λ _. ⌜ now (t .exit) ≡ cond (fitsRow n (now (t .entry)) i) (flat (removeAt (rows n (now (t .entry))) i) ++ (zeros 40 ++ drop (n * 40) (now (t .entry)))) (now (t .entry)) ⌝ }
+    ensures { λ _. ⌜ now (t .exit) ≡ cond (fitsRow n (now (t .entry)) i) (rowOut n i (now (t .entry))) (now (t .entry)) ⌝ }
 {
     if fit::fits_row(t, n, i) {
         shift::remove_row(t, n, i);
@@ -27,7 +24,7 @@ pub extern "C" fn tables_probe_remove_row(t: &mut [u8], n: usize, i: usize)
 // Adds a row behind the first `n`.
 #[no_mangle]
 pub extern "C" fn tables_probe_push_address(t: &mut [u8], n: usize, a: u32, g: &[u8], dirty: u8)
-    ensures { λ _. ⌜ now (t .exit) ≡ cond (fitsMore n (now (t .entry)) (now (g .entry))) (flat (rows n (now (t .entry)) ++ (addressBytes (addressRow a (now (g .entry)) dirty) ∷ [])) ++ drop (n * 40 + 40) (now (t .entry))) (now (t .entry)) ⌝ }
+    ensures { λ _. ⌜ now (t .exit) ≡ cond (fitsMore n (now (t .entry)) (now (g .entry))) (rowAdded n (addressBytes (addressRow a (now (g .entry)) dirty)) (now (t .entry))) (now (t .entry)) ⌝ }
 {
     if fit::fits_more(t, n, g) {
         put::push_address(t, n, SourceAddress(a), g, dirty);
@@ -37,7 +34,7 @@ pub extern "C" fn tables_probe_push_address(t: &mut [u8], n: usize, a: u32, g: &
 // Makes row `i` of the first `n` clean.
 #[no_mangle]
 pub extern "C" fn tables_probe_set_clean(t: &mut [u8], n: usize, i: usize)
-    ensures { λ _. ⌜ now (t .exit) ≡ cond (fitsRow n (now (t .entry)) i) (set (now (t .entry)) (i * 40 + 36) 0) (now (t .entry)) ⌝ }
+    ensures { λ _. ⌜ now (t .exit) ≡ cond (fitsRow n (now (t .entry)) i) (rowCleaned i (now (t .entry))) (now (t .entry)) ⌝ }
 {
     if fit::fits_row(t, n, i) {
         put::set_clean(t, i);
@@ -47,7 +44,7 @@ pub extern "C" fn tables_probe_set_clean(t: &mut [u8], n: usize, i: usize)
 // Moves block row `i` of `d` to the end.
 #[no_mangle]
 pub extern "C" fn tables_probe_to_newest(t: &mut [u8], d: usize, i: usize)
-    ensures { λ _. ⌜ now (t .exit) ≡ cond (fitsBlock d (now (t .entry)) i) (flat (removeAt (rows d (now (t .entry))) i ++ (getD (rows d (now (t .entry))) i [] ∷ []))) (now (t .entry)) ⌝ }
+    ensures { λ _. ⌜ now (t .exit) ≡ cond (fitsBlock d (now (t .entry)) i) (rowNewest d i (now (t .entry))) (now (t .entry)) ⌝ }
 {
     if fit::fits_block(t, d, i) {
         shift::to_newest(t, d, i);
@@ -57,7 +54,7 @@ pub extern "C" fn tables_probe_to_newest(t: &mut [u8], d: usize, i: usize)
 // Frees block row `i` of `d`, and moves it to the front.
 #[no_mangle]
 pub extern "C" fn tables_probe_to_front(t: &mut [u8], d: usize, i: usize)
-    ensures { λ _. ⌜ now (t .exit) ≡ cond (fitsBlock d (now (t .entry)) i) (flat (freed (getD (rows d (now (t .entry))) i []) ∷ removeAt (rows d (now (t .entry))) i)) (now (t .entry)) ⌝ }
+    ensures { λ _. ⌜ now (t .exit) ≡ cond (fitsBlock d (now (t .entry)) i) (rowFreed d i (now (t .entry))) (now (t .entry)) ⌝ }
 {
     if fit::fits_block(t, d, i) {
         shift::to_front(t, d, i);
@@ -67,7 +64,7 @@ pub extern "C" fn tables_probe_to_front(t: &mut [u8], d: usize, i: usize)
 // Fills block row `i` of `d` with the fingerprint `g`, and moves it to the end.
 #[no_mangle]
 pub extern "C" fn tables_probe_put_block(t: &mut [u8], d: usize, i: usize, g: &[u8])
-    ensures { λ _. ⌜ now (t .exit) ≡ cond (fitsBlockWith d (now (t .entry)) i (now (g .entry))) (flat (removeAt (rows d (now (t .entry))) i ++ (filled (now (g .entry)) (getD (rows d (now (t .entry))) i []) ∷ []))) (now (t .entry)) ⌝ }
+    ensures { λ _. ⌜ now (t .exit) ≡ cond (fitsBlockWith d (now (t .entry)) i (now (g .entry))) (rowFilled d i (now (g .entry)) (now (t .entry))) (now (t .entry)) ⌝ }
 {
     if fit::fits_block_with(t, d, i, g) {
         put::put_block(t, d, i, g);

@@ -2,13 +2,13 @@
 use crate::fit;
 use tables::SourceAddress;
 use tables::find;
+use tables::row;
 ghost use mathlib.Core.Path.{_≡_};
-ghost use mathlib.Core.Bool.{cond, false};
-ghost use lib.Dec.{eqb};
+ghost use mathlib.Core.Bool.{cond, _&&_};
 ghost use lib.ListN.{drop};
 ghost use Rattle.tables.specs.Rows.{rows, rowAt};
 ghost use Rattle.tables.specs.Records.{readAddress, readBlock};
-ghost use Rattle.tables.specs.Find.{findFrom, hasAddress, hasFingerprint, isDirty, isDirtyOf, caches};
+ghost use Rattle.tables.specs.Find.{findFrom, hasAddress, hasFingerprint, isDirty, isDirtyOf, isUsed, caches};
 ghost use Rattle.tables_probe.specs.Probe.{none, number, fits, fitsWith, fitsRow};
 
 // The first of `n` address rows with the address `a`.
@@ -79,7 +79,7 @@ pub extern "C" fn tables_probe_address_at(t: &[u8], n: usize, i: usize) -> u32
     if !fit::fits_row(t, n, i) {
         return 4294967295;
     }
-    let a = find::address_at(t, i);
+    let a = row::address_at(t, i);
     a.0
 }
 
@@ -91,17 +91,28 @@ pub extern "C" fn tables_probe_slot_at(t: &[u8], n: usize, i: usize) -> u32
     if !fit::fits_row(t, n, i) {
         return 4294967295;
     }
-    let s = find::slot_at(t, i);
+    let s = row::slot_at(t, i);
     s.0
 }
 
-// Whether row `i` of `n` is dirty, or used.
+// Whether row `i` of `n` of an address table is dirty.
 #[no_mangle]
-pub extern "C" fn tables_probe_flag_at(t: &[u8], n: usize, i: usize) -> bool
-    ensures { λ r. ⌜ r ≡ cond (fitsRow n (now (t .entry)) i) (eqb (readAddress (rowAt (now (t .entry)) i) .dirty) 1) false ⌝ }
+pub extern "C" fn tables_probe_is_dirty(t: &[u8], n: usize, i: usize) -> bool
+    ensures { λ r. ⌜ r ≡ fitsRow n (now (t .entry)) i && isDirty (rowAt (now (t .entry)) i) ⌝ }
 {
     if !fit::fits_row(t, n, i) {
         return false;
     }
-    find::flag_at(t, i)
+    row::is_dirty(t, i)
+}
+
+// Whether row `i` of `n` of a block table is used.
+#[no_mangle]
+pub extern "C" fn tables_probe_is_used(t: &[u8], n: usize, i: usize) -> bool
+    ensures { λ r. ⌜ r ≡ fitsRow n (now (t .entry)) i && isUsed (rowAt (now (t .entry)) i) ⌝ }
+{
+    if !fit::fits_row(t, n, i) {
+        return false;
+    }
+    row::is_used(t, i)
 }

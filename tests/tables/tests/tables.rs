@@ -52,9 +52,9 @@ fn compare_questions(t: &Tables, random: &mut Random, context: &str) {
     }
     let (i, j) = (random.below(t.n + 1), random.below(t.d));
     assert_eq!(probe::address_at(&t.addresses, t.n, i) as usize, held.get(i).map_or(NONE, |row| row.address as usize), "address_at: {context}");
-    assert_eq!(probe::flag_at(&t.addresses, t.n, i), held.get(i).map_or(false, |row| row.dirty == 1), "flag_at: {context}");
+    assert_eq!(probe::is_dirty(&t.addresses, t.n, i), held.get(i).map_or(false, |row| row.dirty == 1), "is_dirty: {context}");
     assert_eq!(probe::slot_at(&t.blocks, t.d, j), blocks[j].slot, "slot_at: {context}");
-    assert_eq!(probe::flag_at(&t.blocks, t.d, j), blocks[j].used == 1, "flag_at of a block row: {context}");
+    assert_eq!(probe::is_used(&t.blocks, t.d, j), blocks[j].used == 1, "is_used: {context}");
     assert!(*t == before, "a search changed its input: {context}");
 }
 
@@ -147,7 +147,7 @@ fn sound_tables() {
         compare_moves(&t, &mut random, &context);
         let mut after = t.clone();
         probe::to_front(&mut after.blocks, t.d, random.below(t.d));
-        let used: Vec<usize> = (0..t.d).filter(|k| probe::flag_at(&after.blocks, t.d, *k)).collect();
+        let used: Vec<usize> = (0..t.d).filter(|k| probe::is_used(&after.blocks, t.d, *k)).collect();
         if !used.is_empty() {
             probe::to_newest(&mut after.blocks, t.d, used[random.below(used.len())]);
         }

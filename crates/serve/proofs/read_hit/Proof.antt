@@ -11,7 +11,7 @@ use Rattle.paper.specs.Lent.{bit}
 use Rattle.parts.specs.Rep.{noRow}
 use native.Mathlib.Nat.{zero-add}
 use Rattle.step.specs.Steps.{asks}
-use Rattle.parts.specs.MoveLaws.{fp-part, dirty-is}
+use Rattle.parts.specs.MoveLaws.{fp-is, dirty-is}
 use Rattle.parts.specs.CopyLaws.{parts-length, block-ends, slot-some, slotOf-below}
 use Rattle.serve.specs.ServeLaws.{answer-is, copied-block, hit-is}
 use borrow.Author.Needs.{needs}
@@ -55,7 +55,7 @@ returns c =
           let x = blockOf (engine (a .b .size)) f (s .used) (s .flash) in
           let k = (slot-some (a .b .size) (a .b .slots) (a .blocks .now) (s .free) (s .used) (getD (s .rows) (a .i) noRow .fingerprint) (h .blocks-are) (a .j) (q .place) (q .is-cached) (at-slot-at .slot-at .result .0) (at-slot-at .slot-at .ensures)) in
           let ex = sym (at-copy-block .copy-block .ensures ∙ copied-block (a .b .size) (a .b .slots) (a .flash .now) (s .flash) (h .flash-is) (at-slot-at .slot-at .result .0) (engine (a .b .size) .blank) (rw (slot-some (a .b .size) (a .b .slots) (a .blocks .now) (s .free) (s .used) (getD (s .rows) (a .i) noRow .fingerprint) (h .blocks-are) (a .j) (q .place) (q .is-cached) (at-slot-at .slot-at .result .0) (at-slot-at .slot-at .ensures)) (slotOf-below (a .b .size) (a .b .slots) (getD (s .rows) (a .i) noRow .fingerprint) (s .used) (p .1) (h .blocks-are .used-below))) (a .block .now) (p .5) ∙ ap (λ (y : ℕ). getD (s .flash) y (engine (a .b .size) .blank) .0) k) in
-          let ef = sym (fp-part (a .b .blocks) (a .b .rows) (a .b .held) (a .addrs .now) (s .rows) (h .rows-are) (a .i) (p .8) noRow 32 refl) ∙ sym (at-fp-at .fp-at .ensures .1) in
+          let ef = sym (fp-is (a .b .blocks) (a .b .rows) (a .b .held) (a .addrs .now) (s .rows) (h .rows-are) (a .i) (p .8) noRow) ∙ sym (at-fp-at .fp-at .ensures .1) in
           answer-is (a .b) lent hit (some x) 0 (step (engine (a .b .size)) (a .b .rows) s (asks (a .a .0) f x (getD (s .rows) (a .i) noRow .dirty))) true (w .result .held) (w .result .flashed) (w .result .primary) (w .result .primary) _ _ _ _ _
           (w .ensures .1 s f x (getD (s .rows) (a .i) noRow .dirty) h sd ef ex (at-dirty-at .dirty-at .ensures ∙ ap bit (dirty-is (a .b .blocks) (a .b .rows) (a .b .held) (a .addrs .now) (s .rows) (h .rows-are) (a .i) (start .pre .0 .8) noRow))) refl (sym (zero-add (w .result .primary))) (sym ex)
           ∙ hit-is (a .b) (a .disk .now) (a .flash .now) (a .addrs .now) (a .blocks .now) s h (a .a .0) lent (a .i) (a .j) q,

@@ -18,17 +18,14 @@ returns-2 c = rw (le-leb _ _ (c .before .if1 .left), lt-leb _ _ (c .if2 .taken))
 
 returns-3 : tie.Need-returns-3
 unfolding addressesFit
-returns-3 c =
-    let b = c .before in
-    rw (le-leb _ _ (b .before .before .if1 .left), le-leb _ _ (b .before .if2 .left), sym (b .table-bytes .ensures), ne-eqb _ _ (c .if3 .taken))
+returns-3 c = rw (le-leb _ _ (c .before .before .if1 .left), le-leb _ _ (c .before .if2 .left), ne-eqb _ _ (c .if3 .taken))
 
 returns-4 : tie.Need-returns-4
 unfolding addressesFit
 returns-4 c =
     let e = c .before in
-    let b = e .before in
-    let a = b .before .before .before .before .args in
-    rw (le-leb _ _ (b .before .before .if1 .left), le-leb _ _ (b .before .if2 .left), sym (b .table-bytes .ensures), eq-eqb _ _ (e .if3 .left)) (ap not (c .addresses-sound .ensures) ∙ sym (addresses-checked (a .p) (a .m) (a .n) (a .t .now)))
+    let a = e .before .before .before .before .args in
+    rw (le-leb _ _ (e .before .before .if1 .left), le-leb _ _ (e .before .if2 .left), eq-eqb _ _ (e .if3 .left)) (ap not (c .addresses-sound .ensures) ∙ sym (addresses-checked (a .p) (a .m) (a .n) (a .t .now)))
 
 pub addresses-unsound-spec : {M : Type 1} → statement M
-addresses-unsound-spec = tie.close (tie.spec returns returns-2 (λ c κs. search needs) returns-3 (λ c. search needs) (λ c κs. search needs) returns-4)
+addresses-unsound-spec = tie.close (tie.spec returns returns-2 (λ c. search needs) returns-3 (λ c. search needs) (λ c κs. search needs) returns-4)

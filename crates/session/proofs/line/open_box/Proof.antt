@@ -7,6 +7,7 @@ use Rattle.answers.specs.Replay.{started}
 use Rattle.session.proofs.Boxing.{first-length, put-back}
 use Rattle.session.proofs.line.open_box.Statement.{statement}
 use Rattle.session.proofs.line.open_box.Tie as tie
+use Rattle.tables.specs.Rows.{tableBytes}
 
 start-requires : tie.Need-start-requires
 start-requires c κs =
@@ -15,7 +16,7 @@ start-requires c κs =
     let h = s .pre .0 in
     let z = s .pre .1 .1 in (
       (h .0, h .1, s .pre .1 .0),
-      (first-length (a .b .blocks * a .b .size) (a .disk .now) (omega arith), first-length (a .b .slots * a .b .size) (a .flash .now) (omega arith), first-length (a .b .rows * 40) (a .addresses .now) (omega arith), first-length (a .b .slots * 40) (a .blocks .now) (omega arith)),
+      (first-length (a .b .blocks * a .b .size) (a .disk .now) (omega arith), first-length (a .b .slots * a .b .size) (a .flash .now) (omega arith), first-length (tableBytes (a .b .rows)) (a .addresses .now) (omega arith), first-length (tableBytes (a .b .slots)) (a .blocks .now) (omega arith)),
     )
 
 returns : tie.Need-returns
