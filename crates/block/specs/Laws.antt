@@ -1,14 +1,14 @@
 -- The laws of `splice` and `part` that this crate's proofs and those above cite. Assumes nothing.
-use mathlib.Core.Path.{_≡_, ap}
+use mathlib.Core.Path.{_≡_}
 use Prim.Native.Nat.{ℕ, _+_, _-_, _*_, _≤_}
 use native.Mathlib.Omega.{arith}
-use native.Mathlib.Nat.{mul-le-mul, zero-add}
+use native.Mathlib.Nat.{mul-le-mul}
 use mir.Syntax.{w64}
 use mir.Val.{Fits}
 use mir.Facts.{fits-le}
-use mathlib.Core.List.{List, append-nil}
+use mathlib.Core.List.{List}
 use lib.ListN.{length, take, drop, length-append, length-take, length-drop}
-use lib.Seq.{drop-drop, drop-length}
+use lib.Seq.{drop-drop}
 use borrow.Rule.Slice.PartMut.{putMid}
 use Rattle.block.specs.Blocks.{part, splice}
 
@@ -36,8 +36,3 @@ length-part at n s h = simp (length-take, length-drop) (omega arith)
 -- a product of two numbers that are at most m and n fits, where m times n does
 pub product-fits : (m n x y : ℕ) → x ≤ m → y ≤ n → Fits w64 (m * n) → Fits w64 (x * y)
 product-fits m n x y h k t = fits-le (mul-le-mul h k) t
-
--- a list as long as the one that it is written over takes its place
-pub splice-whole : (s d : List ℕ) → length s ≡ length d → splice 0 s d ≡ s
-unfolding splice
-splice-whole s d h = rw (zero-add (length s), h, drop-length d) (append-nil s)

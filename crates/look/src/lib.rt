@@ -6,8 +6,6 @@ use policy::Word;
 use tables::FlashSlot;
 use tables::SourceAddress;
 ghost use mathlib.Core.Path.{_≡_};
-ghost use Prim.Native.Nat.{_+_, _*_, _≤_};
-ghost use lib.ListN.{length};
 ghost use Rattle.paper.specs.Cache.{Counters};
 ghost use Rattle.paper.specs.Lent.{Ask, calling, refusal, call};
 ghost use Rattle.block.specs.Blocks.{part};
@@ -60,28 +58,6 @@ pub fn place_of(
     found(b, a, disk, flash, addresses, blocks)
 }
 
-// The block in `slot` of the flash, of `size` bytes.
-pub(crate) fn in_slot<'a>(flash: &'a [u8], slot: FlashSlot, size: usize) -> &'a [u8]
-    requires { ⌜ slot .0 * size + size ≤ length (now flash) ⌝ }
-    ensures { λ r. ⌜ now r ≡ part (slot .0 * size) size (now (flash .entry)) ⌝ }
-{
-    let k = slot.0;
-    let at = k as usize * size;
-    let end = at + size;
-    &flash[at..end]
-}
-
-// The block at `a` of the disk, of `size` bytes.
-pub(crate) fn at_address<'a>(disk: &'a [u8], a: SourceAddress, size: usize) -> &'a [u8]
-    requires { ⌜ a .0 * size + size ≤ length (now disk) ⌝ }
-    ensures { λ r. ⌜ now r ≡ part (a .0 * size) size (now (disk .entry)) ⌝ }
-{
-    let n = a.0;
-    let at = n as usize * size;
-    let end = at + size;
-    &disk[at..end]
-}
-
 // Look's answer: the number of the refusal, or whether the block comes from the cache or from the disk.
 pub fn look(
     b: BoxRecord,
@@ -113,7 +89,7 @@ pub fn look_part<'a>(
 {
     match place_of(b, a, disk, flash, addresses, blocks) {
         Place::Refused(_) => &disk[0..0],
-        Place::Flash(s) => in_slot(flash, s, b.size),
-        Place::Disk => at_address(disk, a, b.size),
+        Place::Flash(s) => block::in_slot(flash, s, b.size),
+        Place::Disk => block::at_address(disk, a, b.size),
     }
 }

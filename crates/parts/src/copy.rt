@@ -55,10 +55,8 @@ pub fn copy_row(
     if !row::is_dirty(addrs, i) {
         return 0;
     }
-    let k = slot.0;
-    let x = row::address_at(addrs, i);
-    let a = x.0;
-    block::copy_block(flash, k as usize, disk, a as usize, b.size);
+    let a = row::address_at(addrs, i);
+    block::put_address(block::in_slot(flash, slot, b.size), disk, a, b.size);
     tables::put::set_clean(addrs, i);
     1
 }

@@ -9,7 +9,7 @@ use lib.Dec.{eqb, ltb}
 use lib.ListN.{length, getD, take, drop, drop-of-length-le, length-set}
 use lib.Seq.{take-all}
 use borrow.Author.Tests.{ltb-true, ltb-false}
-use Rattle.block.specs.Blocks.{part, splice}
+use Rattle.block.specs.Blocks.{splice}
 use Rattle.parts.specs.declared.BoxRecord.{BoxRecord}
 use Rattle.paper.specs.KeyedLaws.{by-test}
 use Rattle.paper.specs.Cache.{AddressRow, BlockRow, Box, Call, Word, sameBlock, newBlock, Stepped, answer, cached, serve, writeBack, writeThrough, writeInvalidate, flushed, onDisk, withoutAddress, dropped, cleaned, copied, copies, step, hit, miss, readAs, rowWithBlock, rowOf, ifCached, blockOf}
@@ -17,12 +17,11 @@ use Rattle.paper.specs.Sound.{length-cleaned}
 use Rattle.paper.specs.Engine.{Fixed, engine}
 use Rattle.paper.specs.Lent.{join}
 use Rattle.paper.specs.Index.{indexWhere, has-yes, has-no, find-yes, find-no}
-use Rattle.block.specs.Laws.{splice-whole}
 use Rattle.parts.specs.Rep.{noRow, Rep, Copied, copiedRows, partBox}
-use Rattle.paper.specs.Layout.{Blocks, Parts, addressesOf}
+use Rattle.paper.specs.Layout.{Blocks, addressesOf}
 use Rattle.step.specs.Steps.{out4, After, after, asks, blockBytes}
 use Rattle.serve.specs.Calls.{isYes, returned, Leaves, leaves, HitAt}
-use Rattle.parts.specs.CopyLaws.{put-block-is, part-block}
+use Rattle.parts.specs.CopyLaws.{put-block-is}
 
 -- "same" where the fingerprint has a place
 pub yes-is : (B d : ℕ) (t : List ℕ) (free : List ℕ) (used : List (BlockRow (Fixed 32))) → Blocks d t free used → (f : Fixed 32) (j : ℕ) → j ≡ length free + indexWhere (λ u. engine 0 .same f (u .fingerprint)) used
@@ -67,11 +66,6 @@ pub rep-onDisk : (b : BoxRecord) (disk flash addrs blocks : List ℕ) (s : Box (
 rep-onDisk b disk flash addrs blocks s h a l x disk′ e =
     record { rows-are = h .rows-are; blocks-are = h .blocks-are; flash-is = h .flash-is; disk-is = record { count = length-set (s .disk) a x ∙ h .disk-is .count; is = e ∙ put-block-is (b .size) (b .blocks) disk (s .disk) (h .disk-is) a l x } }
 
--- all of a block
-pub part-all : (n : ℕ) (l : List ℕ) → length l ≡ n → part (0 * n) n l ≡ l
-unfolding part
-part-all n l e = let z : 0 * n ≡ 0 = omega arith in rw z (take-all n l (omega arith))
-
 pub flush-is : (b : BoxRecord) (lent disk flash addrs blocks : List ℕ) (s : Box (Fixed 32) (Fixed (b .size))) → Rep b disk flash addrs blocks s → (count : ℕ) (disk′ addrs′ : List ℕ) → _≡_ {A = Copied} (record { count = count; disk = disk′; addrs = addrs′ }) (copiedRows b (λ f. true) s (b .held))
     → _≡_ {A = Leaves} (record { yes = true; held = b .held; left = (record { flashed = 0; primary = count; disk = disk′; flash = flash; addrs = addrs′; blocks = blocks }); block = lent }) (leaves b lent (serve (engine (b .size)) (b .rows) s Call.flush))
 unfolding leaves serve flushed out4 copiedRows partBox
@@ -96,12 +90,6 @@ invalidate-is b lent disk flash addrs blocks s h a l x y0 n disk′ addrs′ blo
     λ j. record { yes = ey j; held = q .0 j; left = (record { flashed = 0; primary = 1; disk = d .disk-is .is j; flash = h .flash-is .is j; addrs = q .1 j; blocks = q .2 j }); block = lent }
 
 -- ---- read
-pub copied-block : (B d : ℕ) (flash : List ℕ) (fl : List (Fixed B)) → Parts B d flash fl → (k : ℕ) (z : Fixed B) → k < d → (block : List ℕ) → length block ≡ B → splice (0 * B) (part (k * B) B flash) block ≡ (getD fl k z) .0
-copied-block B d flash fl h k z b block e =
-    let p = part-block B d flash fl h k z b in
-    let o : 0 * B ≡ 0 = omega arith in
-    ap₂ {C = List ℕ} (λ x y. splice x y block) o p ∙ splice-whole (getD fl k z .0) block ((getD fl k z) .1 ∙ sym e)
-
 module _ (b : BoxRecord) (disk flash addrs blocks : List ℕ) (s : Box (Fixed 32) (Fixed (b .size))) (h : Rep b disk flash addrs blocks s) (a : ℕ) where
   pub hit-row : (i j : ℕ) → HitAt b s a i j → rowWithBlock (engine (b .size)) s a ≡ some (getD (s .rows) i noRow)
   unfolding ifCached

@@ -102,8 +102,7 @@ pub fn serve_through(
 {
     let g = hash::sha256(block);
     let j = rows::place_of(blocks, b.slots, &g);
-    let n = a.0;
-    block::copy_block(block, 0, disk, n as usize, b.size);
+    block::put_address(block, disk, a, b.size);
     let d = steps::step(b, a, 0, disk, flash, addrs, blocks, &g, block, places);
     Served {
         yes: j < b.slots,
@@ -132,8 +131,7 @@ pub fn serve_invalidate(
     let g = hash::sha256(block);
     let j = rows::place_of(blocks, b.slots, &g);
     let i = rows::row_of(addrs, b.held, a);
-    let n = a.0;
-    block::copy_block(block, 0, disk, n as usize, b.size);
+    block::put_address(block, disk, a, b.size);
     let held = steps::drop_row(b, i, addrs, blocks);
     Served {
         yes: j < b.slots,
@@ -166,9 +164,8 @@ pub fn read_hit(
 {
     let g = rows::fp_at(addrs, i);
     let dirty = rows::dirty_at(addrs, i);
-    let x = tables::row::slot_at(blocks, j);
-    let k = x.0;
-    block::copy_block(flash, k as usize, block, 0, b.size);
+    let slot = tables::row::slot_at(blocks, j);
+    block::copy_all(block::in_slot(flash, slot, b.size), block);
     let d = steps::step(b, a, dirty, disk, flash, addrs, blocks, &g, block, places);
     Served {
         yes: true,
@@ -197,8 +194,7 @@ pub fn read_miss(
         → record { yes = r .yes; held = r .held; left = (record { flashed = r .flashed; primary = r .primary; disk = now (disk .exit); flash = now (flash .exit); addrs = now (addrs .exit); blocks = now (blocks .exit) }); block = now (block .exit) }
         ≡ leaves b lent (serve (engine (b .size)) (b .rows) s (Call.read (a .0)))) ⌝ }
 {
-    let n = a.0;
-    block::copy_block(disk, n as usize, block, 0, b.size);
+    block::copy_all(block::at_address(disk, a, b.size), block);
     let g = hash::sha256(block);
     let d = steps::step(b, a, 0, disk, flash, addrs, blocks, &g, block, places);
     Served {

@@ -171,8 +171,7 @@ pub fn fill(
         → f .0 ≡ now (g .entry) → x .0 ≡ now (block .entry)
         → (now (flash .exit) ≡ join (set fl (slot .0) x)) × (now (blocks .exit) ≡ blocksOf (pickedTaken free used t .free) (pickedTaken free used t .used ++ (blockRow f (slot .0) ∷ [])))) ⌝ }
 {
-    let k = slot.0;
-    block::put(block, flash, k as usize * b.size);
+    block::put_slot(block, flash, slot, b.size);
     put::put_block(blocks, b.slots, t, g);
 }
 

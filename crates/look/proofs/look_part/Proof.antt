@@ -54,7 +54,7 @@ returns-2 c k =
     let p = s .before .before in
     let h = p .before in
     let a = start h .args in
-    c .in-slot .ensures ∙ ap (partAt (a .b .size) (a .a .0) (a .flash .now) (a .disk .now)) (sym (s .s .given .1) ∙ p .place-of .ensures k) ∙ look-returns (a .b) (a .disk .now) (a .flash .now) (a .addresses .now) (a .blocks .now) k (a .a .0) (bytesA h) (bytesB h)
+    c .in-slot .ensures .0 ∙ ap (partAt (a .b .size) (a .a .0) (a .flash .now) (a .disk .now)) (sym (s .s .given .1) ∙ p .place-of .ensures k) ∙ look-returns (a .b) (a .disk .now) (a .flash .now) (a .addresses .now) (a .blocks .now) k (a .a .0) (bytesA h) (bytesB h)
 
 returns-3 : tie.Need-returns-3
 unfolding partAt
@@ -63,7 +63,7 @@ returns-3 c k =
     let p = e .before .before in
     let h = p .before in
     let a = start h .args in
-    c .at-address .ensures ∙ ap (partAt (a .b .size) (a .a .0) (a .flash .now) (a .disk .now)) (sym (e .enum-told2 .given .1) ∙ p .place-of .ensures k) ∙ look-returns (a .b) (a .disk .now) (a .flash .now) (a .addresses .now) (a .blocks .now) k (a .a .0) (bytesA h) (bytesB h)
+    c .at-address .ensures .0 ∙ ap (partAt (a .b .size) (a .a .0) (a .flash .now) (a .disk .now)) (sym (e .enum-told2 .given .1) ∙ p .place-of .ensures k) ∙ look-returns (a .b) (a .disk .now) (a .flash .now) (a .addresses .now) (a .blocks .now) k (a .a .0) (bytesA h) (bytesB h)
 
 pub look-part-spec : {M : Type 1} → statement M
 look-part-spec =

@@ -8,16 +8,16 @@ use Rattle.hash.specs.Sha256.{sha256}
 use Rattle.block.specs.Blocks.{splice}
 use Rattle.paper.specs.Engine.{engine}
 use Rattle.parts.specs.CopyLaws.{block-ends}
-use Rattle.serve.specs.ServeLaws.{yes-is, invalidate-is, part-all}
+use Rattle.serve.specs.ServeLaws.{yes-is, invalidate-is}
 use Rattle.serve.proofs.serve_invalidate.Statement.{statement}
 use Rattle.serve.proofs.serve_invalidate.Tie as tie
 
-copy-block-requires : tie.Need-copy-block-requires
-copy-block-requires c κs =
+put-address-requires : tie.Need-put-address-requires
+put-address-requires c κs =
     let s = c .before .before .before .before .before .before .before .before .before .before .before in
     let a = s .args in
     let p = s .pre .0 in
-    (omega (arith, p .5), rw (p .8) (block-ends (a .a .0) (a .b .blocks) (a .b .size) (p .6)))
+    (p .5, rw (p .8) (block-ends (a .a .0) (a .b .blocks) (a .b .size) (p .6)))
 
 returns : tie.Need-returns
 returns c =
@@ -35,7 +35,7 @@ returns c =
           let ef = ap sha256 ex ∙ sym (g .sha256 .ensures) in
           invalidate-is (a .b) (a .block .now) (a .disk .now) flash (a .addrs .now) (a .blocks .now) t h (a .a .0) (p .6) x _ (w .drop-row .result) _ _ _
           (yes-is (a .b .size) (a .b .slots) (a .blocks .now) (t .free) (t .used) (h .blocks-are) f (j .place-of .result) (j .place-of .ensures (t .free) (t .used) f (h .blocks-are) ef))
-          (k .copy-block .ensures ∙ ap (λ (y : List ℕ). splice (a .a .0 * a .b .size) y (a .disk .now)) (part-all (a .b .size) (a .block .now) (p .5) ∙ sym ex))
+          (k .put-address .ensures ∙ ap (λ (y : List ℕ). splice (a .a .0 * a .b .size) y (a .disk .now)) (sym ex))
           (w .drop-row .ensures (a .b .size) (a .a .0) (t .rows) (t .free) (t .used) (h .rows-are) (h .blocks-are) (sd .addresses) (sd .fingerprints) (i .row-of .ensures (a .b .blocks) (a .b .rows) (t .rows) (h .rows-are))),
     )
 
@@ -47,8 +47,7 @@ serve-invalidate-spec =
     (λ c. search needs)
     (λ c κs. search needs)
     (λ c κs. search needs)
-    (λ c. search needs)
-    copy-block-requires
+    put-address-requires
     (λ c κs. search needs)
     (λ c. search needs)
     (λ c. search needs)

@@ -11,32 +11,32 @@ use Rattle.block.specs.Blocks.{splice}
 use Rattle.paper.specs.Sound.{sound-onDisk}
 use Rattle.step.specs.Steps.{asks}
 use Rattle.parts.specs.CopyLaws.{block-ends}
-use Rattle.serve.specs.ServeLaws.{yes-is, answer-is, through-is, rep-onDisk, part-all}
+use Rattle.serve.specs.ServeLaws.{yes-is, answer-is, through-is, rep-onDisk}
 use Rattle.hash.specs.Sha256.{sha256}
 use borrow.Author.Needs.{needs}
 use Rattle.serve.proofs.serve_through.Statement.{statement}
 use Rattle.serve.proofs.serve_through.Tie as tie
 
-copy-block-requires : tie.Need-copy-block-requires
-copy-block-requires c κs =
+put-address-requires : tie.Need-put-address-requires
+put-address-requires c κs =
     let start = c .before .before .before .before .before .before .before .before .before .before .before in
     let a = start .args in
     let p = start .pre .0 in
-    (omega (arith, p .5), rw (p .8) (block-ends (a .a .0) (a .b .blocks) (a .b .size) (p .6)))
+    (p .5, rw (p .8) (block-ends (a .a .0) (a .b .blocks) (a .b .size) (p .6)))
 
 step-requires : tie.Need-step-requires
 step-requires c κs = (
   search needs,
-  let at-copy-block = c .before .before .before .before .before .before .before .before in
-      let start = at-copy-block .before .before .before .before .before .before .before .before .before .before .before .before in
+  let at-put-address = c .before .before .before .before .before .before .before .before in
+      let start = at-put-address .before .before .before .before .before .before .before .before .before .before .before .before in
       let a = start .args in
       let q = start .pre .1 .0 in
       let x : Fixed (a .b .size) = (a .block .now, start .pre .0 .5) in
-      ((onDisk (engine (a .b .size)) (q .0) (a .a .0) x, false, rep-onDisk (a .b) (a .disk .now) (a .flash .now) (a .addrs .now) (a .blocks .now) (q .0) (q .1) (a .a .0) (start .pre .0 .6) x _ (at-copy-block .copy-block .ensures ∙ ap (λ (y : List ℕ). splice (a .a .0 * a .b .size) y (a .disk .now)) (part-all (a .b .size) (a .block .now) (start .pre .0 .5) ∙ refl)), sound-onDisk (engine (a .b .size)) (a .b .rows) (a .b .slots) (a .b .blocks) (q .0) (a .a .0) x (q .2), refl), start .pre .1 .1),
+      ((onDisk (engine (a .b .size)) (q .0) (a .a .0) x, false, rep-onDisk (a .b) (a .disk .now) (a .flash .now) (a .addrs .now) (a .blocks .now) (q .0) (q .1) (a .a .0) (start .pre .0 .6) x _ (at-put-address .put-address .ensures), sound-onDisk (engine (a .b .size)) (a .b .rows) (a .b .slots) (a .b .blocks) (q .0) (a .a .0) x (q .2), refl), start .pre .1 .1),
 )
 
-add-t21 : tie.Need-add-t21
-add-t21 c =
+add-t33 : tie.Need-add-t33
+add-t33 c =
     let at-step = c .before .before .before .before .before .before .before .before .before .before .before .before in
     let start = at-step .before .before .before .before .before .before .before .before .before .before .before .before .before .before .before .before .before .before .before .before .before in
     omega (arith, at-step .step .ensures .0 .1, start .pre .0 .7)
@@ -44,8 +44,8 @@ add-t21 c =
 returns : tie.Need-returns
 returns c =
     let at-step = c .before .before .before .before .before .before .before .before .before .before .before .before in
-    let at-copy-block = at-step .before .before .before .before .before .before .before .before .before in
-    let at-place-of = at-copy-block .before .before in
+    let at-put-address = at-step .before .before .before .before .before .before .before .before .before in
+    let at-place-of = at-put-address .before .before in
     let at-sha256 = at-place-of .before .before .before in
     let start = at-sha256 .before .before .before .before .before .before .before in
     let a = start .args in
@@ -57,7 +57,7 @@ returns c =
           let ef = ap sha256 ex ∙ sym (at-sha256 .sha256 .ensures) in
           let t = onDisk (engine (a .b .size)) s (a .a .0) x in
           answer-is (a .b) (a .block .now) (cond (cached (engine (a .b .size)) f (s .used)) sameBlock newBlock) none 1 (step (engine (a .b .size)) (a .b .rows) t (asks (a .a .0) f x false)) _ (w .result .held) (w .result .flashed) (w .result .primary) (1 + w .result .primary) _ _ _ _ (a .block .now)
-          (w .ensures .1 t f x false (rep-onDisk (a .b) (a .disk .now) (a .flash .now) (a .addrs .now) (a .blocks .now) s h (a .a .0) (start .pre .0 .6) x _ (at-copy-block .copy-block .ensures ∙ ap (λ (y : List ℕ). splice (a .a .0 * a .b .size) y (a .disk .now)) (part-all (a .b .size) (a .block .now) (start .pre .0 .5) ∙ sym ex))) (sound-onDisk (engine (a .b .size)) (a .b .rows) (a .b .slots) (a .b .blocks) s (a .a .0) x sd) ef ex refl)
+          (w .ensures .1 t f x false (rep-onDisk (a .b) (a .disk .now) (a .flash .now) (a .addrs .now) (a .blocks .now) s h (a .a .0) (start .pre .0 .6) x _ (at-put-address .put-address .ensures ∙ ap (λ (y : List ℕ). splice (a .a .0 * a .b .size) y (a .disk .now)) (sym ex))) (sound-onDisk (engine (a .b .size)) (a .b .rows) (a .b .slots) (a .b .blocks) s (a .a .0) x sd) ef ex refl)
           (yes-is (a .b .size) (a .b .slots) (a .blocks .now) (s .free) (s .used) (h .blocks-are) f (p .result) (p .ensures (s .free) (s .used) f (h .blocks-are) ef)) refl refl
           ∙ through-is (a .b) (a .block .now) s (a .a .0) x,
     )
@@ -69,11 +69,10 @@ serve-through-spec =
     (λ c κs. search needs)
     (λ c. search needs)
     (λ c κs. search needs)
-    (λ c. search needs)
-    copy-block-requires
+    put-address-requires
     (λ c. search needs)
     step-requires
-    add-t21
+    add-t33
     (λ c. search needs)
     (λ c. search needs)
     (λ c. search needs)

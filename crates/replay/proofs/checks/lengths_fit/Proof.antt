@@ -43,4 +43,4 @@ returns-6 c =
     rw (eq-eqb _ _ (f .before .if1 .left), eq-eqb _ _ (f .if2 .left), eq-eqb _ _ (g .if3 .left), eq-eqb _ _ (h .if4 .left), eq-eqb _ _ (c .if5 .left)) refl
 
 pub lengths-fit-spec : {M : Type 1} → statement M
-lengths-fit-spec = tie.close (tie.spec returns returns-2 returns-3 returns-4 returns-5 returns-6)
+lengths-fit-spec = tie.close (tie.spec returns returns-2 returns-3 (λ c. search needs) returns-4 (λ c. search needs) returns-5 returns-6)
