@@ -15,7 +15,7 @@ use Rattle.tables.specs.Operations.{rowOut, rowAdded, rowCleaned, rowNewest, ro
 use Rattle.tables.specs.SoundLaws.{map-at}
 use Rattle.tables.specs.ShiftLaws.{length-zeros}
 use Rattle.tables.specs.OperationLaws.{map-++, map-removeAt, map-set}
-use Rattle.tables.specs.Written.{cleanRow, address-address, address-dirty, block-slot, held-at, held-out, held-added, held-clean, block-at, blocks-newest, blocks-freed, blocks-filled}
+use Rattle.tables.specs.Written.{cleanRow, address-address, address-dirty, block-slot, held-at, held-out, held-added, held-cleaned, block-at, blocks-newest, blocks-freed, blocks-filled}
 use Rattle.paper.specs.KeyedLaws.{All}
 use Rattle.paper.specs.Cache.{AddressRow, BlockRow, newest, blockRow}
 use Rattle.paper.specs.Engine.{Fixed}
@@ -68,7 +68,7 @@ module _ (P m n : ℕ) (t : List ℕ) (l : List (AddressRow (Fixed 32))) (h : Ad
     pub cleaned-row : rowCleaned i t ≡ addressesOf m (set l i (clean (getD l i z)))
     unfolding addressesOf
     cleaned-row =
-        ap (rowCleaned i) (h .is) ∙ held-clean m (map heldRow l) (held-wide l) n count i b (heldRow z) (h .few)
+        ap (rowCleaned i) (h .is) ∙ held-cleaned m (map heldRow l) (held-wide l) n count i b (heldRow z) (h .few)
         ∙ ap (addressTable m) (ap (λ (r : R.AddressRow). set (map heldRow l) i (cleanRow r)) held-row ∙ sym (map-set heldRow l i (clean (getD l i z))))
 
   -- push_address

@@ -24,3 +24,4 @@ pub mod KeptAddresses
 pub mod KeptBlocks
 pub mod Promises
 pub mod Written
+pub mod ReadBack

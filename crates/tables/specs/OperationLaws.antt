@@ -11,11 +11,11 @@ use lib.Seq.{getD-append-add, getD-at, take-at, drop-at, length-take-le, drop-dr
 use Rattle.tables.specs.Rows.{rows, flat, zeros, rowAt, removeAt, le4}
 use Rattle.tables.specs.Find.{findFrom, pick}
 use Rattle.tables.specs.declared.Found.the-variants.{At}
-use Rattle.tables.specs.Records.{readAddress, addressBytes, readBlock, blockBytes, heldRows, blockRows, addressRow, blockRow, freeRow, slotsFrom}
+use Rattle.tables.specs.Records.{readAddress, addressBytes, readBlock, blockBytes, blockRows, addressRow, blockRow, freeRow, slotsFrom}
 use Rattle.tables.specs.Sound.{tailOk, rowSlot}
 use Rattle.tables.specs.RecordLaws.{four}
 use Rattle.tables.specs.ShiftLaws.{length-zeros}
-use Rattle.tables.specs.RowLaws.{rows-length, flat-rows, length-part}
+use Rattle.tables.specs.RowLaws.{rows-length, flat-rows}
 use Rattle.tables.specs.Operations.{rowAdded, rowCleaned, freed, filled}
 
 -- every row has 40 bytes
@@ -91,10 +91,6 @@ module _ (n : ℕ) (t x : List ℕ) (i : ℕ) (h : i < n) (g : n * 40 ≤ length
       ap (λ (k : ℕ). drop (k * 40) (flat (removeAt (rows n t) i) ++ x)) (sym removed-length)
       ∙ drop-flat (removeAt (rows n t) i) x (wide-removeAt (rows n t) i (wide-rows n t g))
 
-  pub held-removed : heldRows (n - 1) (flat (removeAt (rows n t) i) ++ x) ≡ removeAt (heldRows n t) i
-  unfolding heldRows
-  held-removed = ap (map readAddress) rows-removed ∙ map-removeAt readAddress (rows n t) i
-
 -- push_row
 module _ (n : ℕ) (t r x : List ℕ) (g : n * 40 ≤ length t) (l : length r ≡ 40) where
   pushed-length : length (rows n t ++ (r ∷ [])) ≡ n + 1
@@ -109,10 +105,6 @@ module _ (n : ℕ) (t r x : List ℕ) (g : n * 40 ≤ length t) (l : length r �
   rest-pushed =
       ap (λ (k : ℕ). drop (k * 40) (flat (rows n t ++ (r ∷ [])) ++ x)) (sym pushed-length)
       ∙ drop-flat (rows n t ++ (r ∷ [])) x (wide-append (rows n t) (r ∷ []) (wide-rows n t g) (l, tt))
-
-  pub held-pushed : heldRows (n + 1) (flat (rows n t ++ (r ∷ [])) ++ x) ≡ heldRows n t ++ (readAddress r ∷ [])
-  unfolding heldRows
-  held-pushed = ap (map readAddress) rows-pushed ∙ map-++ readAddress (rows n t) (r ∷ [])
 
 pub length-pushed : (n : ℕ) (t r : List ℕ) → n * 40 + 40 ≤ length t → length r ≡ 40 → length (rowAdded n r t) ≡ length t
 unfolding rowAdded
@@ -154,7 +146,7 @@ pub off : (x w : List ℕ) (j : ℕ) → length x ≡ 32 → getD (x ++ w) (32 +
 off x w j l = ap (λ (k : ℕ). getD (x ++ w) (k + j) 0) (sym l) ∙ getD-append-add x w j 0
 
 -- a block row with another fingerprint and used byte
-block-parts : (x r ys : List ℕ) (y : ℕ) → length x ≡ 32 → length r ≡ 40 → readBlock (x ++ (take 4 (drop 32 r) ++ (y ∷ ys))) ≡ blockRow x (le4 r 32) y
+block-parts : (x r ys : List ℕ) (y : ℕ) → length x ≡ 32 → length r ≡ 40 → readBlock (x ++ (take 4 (drop 32 r) ++ (y ∷ ys))) ≡ blockRow x (readBlock r .slot) y
 unfolding readBlock
 block-parts x r ys y lx l =
     ap (λ (w : List ℕ). readBlock (x ++ (w ++ (y ∷ ys)))) (four r 32 (omega arith))
@@ -166,11 +158,11 @@ unfolding zeros
 zeros-4 = refl
 
 -- a freed and a filled block row
-pub block-freed : (r : List ℕ) → length r ≡ 40 → readBlock (freed r) ≡ blockRow (zeros 32) (le4 r 32) 0
+pub block-freed : (r : List ℕ) → length r ≡ 40 → readBlock (freed r) ≡ freeRow (readBlock r .slot)
 unfolding freed
 block-freed r l = ap (λ (z : List ℕ). readBlock (zeros 32 ++ (take 4 (drop 32 r) ++ z))) zeros-4 ∙ block-parts (zeros 32) r (zeros 3) 0 (length-zeros 32) l
 
-pub block-filled : (g r : List ℕ) → length g ≡ 32 → length r ≡ 40 → readBlock (filled g r) ≡ blockRow g (le4 r 32) 1
+pub block-filled : (g r : List ℕ) → length g ≡ 32 → length r ≡ 40 → readBlock (filled g r) ≡ blockRow g (readBlock r .slot) 1
 unfolding filled
 block-filled g r lg l = block-parts g r (zeros 3) 1 lg l
 
@@ -264,11 +256,3 @@ address-clean r l =
     (rw (far 0 (λ e. omega arith), far 1 (λ e. omega arith), far 2 (λ e. omega arith), far 3 (λ e. omega arith)))
     (ap (take 32) (drop-set-add 4 r 32 0) ∙ take-set-le 32 (drop 4 r) 32 0 (omega arith))
     (getD-set-same r 36 0 0 (omega arith))
-
-pub held-clean : (n : ℕ) (t : List ℕ) (k : ℕ) → k < n → n * 40 ≤ length t
-    → heldRows n (rowCleaned k t) ≡ set (heldRows n t) k (addressRow (readAddress (rowAt t k) .address) (readAddress (rowAt t k) .fingerprint) 0)
-unfolding heldRows rowCleaned
-held-clean n t k h g =
-    ap (map readAddress) (rows-set n t k 36 0 (omega arith))
-    ∙ map-set readAddress (rows n t) k (set (rowAt t k) 36 0)
-    ∙ ap (set (map readAddress (rows n t)) k) (address-clean (rowAt t k) (length-part t (k * 40) 40 (omega arith)))

@@ -168,8 +168,8 @@ module _ (m : ℕ) (rs : List AddressRow) (w : Wide (map addressBytes rs)) (n : 
         ∙ ap₂ {C = List ℕ} (λ x y. flat x ++ y) (sym (map-removeAt addressBytes rs i)) (zeros-add 40 ((m - n) * 40) ∙ ap zeros q)
 
     -- set_clean
-    pub held-clean : n ≤ m → rowCleaned i (addressTable m rs) ≡ addressTable m (set rs i (cleanRow (getD rs i z)))
-    held-clean f =
+    pub held-cleaned : n ≤ m → rowCleaned i (addressTable m rs) ≡ addressTable m (set rs i (cleanRow (getD rs i z)))
+    held-cleaned f =
         let t = addressTable m rs in
         let r = getD rs i z in
         let lr = print-length r (wide-at rs w i (omega (arith, e, h))) in

@@ -1,5 +1,6 @@
 -- Each test in turn is one of the definition. Assumes nothing.
 use mathlib.Core.Path.{refl}
+use borrow.Author.Needs.{needs}
 use borrow.Author.Tests.{eq-eqb, ne-eqb}
 use Rattle.session.specs.Memory.{lengthsFit}
 use Rattle.replay.proofs.checks.lengths_fit.Statement.{statement}
