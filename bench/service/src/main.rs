@@ -1,5 +1,5 @@
 //! Times the proved service beside three unproved Rust engines in one run, interleaved, on copies of the same boxes: the best of each, as
-//! ratios, and how the service's time grows when the tables double.
+//! ratios, and how the service's time grows when the tables double. Both sizes of that growth are interleaved too.
 use engines::persistent::Persistent;
 use engines::{maps, pairs};
 use std::collections::BTreeSet;
@@ -122,9 +122,12 @@ fn add(sum: u64, answer: &[u8], block: &[u8]) -> u64 {
 /// The engines in the order of the table.
 const ENGINES: [&str; 4] = ["service", "maps", "pairs", "persistent"];
 
+/// Each engine's nanoseconds of one call.
+type Times = [f64; ENGINES.len()];
+
 /// Calls, in parts that are timed by themselves, and the contents that writes are lent.
 struct List<'a> {
-    steps: &'a [Step],
+    steps: Vec<Step>,
     part: usize,
     contents: &'a [Vec<u8>],
 }
@@ -207,7 +210,7 @@ fn full(shape: Shape) -> Full {
     assert_eq!(maps::open(&mut lent.state, &lent.disk, &lent.flash, &mut lent.addresses, &mut lent.blocks), 0);
     // Three reads for each write back: about one held row in four is dirty.
     let fill: Vec<Step> = (0..4 * m + 8 * d).map(|_| (random.pick(&[Kind::Read, Kind::Read, Kind::Read, Kind::Back]), random.below(p) as u32, random.below(contents.len()))).collect();
-    run(1, &mut lent, &List { steps: &fill, part: fill.len(), contents: &contents }, &mut [Duration::MAX]);
+    run(1, &mut lent, &List { part: fill.len(), steps: fill, contents: &contents }, &mut [Duration::MAX]);
     let cached: BTreeSet<&[u8]> = lent.blocks.chunks_exact(ROW).filter(|row| row[36] == 1).map(|row| &row[..32]).collect();
     assert!(number(&lent.state, 4) == m as u64 && cached.len() == d, "the tables are not full");
     let held: Vec<(u32, bool)> = lent.addresses.chunks_exact(ROW).map(|row| (u32::from_le_bytes(row[..4].try_into().unwrap()), cached.contains(&row[4..36]))).collect();
@@ -243,14 +246,58 @@ fn steps(scenario: usize, full: &Full) -> Option<Vec<Step>> {
     })
 }
 
-/// Each engine's copy of a box, put back after each run.
-struct Copies<'a> {
+/// A list of calls on a box: each engine's copy of the box, put back after each run, and what the runs gave.
+struct Measured<'a> {
     full: &'a Full,
+    list: List<'a>,
     copies: Vec<Lent>,
+    /// The addresses whose blocks on the disk the calls change.
+    touched: Vec<u32>,
+    /// What was answered, in one number.
+    sum: u64,
+    /// The best time of each part by each engine.
+    best: [Vec<Duration>; ENGINES.len()],
 }
 
-impl Copies<'_> {
-    fn put_back(&mut self, engine: usize, touched: &[u32]) {
+impl<'a> Measured<'a> {
+    /// The calls of a scenario after their first run. `None` where the box has no address for it.
+    fn new(scenario: usize, full: &'a Full) -> Option<Self> {
+        let steps = steps(scenario, full)?;
+        // A call on large tables is long enough to be timed alone; on small ones sixteen are timed together.
+        let part = if full.shape.m > 100 { 1 } else { 16 };
+        let best = std::array::from_fn(|_| vec![Duration::MAX; steps.len().div_ceil(part)]);
+        let list = List { steps, part, contents: &full.contents };
+        let mut measured = Measured { full, list, copies: vec![full.lent.clone(); ENGINES.len()], touched: Vec::new(), sum: 0, best };
+        measured.first_turn();
+        Some(measured)
+    }
+
+    /// A run by each engine: all answer the same and leave the same bytes.
+    fn first_turn(&mut self) {
+        let sums: [u64; ENGINES.len()] = std::array::from_fn(|engine| self.run(engine));
+        for engine in 0..ENGINES.len() {
+            assert!(self.copies[engine] == self.copies[0] && sums[engine] == sums[0], "{} differs from the service", ENGINES[engine]);
+        }
+        let Shape { b, p, .. } = self.full.shape;
+        let changed = |a: &usize| self.copies[0].disk[a * b..(a + 1) * b] != self.full.lent.disk[a * b..(a + 1) * b];
+        self.touched = (0..p).filter(changed).map(|a| a as u32).collect();
+        self.sum = sums[0];
+        (0..ENGINES.len()).for_each(|engine| self.put_back(engine));
+    }
+
+    /// Another run by each engine.
+    fn turn(&mut self) {
+        for engine in 0..ENGINES.len() {
+            assert_eq!(self.run(engine), self.sum);
+            self.put_back(engine);
+        }
+    }
+
+    fn run(&mut self, engine: usize) -> u64 {
+        run(engine, &mut self.copies[engine], &self.list, &mut self.best[engine])
+    }
+
+    fn put_back(&mut self, engine: usize) {
         let (copy, first) = (&mut self.copies[engine], &self.full.lent);
         copy.state.copy_from_slice(&first.state);
         copy.addresses.copy_from_slice(&first.addresses);
@@ -259,72 +306,82 @@ impl Copies<'_> {
         copy.block.copy_from_slice(&first.block);
         copy.answer.copy_from_slice(&first.answer);
         let b = self.full.shape.b;
-        for a in touched {
+        for a in &self.touched {
             let place = *a as usize * b;
             copy.disk[place..place + b].copy_from_slice(&first.disk[place..place + b]);
         }
     }
+
+    /// Every part is the best of all runs.
+    fn times(&self) -> Times {
+        let calls = self.list.steps.len() as f64;
+        std::array::from_fn(|engine| self.best[engine].iter().sum::<Duration>().as_nanos() as f64 / calls)
+    }
 }
 
-/// Each engine's time for one call of a list, in nanoseconds, every part the best of all runs; and the number of runs. All engines leave the
-/// same bytes.
-fn best(copies: &mut Copies, steps: &[Step]) -> ([f64; 4], usize) {
-    let full = copies.full;
-    let b = full.shape.b;
-    // A call on large tables is long enough to be timed alone; on small ones sixteen are timed together.
-    let part = if full.shape.m > 100 { 1 } else { 16 };
-    let list = List { steps, part, contents: &full.contents };
-    let mut best = [(); 4].map(|_| vec![Duration::MAX; steps.len().div_ceil(part)]);
-    let mut sums = Vec::new();
-    for engine in 0..ENGINES.len() {
-        sums.push(run(engine, &mut copies.copies[engine], &list, &mut best[engine]));
-        assert!(copies.copies[engine] == copies.copies[0] && sums[engine] == sums[0], "{} differs from the service", ENGINES[engine]);
-    }
-    let touched: Vec<u32> = (0..full.shape.p).filter(|a| copies.copies[0].disk[a * b..(a + 1) * b] != full.lent.disk[a * b..(a + 1) * b]).map(|a| a as u32).collect();
-    (0..ENGINES.len()).for_each(|engine| copies.put_back(engine, &touched));
+/// What a scenario took on each of some boxes, `None` where a box has no address for it; and the number of runs.
+struct Row {
+    times: Vec<Option<Times>>,
+    runs: usize,
+}
+
+/// The best times of a scenario. Engines and boxes take turns, so that a change of the machine's speed meets all of them.
+fn best(scenario: usize, boxes: &[Full]) -> Row {
+    let mut lists: Vec<Option<Measured>> = boxes.iter().map(|full| Measured::new(scenario, full)).collect();
+    let most = Duration::from_secs(3) * boxes.len() as u32;
     let start = Instant::now();
     let mut runs = 1;
-    while runs < 15 || runs < 400 && start.elapsed() < Duration::from_secs(3) {
-        for (engine, best) in best.iter_mut().enumerate() {
-            assert_eq!(run(engine, &mut copies.copies[engine], &list, best), sums[0]);
-            copies.put_back(engine, &touched);
-        }
+    while runs < 15 || runs < 400 && start.elapsed() < most {
+        lists.iter_mut().flatten().for_each(Measured::turn);
         runs += 1;
     }
-    (best.map(|parts| parts.iter().sum::<Duration>().as_nanos() as f64 / steps.len() as f64), runs)
+    Row { times: lists.iter().map(|list| list.as_ref().map(Measured::times)).collect(), runs }
 }
 
-/// The service's times for each scenario, printed beside the others'.
-fn table(shape: Shape) -> [Option<[f64; 4]>; SCENARIOS.len()] {
-    let full = full(shape);
-    let Shape { b, p, m, d } = shape;
+fn print_head(full: &Full) {
+    let Shape { b, p, m, d } = full.shape;
     println!("\nB = {b}, P = {p}, m = {m}, d = {d}, full tables; {} held addresses have their block.", full.with_block.len());
     println!("{:24}{:>48}   {:>36}", "", "nanoseconds of one call", "speed of the service over that of");
     println!("{:24}{:>12}{:>12}{:>12}{:>12}   {:>12}{:>12}{:>12}{:>8}", "", ENGINES[0], ENGINES[1], ENGINES[2], ENGINES[3], ENGINES[1], ENGINES[2], ENGINES[3], "runs");
-    let mut copies = Copies { copies: vec![full.lent.clone(); ENGINES.len()], full: &full };
-    std::array::from_fn(|scenario| {
-        let steps = steps(scenario, &full)?;
-        let (times, runs) = best(&mut copies, &steps);
-        let ratio = |engine: usize| times[engine] / times[0];
-        println!(
-            "{:24}{:>12.0}{:>12.0}{:>12.0}{:>12.0}   {:>12.2}{:>12.2}{:>12.2}{runs:>8}",
-            SCENARIOS[scenario], times[0], times[1], times[2], times[3], ratio(1), ratio(2), ratio(3)
-        );
-        Some(times)
-    })
+}
+
+/// The times of a scenario on one of the boxes.
+fn print_row(scenario: usize, row: &Row, place: usize) {
+    let Some(times) = row.times[place] else { return };
+    let ratio = |engine: usize| times[engine] / times[0];
+    println!(
+        "{:24}{:>12.0}{:>12.0}{:>12.0}{:>12.0}   {:>12.2}{:>12.2}{:>12.2}{:>8}",
+        SCENARIOS[scenario], times[0], times[1], times[2], times[3], ratio(1), ratio(2), ratio(3), row.runs
+    );
+}
+
+/// The times of all scenarios, printed in a table for each shape. The boxes of the shapes take turns; the first table is printed as its rows are
+/// measured, the others after it.
+fn tables(shapes: &[Shape]) -> Vec<Row> {
+    let boxes: Vec<Full> = shapes.iter().map(|shape| full(*shape)).collect();
+    let mut rows = Vec::new();
+    print_head(&boxes[0]);
+    for scenario in 0..SCENARIOS.len() {
+        rows.push(best(scenario, &boxes));
+        print_row(scenario, &rows[scenario], 0);
+    }
+    for (place, full) in boxes.iter().enumerate().skip(1) {
+        print_head(full);
+        rows.iter().enumerate().for_each(|(scenario, row)| print_row(scenario, row, place));
+    }
+    rows
 }
 
 /// How the time of a call grows with m at the most blocks and with d at the most addresses: mixed calls and hits. `bench/plot` makes a picture of
-/// these lines.
+/// these lines. One shape is measured after the other: the copies for all of them would take more than a gigabyte.
 fn growth() {
     let shapes = (4..=10).map(|k| (1 << k, 256)).chain((2..=7).map(|k| (1024, 1 << k)));
     println!("\nNanoseconds of one call against m and d, B = 4096, P = 4096, full tables:");
     println!("        {:>6}{:>6}  {:12}{:>12}{:>12}{:>12}{:>12}", "m", "d", "", ENGINES[0], ENGINES[1], ENGINES[2], ENGINES[3]);
     for (m, d) in shapes {
-        let full = full(Shape { b: 4096, p: 4096, m, d });
-        let mut copies = Copies { copies: vec![full.lent.clone(); ENGINES.len()], full: &full };
+        let boxes = [full(Shape { b: 4096, p: 4096, m, d })];
         for scenario in [0, 1] {
-            let (times, _) = best(&mut copies, &steps(scenario, &full).unwrap());
+            let times = best(scenario, &boxes).times[0].unwrap();
             println!("growth  {m:>6}{d:>6}  {:12}{:>12.0}{:>12.0}{:>12.0}{:>12.0}", SCENARIOS[scenario], times[0], times[1], times[2], times[3]);
         }
     }
@@ -334,42 +391,52 @@ const LEAST_OF_MAPS: f64 = 0.8;
 const LEAST_OF_PAIRS: f64 = 5.0;
 const MOST_GROWTH: f64 = 2.4;
 
-fn main() {
+/// Prints whether the times of a scenario keep the bounds, at the full size and beside half of it. Gives whether they do.
+fn keeps_bounds(scenario: usize, full: Times, half: Times) -> bool {
+    let (maps, pairs, growth) = (full[1] / full[0], full[2] / full[0], full[0] / half[0]);
+    let bounds = [
+        ("over maps, at least", maps, maps >= LEAST_OF_MAPS, LEAST_OF_MAPS),
+        ("over pairs, at least", pairs, pairs >= LEAST_OF_PAIRS, LEAST_OF_PAIRS),
+        ("growth, at most", growth, growth <= MOST_GROWTH, MOST_GROWTH),
+    ];
+    for (what, value, good, bound) in bounds {
+        println!("{:12}{what:22}{bound:>5.1}: {value:.2} {}", SCENARIOS[scenario], if good { "met" } else { "MISSED" });
+    }
+    bounds.iter().all(|bound| bound.2)
+}
+
+fn print_what_is_measured() {
     let sha = if cfg!(feature = "soft") { "portable code (`force-soft`)" } else { "the processor's SHA instructions where it has them" };
     println!("SHA-256 of maps, pairs and persistent: RustCrypto's, {sha}. The service has its own, portable.");
     if cfg!(feature = "double") {
         println!("The engine with maps stands for the service.");
     }
     println!("maps: the same refusals over the same bytes, with std hash maps built in each call. pairs: the same without maps, rows compared in pairs.");
-    println!("persistent: no refusals, maps kept from call to call, tables not written. The engines take turns, and the time of each call is its best of all runs.");
+    println!("persistent: no refusals, maps kept from call to call, tables not written. The engines take turns, with m = 1024 and m = 512 in one loop, and the time of each call is its best of all runs.");
     println!("mixed: 40% reads, 20% each kind of write; half of the addresses held at first, half any; contents from 1.5 for each slot.");
     println!("A list has 64 calls or 65 (fewer where a kind empties the tables) and begins with full tables; the first flush of a list finds dirty rows, the others none.");
-    let large = table(Shape { b: 4096, p: 4096, m: 1024, d: 256 });
-    let half = table(Shape { b: 4096, p: 4096, m: 512, d: 128 });
-    table(Shape { b: 4096, p: 4096, m: 16, d: 8 });
-    table(Shape { b: 64, p: 4096, m: 16, d: 8 });
+}
+
+fn main() {
+    print_what_is_measured();
+    let rows = tables(&[Shape { b: 4096, p: 4096, m: 1024, d: 256 }, Shape { b: 4096, p: 4096, m: 512, d: 128 }]);
+    tables(&[Shape { b: 4096, p: 4096, m: 16, d: 8 }]);
+    tables(&[Shape { b: 64, p: 4096, m: 16, d: 8 }]);
 
     println!("\nThe service's time with full tables over that with half of the rows:");
-    for (scenario, name) in SCENARIOS.iter().enumerate() {
-        if let (Some(large), Some(half)) = (large[scenario], half[scenario]) {
-            println!("{name:24}{:>12.2}", large[0] / half[0]);
+    for (name, row) in SCENARIOS.iter().zip(&rows) {
+        if let [Some(full), Some(half)] = row.times[..] {
+            println!("{name:24}{:>12.2}", full[0] / half[0]);
         }
     }
     growth();
     println!("\nAsked for, at m = 1,024 and d = 256:");
-    let mut missed = false;
+    let mut kept = true;
     for scenario in [0, 1] {
-        let (times, before) = (large[scenario].unwrap(), half[scenario].unwrap());
-        for (what, value, good, bound) in [
-            ("over maps, at least", times[1] / times[0], times[1] / times[0] >= LEAST_OF_MAPS, LEAST_OF_MAPS),
-            ("over pairs, at least", times[2] / times[0], times[2] / times[0] >= LEAST_OF_PAIRS, LEAST_OF_PAIRS),
-            ("growth, at most", times[0] / before[0], times[0] / before[0] <= MOST_GROWTH, MOST_GROWTH),
-        ] {
-            println!("{:12}{what:22}{bound:>5.1}: {value:.2} {}", SCENARIOS[scenario], if good { "met" } else { "MISSED" });
-            missed |= !good;
-        }
+        let times = &rows[scenario].times;
+        kept &= keeps_bounds(scenario, times[0].unwrap(), times[1].unwrap());
     }
-    if missed {
+    if !kept {
         std::process::exit(1);
     }
 }
