@@ -33,7 +33,7 @@ document =
     ∷ []
 
 pub document-run : map (λ e. replay (e .input)) document ≡ map (λ e. e .output) document
-unfolding Ch Maj Σ0 Σ1 σ0 σ1 K H0 M next W T1 T2 round rounds sum8 compress blocks bytes32 bytes64 padded pad digest sha256 Lent.refusal Lent.fresh Lent.call Lent.split Lent.unfit Lent.wrongBuffers Lent.over Lent.served Lent.kept Lent.boxIn Lent.lentOf Lent.freeSlots Lent.usedRows Lent.callOf fit Rows.rows Rows.flat Rows.zeros Records.addressBytes Records.blockBytes Records.addressTable Records.heldRows Records.blockTable Records.blockRows Records.freshAddresses Records.freshBlocks Find.any Find.all Find.same Unsound.elem Unsound.twice Unsound.count Unsound.addressesUnsound Unsound.freeAfterUsed Unsound.eachOnce Unsound.usedTwice Unsound.blocksUnsound Unsound.dirtyUncached Cache.oldestOut Cache.step1 Cache.freed Cache.step3 Cache.oldestUnknown Cache.victim Cache.takenUsed Cache.taken Cache.stored Cache.step4 Cache.step Cache.ifCached Cache.answer Cache.readAs Cache.writeThrough Cache.writeBack Cache.dropped Cache.writeInvalidate Cache.lookAs Cache.flushed Cache.serve Cache.counted same decimalIn decimal Lines.onto Lines.linesIn Lines.lines Lines.words Lines.digitsFrom Lines.number Lines.hexDigit Lines.pair Lines.byte Lines.ofOne Lines.ofTwo Lines.ofThree Lines.ofFive Lines.ofWords Lines.parsed Replay.large Replay.boxRefusal Replay.startDisk Replay.started Replay.asked Replay.doing Texts.askText Texts.wordText Texts.countsText Texts.answerText Texts.countersText Replay.laterLines Replay.allLines replay
+unfolding Ch Maj Σ0 Σ1 σ0 σ1 K H0 M next W T1 T2 round rounds sum8 compress blocks bytes32 bytes64 padded pad digest sha256 Lent.refusal Lent.fresh Lent.call Lent.split Lent.unfit Lent.wrongBuffers Lent.over Lent.served Lent.kept Lent.boxIn Lent.lentOf Lent.freeSlots Lent.usedRows Lent.callOf fit Rows.rows Rows.flat Rows.zeros Records.addressBytes Records.blockBytes Records.readAddress Records.readBlock Records.addressTable Records.heldRows Records.blockTable Records.blockRows Records.freshAddresses Records.freshBlocks Find.any Find.all Find.same Unsound.elem Unsound.twice Unsound.count Unsound.addressesUnsound Unsound.freeAfterUsed Unsound.eachOnce Unsound.usedTwice Unsound.blocksUnsound Unsound.dirtyUncached Cache.oldestOut Cache.step1 Cache.freed Cache.step3 Cache.oldestUnknown Cache.victim Cache.takenUsed Cache.taken Cache.stored Cache.step4 Cache.step Cache.ifCached Cache.answer Cache.readAs Cache.writeThrough Cache.writeBack Cache.dropped Cache.writeInvalidate Cache.lookAs Cache.flushed Cache.serve Cache.counted same decimalIn decimal Lines.onto Lines.linesIn Lines.lines Lines.words Lines.digitsFrom Lines.number Lines.hexDigit Lines.pair Lines.byte Lines.ofOne Lines.ofTwo Lines.ofThree Lines.ofFive Lines.ofWords Lines.parsed Replay.large Replay.boxRefusal Replay.startDisk Replay.started Replay.asked Replay.doing Texts.askText Texts.wordText Texts.countsText Texts.answerText Texts.countersText Replay.laterLines Replay.allLines replay
 document-run = refl
 
 -- the box line: empty input, 4 before 1 and 1 before 5, the bounds of 5, and nothing after a refusal
@@ -61,5 +61,5 @@ lineForms =
     ∷ []
 
 pub form-runs : map (λ e. replay (e .input)) (boxForms ++ lineForms) ≡ map (λ e. e .output) (boxForms ++ lineForms)
-unfolding Lent.refusal Lent.fresh Lent.call Lent.split Lent.unfit Lent.wrongBuffers Lent.over Lent.served Lent.kept Lent.boxIn Lent.lentOf Lent.freeSlots Lent.usedRows Lent.callOf fit Rows.rows Rows.flat Rows.zeros Records.addressBytes Records.blockBytes Records.addressTable Records.heldRows Records.blockTable Records.blockRows Records.freshAddresses Records.freshBlocks Find.any Find.all Find.same Unsound.elem Unsound.twice Unsound.count Unsound.addressesUnsound Unsound.freeAfterUsed Unsound.eachOnce Unsound.usedTwice Unsound.blocksUnsound Unsound.dirtyUncached Cache.oldestOut Cache.step1 Cache.freed Cache.step3 Cache.oldestUnknown Cache.victim Cache.takenUsed Cache.taken Cache.stored Cache.step4 Cache.step Cache.ifCached Cache.answer Cache.readAs Cache.writeThrough Cache.writeBack Cache.dropped Cache.writeInvalidate Cache.lookAs Cache.flushed Cache.serve Cache.counted same decimalIn decimal Lines.onto Lines.linesIn Lines.lines Lines.words Lines.digitsFrom Lines.number Lines.hexDigit Lines.pair Lines.byte Lines.ofOne Lines.ofTwo Lines.ofThree Lines.ofFive Lines.ofWords Lines.parsed Replay.large Replay.boxRefusal Replay.startDisk Replay.started Replay.asked Replay.doing Texts.askText Texts.wordText Texts.countsText Texts.answerText Texts.countersText Replay.laterLines Replay.allLines replay
+unfolding Lent.refusal Lent.fresh Lent.call Lent.split Lent.unfit Lent.wrongBuffers Lent.over Lent.served Lent.kept Lent.boxIn Lent.lentOf Lent.freeSlots Lent.usedRows Lent.callOf fit Rows.rows Rows.flat Rows.zeros Records.addressBytes Records.blockBytes Records.readAddress Records.readBlock Records.addressTable Records.heldRows Records.blockTable Records.blockRows Records.freshAddresses Records.freshBlocks Find.any Find.all Find.same Unsound.elem Unsound.twice Unsound.count Unsound.addressesUnsound Unsound.freeAfterUsed Unsound.eachOnce Unsound.usedTwice Unsound.blocksUnsound Unsound.dirtyUncached Cache.oldestOut Cache.step1 Cache.freed Cache.step3 Cache.oldestUnknown Cache.victim Cache.takenUsed Cache.taken Cache.stored Cache.step4 Cache.step Cache.ifCached Cache.answer Cache.readAs Cache.writeThrough Cache.writeBack Cache.dropped Cache.writeInvalidate Cache.lookAs Cache.flushed Cache.serve Cache.counted same decimalIn decimal Lines.onto Lines.linesIn Lines.lines Lines.words Lines.digitsFrom Lines.number Lines.hexDigit Lines.pair Lines.byte Lines.ofOne Lines.ofTwo Lines.ofThree Lines.ofFive Lines.ofWords Lines.parsed Replay.large Replay.boxRefusal Replay.startDisk Replay.started Replay.asked Replay.doing Texts.askText Texts.wordText Texts.countsText Texts.answerText Texts.countersText Replay.laterLines Replay.allLines replay
 form-runs = refl

@@ -1,6 +1,6 @@
 -- The three checks in turn; what the first two let pass meets what the index asks. Assumes nothing.
 use mathlib.Core.Path.{_≡_, sym, _∙_}
-use Prim.Native.Nat.{ℕ, _*_, _≤_}
+use Prim.Native.Nat.{ℕ, _≤_}
 use native.Mathlib.Omega.{arith}
 use lib.ListN.{length, length-replicate}
 use borrow.Author.Needs.{needs}
@@ -8,6 +8,7 @@ use Rattle.tables.specs.Checked.{fit-addresses, fit-blocks, dirty-checked}
 use Rattle.tables.specs.SoundLaws.{filled-with}
 use Rattle.checks.proofs.sound.tables_refused.Statement.{statement}
 use Rattle.checks.proofs.sound.tables_refused.Tie as tie
+use Rattle.tables.specs.Rows.{tableBytes}
 
 returns : tie.Need-returns
 returns c = (rw (sym (c .before .addresses-unsound .ensures) ∙ c .if1 .taken), ((λ e. absurd (omega arith)), c .before .before .before .before .before .pre))
@@ -22,13 +23,13 @@ returns-2 c =
     (rw (sym (e .before .addresses-unsound .ensures) ∙ e .if1 .left, sym (b .blocks-unsound .ensures .0) ∙ c .if2 .taken), ((λ z. absurd (omega arith)), e .before .before .before .before .before .pre))
 
 -- both tables have passed
-passed-addresses : (c : tie.Else2) → (let a = c .before .before .before .before .before .before .before .before .before .args in (a .n ≤ a .m) × (a .m ≤ 1024) × (length (a .addresses .now) ≡ a .m * 40))
+passed-addresses : (c : tie.Else2) → (let a = c .before .before .before .before .before .before .before .before .before .args in (a .n ≤ a .m) × (a .m ≤ 1024) × (length (a .addresses .now) ≡ tableBytes (a .m)))
 passed-addresses c =
     let e = c .before .before .before .before in
     let a = e .before .before .before .before .before .args in
     fit-addresses (a .p) (a .m) (a .n) (a .addresses .now) (sym (e .before .addresses-unsound .ensures) ∙ e .if1 .left)
 
-passed-blocks : (c : tie.Else2) → (let a = c .before .before .before .before .before .before .before .before .before .args in (a .d ≤ 256) × (length (a .blocks .now) ≡ a .d * 40))
+passed-blocks : (c : tie.Else2) → (let a = c .before .before .before .before .before .before .before .before .before .args in (a .d ≤ 256) × (length (a .blocks .now) ≡ tableBytes (a .d)))
 passed-blocks c =
     let b = c .before .before in
     let a = b .before .before .before .before .before .before .before .args in
