@@ -65,7 +65,7 @@ pub(crate) fn addresses_sound(t: &[u8], m: usize, n: usize, p: u32) -> bool
     if !addresses_ok(t, n, p) {
         return false;
     }
-    let mut seen = [0u8; 65536];
+    let mut seen = [0u8; 8192];
     if !distinct::addresses_distinct(t, n, &mut seen) {
         return false;
     }
@@ -131,7 +131,7 @@ pub(crate) fn blocks_sound(t: &[u8], d: usize, heads: &mut [u16]) -> bool
     if !rows_ok(t, d) {
         return false;
     }
-    let mut seen = [0u8; 256];
+    let mut seen = [0u8; 32];
     if !distinct::slots_distinct(t, d, &mut seen) {
         return false;
     }

@@ -22,6 +22,7 @@ pub mod PlaceLaws
 pub mod KeptLists
 pub mod KeptAddresses
 pub mod KeptBlocks
+pub mod Bits
 pub mod Promises
 pub mod Written
 pub mod ReadBack

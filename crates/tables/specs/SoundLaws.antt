@@ -1,6 +1,6 @@
 -- Laws for the checks of a table's soundness. Assumes nothing.
 use mathlib.Core.Path.{_≡_, refl, sym, ap, _∙_}
-use mathlib.Core.Bool.{Bool, true, false, _&&_, _||_, and-false}
+use mathlib.Core.Bool.{Bool, true, false, cond, _&&_, _||_, and-false}
 use mathlib.Core.List.{List, [], _∷_, map}
 use Prim.Native.Nat.{ℕ, zero, suc, _+_, _-_, _*_, _≤_, _<_}
 use native.Mathlib.Nat.{not-suc-le-zero, le-of-suc-le-suc}
@@ -62,9 +62,13 @@ values-at f n t k h = map-at f (rows n t) k 0 [] (rw rows-length h) ∙ ap f (ro
 pub values-length : (f : List ℕ → ℕ) (n : ℕ) (t : List ℕ) → length (map f (rows n t)) ≡ n
 values-length f n t = length-map (rows n t) f ∙ rows-length n t
 
--- a byte for each number: 1 if it is in the list
+-- each number below q has a mark: 1 if it is in the list
+abbrev pub Marked : (ℕ → ℕ) → ℕ → List ℕ → Type 0
+Marked at q l = (x : ℕ) → x < q → at x ≡ mark (elem x l)
+
+-- the marks are the bytes of seen
 abbrev pub Marks : List ℕ → List ℕ → Type 0
-Marks seen l = (x : ℕ) → x < length seen → getD seen x 0 ≡ mark (elem x l)
+Marks seen l = Marked (λ x. getD seen x 0) (length seen) l
 
 mark-off : (b : Bool) → mark b ≡ 0 → b ≡ false
 mark-off true e = absurd (omega arith)
@@ -74,19 +78,24 @@ mark-on : (b : Bool) → (mark b ≡ 0 → ⊥) → b ≡ true
 mark-on true e = refl
 mark-on false e = absurd (e refl)
 
-pub marks-none : (seen l : List ℕ) (k : ℕ) → length l ≤ k → ((x : ℕ) → x < length seen → getD seen x 0 ≡ 0) → Marks seen (drop k l)
+pub marked-none : (at : ℕ → ℕ) (q : ℕ) (l : List ℕ) (k : ℕ) → length l ≤ k → ((x : ℕ) → x < q → at x ≡ 0) → Marked at q (drop k l)
 unfolding elem
-marks-none seen l k h e x b = rw (drop-of-length-le l h) (e x b)
+marked-none at q l k h e x b = rw (drop-of-length-le l h) (e x b)
 
-marks-more : (seen l : List ℕ) (x : ℕ) → x < length seen → Marks seen l → Marks (set seen x 1) (x ∷ l)
+-- the mark of x set, and no other
+marked-more : (at at′ : ℕ → ℕ) (q : ℕ) (l : List ℕ) (x : ℕ) → ((y : ℕ) → y < q → at′ y ≡ cond (eqb y x) 1 (at y)) → Marked at q l → Marked at′ q (x ∷ l)
 unfolding elem
-marks-more seen l x h m y b = elim (eqb y x) as (λ q. eqb y x ≡ q → getD (set seen x 1) y 0 ≡ mark (q || elem y l)) [ true ↦ hit | false ↦ other ] refl
+marked-more at at′ q l x f m y b = f y b ∙ ap (cond (eqb y x) 1) (m y b) ∙ both-marks (eqb y x) (elem y l)
   where
-    hit : eqb y x ≡ true → getD (set seen x 1) y 0 ≡ 1
-    hit e = rw (eqb-true y x e) (getD-set-same seen x 1 0 h)
+    both-marks : (a b : Bool) → cond a 1 (mark b) ≡ mark (a || b)
+    both-marks true b = refl
+    both-marks false b = refl
 
-    other : eqb y x ≡ false → getD (set seen x 1) y 0 ≡ mark (elem y l)
-    other e = getD-set-other seen x y 1 0 (eqb-false y x e) ∙ m y (rw length-set at b)
+byte-set : (seen : List ℕ) (x : ℕ) → x < length seen → (y : ℕ) → getD (set seen x 1) y 0 ≡ cond (eqb y x) 1 (getD seen y 0)
+byte-set seen x h y = elim (eqb y x) as (λ q. eqb y x ≡ q → getD (set seen x 1) y 0 ≡ cond q 1 (getD seen y 0)) [
+  | true ↦ λ e. rw (eqb-true y x e) (getD-set-same seen x 1 0 h)
+  | false ↦ λ e. getD-set-other seen x y 1 0 (eqb-false y x e)
+] refl
 
 -- a list with a number twice at its end has it twice
 pub distinct-drop : (xs : List ℕ) (k : ℕ) → distinct (drop k xs) ≡ false → distinct xs ≡ false
@@ -95,27 +104,30 @@ distinct-drop xs zero e = e
 distinct-drop [] (suc k) e = e
 distinct-drop (x ∷ xs) (suc k) e = rw (distinct-drop xs k e, and-false)
 
--- the number x that a turn reads: it stands in the list ws before place k, and has a byte in seen
-pub record Read (ws seen : List ℕ) (k x : ℕ) : Type 0 where
+-- the number x that a turn reads: it stands in the list ws before place k, and has a mark
+pub record Read (ws : List ℕ) (q k x : ℕ) : Type 0 where
   pub some : 0 < k
   pub within : k ≤ length ws
   pub is : x ≡ getD ws (k - 1) 0
-  pub has : x < length seen
+  pub has : x < q
 
-module _ {ws seen : List ℕ} {k x : ℕ} (r : Read ws seen k x) (m : Marks seen (drop k ws)) where
+module _ {ws : List ℕ} {q k x : ℕ} (r : Read ws q k x) (at : ℕ → ℕ) (m : Marked at q (drop k ws)) where
   before : drop (k - 1) ws ≡ x ∷ drop k ws
   before = let e : suc (k - 1) ≡ k = omega (arith, r .some) in drop-cons ws (k - 1) 0 (omega (arith, r .some, r .within)) ∙ rw (e, r .is)
 
-  pub twice : (getD seen x 0 ≡ 0 → ⊥) → false ≡ distinct ws
+  pub twice : (at x ≡ 0 → ⊥) → false ≡ distinct ws
   unfolding distinct
   twice h = sym (distinct-drop ws (k - 1) (rw (before, mark-on (elem x (drop k ws)) (rw (m x (r .has)) at h))))
 
-  pub once : getD seen x 0 ≡ 0 → distinct (drop k ws) ≡ true → distinct (drop (k - 1) ws) ≡ true
+  pub once : at x ≡ 0 → distinct (drop k ws) ≡ true → distinct (drop (k - 1) ws) ≡ true
   unfolding distinct
   once h d = rw (before, mark-off (elem x (drop k ws)) (rw (m x (r .has)) at h)) d
 
-  pub marked : Marks (set seen x 1) (drop (k - 1) ws)
-  marked = rw before (marks-more seen (drop k ws) x (r .has) m)
+  pub marked : (at′ : ℕ → ℕ) → ((y : ℕ) → y < q → at′ y ≡ cond (eqb y x) 1 (at y)) → Marked at′ q (drop (k - 1) ws)
+  marked at′ f = rw before (marked-more at at′ q (drop k ws) x f m)
+
+pub marks-set : {ws : List ℕ} (seen : List ℕ) {k x : ℕ} → Read ws (length seen) k x → Marks seen (drop k ws) → Marks (set seen x 1) (drop (k - 1) ws)
+marks-set seen {x = x} r m y b = marked r (λ z. getD seen z 0) m (λ z. getD (set seen x 1) z 0) (λ z l. byte-set seen x (r .has) z) y (rw length-set at b)
 
 -- an array of q numbers v; an array of q zeros has a byte, 0, for each number below q
 pub filled-with : (q v x : ℕ) → x < length (replicate {A = ℕ} q v) → getD {A = ℕ} (replicate q v) x 0 ≡ v
@@ -124,7 +136,7 @@ filled-with q v x h = getD-replicate q x v 0 (rw length-replicate at h)
 pub fresh : (q x : ℕ) → x < length (replicate {A = ℕ} q 0) → getD {A = ℕ} (replicate q 0) x 0 ≡ 0
 fresh q x h = filled-with q 0 x h
 
-pub addrs-below : (q p n : ℕ) (t : List ℕ) → all (addressOk p) (rows n t) ≡ true → p ≤ q → (k : ℕ) → k < n → rowAddress (rowAt t k) < length (replicate {A = ℕ} q 0)
+pub addrs-below : (q p n : ℕ) (t : List ℕ) → all (addressOk p) (rows n t) ≡ true → p ≤ q * 8 → (k : ℕ) → k < n → rowAddress (rowAt t k) < length (replicate {A = ℕ} q 0) * 8
 addrs-below q p n t e h k b =
     let o : addressOk p (rowAt t k) ≡ true = ap (addressOk p) (sym (rows-at n t k b)) ∙ all-at (addressOk p) (rows n t) k [] e (rw rows-length b) in
     let l : rowAddress (rowAt t k) < p = ltb-true _ _ (and-left _ _ o) in
@@ -136,7 +148,7 @@ every-at q [] k z e h = absurd (not-suc-le-zero h)
 every-at q (x ∷ xs) zero z e h = and-left (q x xs) (every q xs) e
 every-at q (x ∷ xs) (suc k) z e h = every-at q xs k z (and-right (q x xs) (every q xs) e) (le-of-suc-le-suc h)
 
-pub slots-below : (q d : ℕ) (t : List ℕ) → every (rowOk d) (rows d t) ≡ true → d ≤ q → (k : ℕ) → k < d → rowSlot (rowAt t k) < length (replicate {A = ℕ} q 0)
+pub slots-below : (q d : ℕ) (t : List ℕ) → every (rowOk d) (rows d t) ≡ true → d ≤ q * 8 → (k : ℕ) → k < d → rowSlot (rowAt t k) < length (replicate {A = ℕ} q 0) * 8
 slots-below q d t e h k b =
     let o : rowOk d (rowAt t k) (drop (suc k) (rows d t)) ≡ true = ap (λ (r : List ℕ). rowOk d r (drop (suc k) (rows d t))) (sym (rows-at d t k b)) ∙ every-at (rowOk d) (rows d t) k [] e (rw rows-length b) in
     let l : rowSlot (rowAt t k) < d = ltb-true _ _ (and-left _ _ o) in

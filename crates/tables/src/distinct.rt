@@ -1,32 +1,50 @@
 // Whether the addresses, or the slots, of a table's rows are all different.
 use crate::row;
 ghost use mathlib.Core.Path.{_≡_};
-ghost use mathlib.Core.Bool.{true};
+ghost use mathlib.Core.Bool.{true, cond};
 ghost use mathlib.Core.List.{map};
-ghost use Prim.Native.Nat.{ℕ, _+_, _<_, _≤_};
-ghost use lib.ListN.{length, getD};
+ghost use Prim.Native.Nat.{ℕ, _+_, _*_, _<_, _≤_};
+ghost use lib.Dec.{eqb};
+ghost use lib.ListN.{length};
 ghost use Rattle.tables.specs.Rows.{rows, rowAt, tableBytes};
 ghost use Rattle.tables.specs.Unsound.{elem};
+ghost use Rattle.tables.specs.Bits.{bitAt};
 ghost use Rattle.tables.specs.Sound.{distinct, mark, wordOf, rowAddress, rowSlot};
 
-// Whether the numbers at place `j` of the first `n` rows are all different. `seen` has a byte, 0 at first, for each number that can occur;
+// Sets the bit of `x` in `seen`, where eight numbers have a byte. Whether it was clear.
+pub(crate) fn set_bit(seen: &mut [u8], x: usize) -> bool
+    requires { ⌜ x < length (now seen) * 8 ⌝ }
+    ensures { λ r. ⌜ r ≡ eqb (bitAt (now (seen .entry)) x) 0 ⌝ }
+    ensures { λ r. ⌜ (r ≡ true → (y : ℕ) → bitAt (now (seen .exit)) y ≡ cond (eqb y x) 1 (bitAt (now (seen .entry)) y)) ⌝ }
+    ensures { λ r. ⌜ length (now (seen .exit)) ≡ length (now (seen .entry)) ⌝ }
+{
+    let at = x / 8;
+    let i = x % 8;
+    let b = seen[at];
+    if (b >> i) % 2 != 0 {
+        return false;
+    }
+    seen[at] = b + (1u8 << i);
+    true
+}
+
+// Whether the numbers at place `j` of the first `n` rows are all different. `seen` has a bit, clear at first, for each number that can occur;
 // if they are, it marks those that do.
 pub(crate) fn words_distinct(t: &[u8], n: usize, j: usize, seen: &mut [u8]) -> bool
     requires { ⌜ (tableBytes n ≤ length (now t)) × (j + 4 ≤ 40) ⌝ }
-    requires { ⌜ ((k : ℕ) → k < n → wordOf j (rowAt (now t) k) < length (now seen)) ⌝ }
-    requires { ⌜ ((x : ℕ) → x < length (now seen) → getD (now seen) x 0 ≡ 0) ⌝ }
+    requires { ⌜ ((k : ℕ) → k < n → wordOf j (rowAt (now t) k) < length (now seen) * 8) ⌝ }
+    requires { ⌜ ((x : ℕ) → x < length (now seen) * 8 → bitAt (now seen) x ≡ 0) ⌝ }
     ensures { λ r. ⌜ r ≡ distinct (map (wordOf j) (rows n (now (t .entry)))) ⌝ }
     ensures { λ r. ⌜ length (now (seen .exit)) ≡ length (now (seen .entry)) ⌝ }
-    ensures { λ r. ⌜ (r ≡ true → (x : ℕ) → x < length (now (seen .exit)) → getD (now (seen .exit)) x 0 ≡ mark (elem x (map (wordOf j) (rows n (now (t .entry)))))) ⌝ }
+    ensures { λ r. ⌜ (r ≡ true → (x : ℕ) → x < length (now (seen .exit)) * 8 → bitAt (now (seen .exit)) x ≡ mark (elem x (map (wordOf j) (rows n (now (t .entry)))))) ⌝ }
 {
     let mut k = n;
     while 0 < k {
         k -= 1;
         let x = row::word_at(t, k * 40 + j) as usize;
-        if seen[x] != 0 {
+        if !set_bit(seen, x) {
             return false;
         }
-        seen[x] = 1;
     }
     true
 }
@@ -34,11 +52,11 @@ pub(crate) fn words_distinct(t: &[u8], n: usize, j: usize, seen: &mut [u8]) -> b
 // Whether the addresses of the first `n` rows are all different; `seen` as above.
 pub fn addresses_distinct(t: &[u8], n: usize, seen: &mut [u8]) -> bool
     requires { ⌜ tableBytes n ≤ length (now t) ⌝ }
-    requires { ⌜ ((k : ℕ) → k < n → rowAddress (rowAt (now t) k) < length (now seen)) ⌝ }
-    requires { ⌜ ((x : ℕ) → x < length (now seen) → getD (now seen) x 0 ≡ 0) ⌝ }
+    requires { ⌜ ((k : ℕ) → k < n → rowAddress (rowAt (now t) k) < length (now seen) * 8) ⌝ }
+    requires { ⌜ ((x : ℕ) → x < length (now seen) * 8 → bitAt (now seen) x ≡ 0) ⌝ }
     ensures { λ r. ⌜ r ≡ distinct (map rowAddress (rows n (now (t .entry)))) ⌝ }
     ensures { λ r. ⌜ length (now (seen .exit)) ≡ length (now (seen .entry)) ⌝ }
-    ensures { λ r. ⌜ (r ≡ true → (x : ℕ) → x < length (now (seen .exit)) → getD (now (seen .exit)) x 0 ≡ mark (elem x (map rowAddress (rows n (now (t .entry)))))) ⌝ }
+    ensures { λ r. ⌜ (r ≡ true → (x : ℕ) → x < length (now (seen .exit)) * 8 → bitAt (now (seen .exit)) x ≡ mark (elem x (map rowAddress (rows n (now (t .entry)))))) ⌝ }
 {
     words_distinct(t, n, 0, seen)
 }
@@ -46,11 +64,11 @@ pub fn addresses_distinct(t: &[u8], n: usize, seen: &mut [u8]) -> bool
 // Whether the slots of the first `d` rows are all different; `seen` as above.
 pub fn slots_distinct(t: &[u8], d: usize, seen: &mut [u8]) -> bool
     requires { ⌜ tableBytes d ≤ length (now t) ⌝ }
-    requires { ⌜ ((k : ℕ) → k < d → rowSlot (rowAt (now t) k) < length (now seen)) ⌝ }
-    requires { ⌜ ((x : ℕ) → x < length (now seen) → getD (now seen) x 0 ≡ 0) ⌝ }
+    requires { ⌜ ((k : ℕ) → k < d → rowSlot (rowAt (now t) k) < length (now seen) * 8) ⌝ }
+    requires { ⌜ ((x : ℕ) → x < length (now seen) * 8 → bitAt (now seen) x ≡ 0) ⌝ }
     ensures { λ r. ⌜ r ≡ distinct (map rowSlot (rows d (now (t .entry)))) ⌝ }
     ensures { λ r. ⌜ length (now (seen .exit)) ≡ length (now (seen .entry)) ⌝ }
-    ensures { λ r. ⌜ (r ≡ true → (x : ℕ) → x < length (now (seen .exit)) → getD (now (seen .exit)) x 0 ≡ mark (elem x (map rowSlot (rows d (now (t .entry)))))) ⌝ }
+    ensures { λ r. ⌜ (r ≡ true → (x : ℕ) → x < length (now (seen .exit)) * 8 → bitAt (now (seen .exit)) x ≡ mark (elem x (map rowSlot (rows d (now (t .entry)))))) ⌝ }
 {
     words_distinct(t, d, 32, seen)
 }

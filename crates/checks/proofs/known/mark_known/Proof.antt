@@ -1,10 +1,10 @@
 -- The loop goes down; `known` marks the numbers from k on. Assumes nothing.
 use Prim.Native.Nat.{ℕ, _-_, _≤_, _<_}
-use Rattle.tables.specs.SoundLaws.{Read, Marks, marks-none, marked}
+use Rattle.tables.specs.SoundLaws.{Read, Marks, marked-none, marks-set}
 use Rattle.checks.proofs.known.mark_known.Statement.{statement}
 use Rattle.checks.proofs.known.mark_known.Tie as tie
 use borrow.Author.Needs.{needs}
-use lib.ListN.{length, take, drop, length-set}
+use lib.ListN.{length, take, drop, getD, length-set}
 use lib.Seq.{length-take-le, getD-take}
 use mathlib.Core.Path.{_≡_, refl, sym, _∙_, subst}
 use native.Mathlib.Omega.{arith}
@@ -20,7 +20,7 @@ loop-holds c =
     let s = c .before .before in
     let a = s .args in
     let h = length-take-le (a .n) (a .places .now) (s .pre .0 .0) in
-    (search needs, refl, marks-none (a .known .now) (take (a .n) (a .places .now)) (a .n) (omega arith) (s .pre .1))
+    (search needs, refl, marked-none (λ x. getD (a .known .now) x 0) (length (a .known .now)) (take (a .n) (a .places .now)) (a .n) (omega arith) (s .pre .1))
 
 slice-write-known : tie.Need-slice-write-known Inv-loop μ-loop
 slice-write-known c =
@@ -36,14 +36,14 @@ loop-again c =
     let k = l .loop .k in
     let i = l .loop .inv in
     let h : k - 1 < a .n = omega arith in
-    let r : Read (take (a .n) (a .places .now)) (l .loop .known) k (c .wide .result) =
+    let r : Read (take (a .n) (a .places .now)) (length (l .loop .known)) k (c .wide .result) =
     record {
       some = c .before .before .loop-test .taken;
       within = omega (arith, length-take-le (a .n) (a .places .now) (s .pre .0 .0));
       is = c .wide .ensures ∙ sym (getD-take (a .n) (a .places .now) (k - 1) 0 h);
       has = omega (arith, s .pre .0 .1 (k - 1) h);
     } in
-    (omega arith, simp length-set (i .1), marked r (i .2))
+    (omega arith, simp length-set (i .1), marks-set (l .loop .known) r (i .2))
 
 returns : tie.Need-returns Inv-loop μ-loop
 returns c =

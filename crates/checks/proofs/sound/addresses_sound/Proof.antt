@@ -1,5 +1,6 @@
 -- The tests in turn; what the second lets pass has a byte in `seen`. Assumes nothing.
-use Rattle.tables.specs.SoundLaws.{fresh, addrs-below}
+use Rattle.tables.specs.SoundLaws.{addrs-below}
+use Rattle.tables.specs.Bits.{no-bits}
 use Rattle.tables.specs.Find.{all}
 use Rattle.tables.specs.Sound.{isZero, soundAddresses}
 use borrow.Author.Tests.{le-leb, lt-leb, not-true, not-false}
@@ -21,7 +22,7 @@ addresses-distinct-requires c κs =
     let s = c .before .before .before .before .before in
     let a = s .args in
     let ok = sym (c .before .before .addresses-ok .ensures) ∙ not-false _ (c .before .if2 .left) in
-    (search needs, (addrs-below 65536 (a .p) (a .n) (a .t .now) ok (s .pre .1), fresh 65536))
+    (search needs, (addrs-below 8192 (a .p) (a .n) (a .t .now) ok (s .pre .1), no-bits 8192))
 
 returns-3 : tie.Need-returns-3
 unfolding soundAddresses

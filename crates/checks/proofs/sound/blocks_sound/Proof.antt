@@ -4,7 +4,8 @@ use mathlib.Core.Bool.{Bool, true, false, not, false≢true}
 use borrow.Author.Needs.{needs}
 use borrow.Author.Tests.{not-true, not-false}
 use Rattle.tables.specs.Checked.{blocks-checked}
-use Rattle.tables.specs.SoundLaws.{fresh, slots-below}
+use Rattle.tables.specs.SoundLaws.{slots-below}
+use Rattle.tables.specs.Bits.{no-bits}
 use Rattle.checks.proofs.sound.blocks_sound.Statement.{statement}
 use Rattle.checks.proofs.sound.blocks_sound.Tie as tie
 
@@ -26,7 +27,7 @@ slots-distinct-requires c κs =
     let s = e .before .before .before in
     let a = s .args in
     let ok = sym (e .rows-ok .ensures) ∙ not-false _ (c .before .if1 .left) in
-    (search needs, (slots-below 256 (a .d) (a .t .now) ok (s .pre .0 .1 .0), fresh 256))
+    (search needs, (slots-below 32 (a .d) (a .t .now) ok (s .pre .0 .1 .0), no-bits 32))
 
 returns-2 : tie.Need-returns-2
 returns-2 c =
