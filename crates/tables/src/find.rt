@@ -162,8 +162,9 @@ pub(crate) fn dirty_is(t: &[u8], k: usize, g: &[u8]) -> bool
     requires { ⌜ (tableBytes (k + 1) ≤ length (now t)) × (length (now g) ≡ 32) ⌝ }
     ensures { λ r. ⌜ r ≡ isDirtyOf (now (g .entry)) (rowAt (now (t .entry)) k) ⌝ }
 {
-    if row::is_dirty(t, k) {
-        return fingerprint_is(t, k, g);
+    let at = k * 40 + 4;
+    if row::is_dirty(t, k) & same_first_word(t, at, g) {
+        return same_fingerprint(t, at, g);
     }
     false
 }
