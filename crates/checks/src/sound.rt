@@ -65,8 +65,7 @@ pub(crate) fn addresses_sound(t: &[u8], m: usize, n: usize, p: u32) -> bool
     if !addresses_ok(t, n, p) {
         return false;
     }
-    let mut seen = [0u8; 8192];
-    if !distinct::addresses_distinct(t, n, &mut seen) {
+    if !distinct::addresses_distinct(t, n) {
         return false;
     }
     all_zero(row::behind(t, n))
@@ -131,8 +130,7 @@ pub(crate) fn blocks_sound(t: &[u8], d: usize, heads: &mut [u16]) -> bool
     if !rows_ok(t, d) {
         return false;
     }
-    let mut seen = [0u8; 32];
-    if !distinct::slots_distinct(t, d, &mut seen) {
+    if !distinct::slots_distinct(t, d) {
         return false;
     }
     index::build(t, d, heads)

@@ -77,7 +77,10 @@ module _ (s : List ℕ) (bytes : (i : ℕ) → getD s i 0 < 256) (x : ℕ) (clea
         ∙ sym (ap (λ (b : Bool). cond b 1 (bitAt s y)) (ne-eqb y x (λ m. n (ap (λ (z : ℕ). z / 8) m)))))
   ] refl
 
--- no bit of an array of zeros is set
+-- an array of q zeros has a bit for each number below q * 8, and none is set
+pub has-bit : (q x : ℕ) → x < q * 8 → x < length (replicate {A = ℕ} q 0) * 8
+has-bit q x h = rw length-replicate h
+
 pub no-bits : (q x : ℕ) → x < length (replicate {A = ℕ} q 0) * 8 → bitAt (replicate q 0) x ≡ 0
 no-bits q x h = ap (λ (k : ℕ). k / 2 ^ (x % 8) % 2) (getD-replicate q (x / 8) 0 0 (let l : length (replicate {A = ℕ} q 0) ≡ q = length-replicate q 0 in omega arith)) ∙ zero-part (2 ^ (x % 8))
   where

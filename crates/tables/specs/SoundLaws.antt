@@ -136,11 +136,11 @@ filled-with q v x h = getD-replicate q x v 0 (rw length-replicate at h)
 pub fresh : (q x : ℕ) → x < length (replicate {A = ℕ} q 0) → getD {A = ℕ} (replicate q 0) x 0 ≡ 0
 fresh q x h = filled-with q 0 x h
 
-pub addrs-below : (q p n : ℕ) (t : List ℕ) → all (addressOk p) (rows n t) ≡ true → p ≤ q * 8 → (k : ℕ) → k < n → rowAddress (rowAt t k) < length (replicate {A = ℕ} q 0) * 8
+pub addrs-below : (q p n : ℕ) (t : List ℕ) → all (addressOk p) (rows n t) ≡ true → p ≤ q → (k : ℕ) → k < n → rowAddress (rowAt t k) < q
 addrs-below q p n t e h k b =
     let o : addressOk p (rowAt t k) ≡ true = ap (addressOk p) (sym (rows-at n t k b)) ∙ all-at (addressOk p) (rows n t) k [] e (rw rows-length b) in
     let l : rowAddress (rowAt t k) < p = ltb-true _ _ (and-left _ _ o) in
-    rw length-replicate (omega (arith, l, h))
+    omega (arith, l, h)
 
 pub every-at : {A : Type 0} (q : A → List A → Bool) (xs : List A) (k : ℕ) (z : A) → every q xs ≡ true → k < length xs → q (getD xs k z) (drop (suc k) xs) ≡ true
 unfolding every
@@ -148,11 +148,11 @@ every-at q [] k z e h = absurd (not-suc-le-zero h)
 every-at q (x ∷ xs) zero z e h = and-left (q x xs) (every q xs) e
 every-at q (x ∷ xs) (suc k) z e h = every-at q xs k z (and-right (q x xs) (every q xs) e) (le-of-suc-le-suc h)
 
-pub slots-below : (q d : ℕ) (t : List ℕ) → every (rowOk d) (rows d t) ≡ true → d ≤ q * 8 → (k : ℕ) → k < d → rowSlot (rowAt t k) < length (replicate {A = ℕ} q 0) * 8
+pub slots-below : (q d : ℕ) (t : List ℕ) → every (rowOk d) (rows d t) ≡ true → d ≤ q → (k : ℕ) → k < d → rowSlot (rowAt t k) < q
 slots-below q d t e h k b =
     let o : rowOk d (rowAt t k) (drop (suc k) (rows d t)) ≡ true = ap (λ (r : List ℕ). rowOk d r (drop (suc k) (rows d t))) (sym (rows-at d t k b)) ∙ every-at (rowOk d) (rows d t) k [] e (rw rows-length b) in
     let l : rowSlot (rowAt t k) < d = ltb-true _ _ (and-left _ _ o) in
-    rw length-replicate (omega (arith, l, h))
+    omega (arith, l, h)
 
 -- a turn of a check of `every` that goes down, at the element before place k
 every-drop : {A : Type 0} (q : A → List A → Bool) (xs : List A) (k : ℕ) → every q (drop k xs) ≡ false → every q xs ≡ false

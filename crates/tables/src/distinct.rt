@@ -7,9 +7,8 @@ ghost use Prim.Native.Nat.{ℕ, _+_, _*_, _<_, _≤_};
 ghost use lib.Dec.{eqb};
 ghost use lib.ListN.{length};
 ghost use Rattle.tables.specs.Rows.{rows, rowAt, tableBytes};
-ghost use Rattle.tables.specs.Unsound.{elem};
 ghost use Rattle.tables.specs.Bits.{bitAt};
-ghost use Rattle.tables.specs.Sound.{distinct, mark, wordOf, rowAddress, rowSlot};
+ghost use Rattle.tables.specs.Sound.{distinct, wordOf, rowAddress, rowSlot};
 
 // Sets the bit of `x` in `seen`, where eight numbers have a byte. Whether it was clear.
 pub(crate) fn set_bit(seen: &mut [u8], x: usize) -> bool
@@ -28,15 +27,13 @@ pub(crate) fn set_bit(seen: &mut [u8], x: usize) -> bool
     true
 }
 
-// Whether the numbers at place `j` of the first `n` rows are all different. `seen` has a bit, clear at first, for each number that can occur;
-// if they are, it marks those that do.
+// Whether the numbers at place `j` of the first `n` rows are all different. `seen` has a bit, clear at first, for each number that can occur.
 pub(crate) fn words_distinct(t: &[u8], n: usize, j: usize, seen: &mut [u8]) -> bool
     requires { ⌜ (tableBytes n ≤ length (now t)) × (j + 4 ≤ 40) ⌝ }
     requires { ⌜ ((k : ℕ) → k < n → wordOf j (rowAt (now t) k) < length (now seen) * 8) ⌝ }
     requires { ⌜ ((x : ℕ) → x < length (now seen) * 8 → bitAt (now seen) x ≡ 0) ⌝ }
     ensures { λ r. ⌜ r ≡ distinct (map (wordOf j) (rows n (now (t .entry)))) ⌝ }
     ensures { λ r. ⌜ length (now (seen .exit)) ≡ length (now (seen .entry)) ⌝ }
-    ensures { λ r. ⌜ (r ≡ true → (x : ℕ) → x < length (now (seen .exit)) * 8 → bitAt (now (seen .exit)) x ≡ mark (elem x (map (wordOf j) (rows n (now (t .entry)))))) ⌝ }
 {
     let mut k = n;
     while 0 < k {
@@ -49,26 +46,22 @@ pub(crate) fn words_distinct(t: &[u8], n: usize, j: usize, seen: &mut [u8]) -> b
     true
 }
 
-// Whether the addresses of the first `n` rows are all different; `seen` as above.
-pub fn addresses_distinct(t: &[u8], n: usize, seen: &mut [u8]) -> bool
+// Whether the addresses of the first `n` rows are all different.
+pub fn addresses_distinct(t: &[u8], n: usize) -> bool
     requires { ⌜ tableBytes n ≤ length (now t) ⌝ }
-    requires { ⌜ ((k : ℕ) → k < n → rowAddress (rowAt (now t) k) < length (now seen) * 8) ⌝ }
-    requires { ⌜ ((x : ℕ) → x < length (now seen) * 8 → bitAt (now seen) x ≡ 0) ⌝ }
+    requires { ⌜ ((k : ℕ) → k < n → rowAddress (rowAt (now t) k) < 65536) ⌝ }
     ensures { λ r. ⌜ r ≡ distinct (map rowAddress (rows n (now (t .entry)))) ⌝ }
-    ensures { λ r. ⌜ length (now (seen .exit)) ≡ length (now (seen .entry)) ⌝ }
-    ensures { λ r. ⌜ (r ≡ true → (x : ℕ) → x < length (now (seen .exit)) * 8 → bitAt (now (seen .exit)) x ≡ mark (elem x (map rowAddress (rows n (now (t .entry)))))) ⌝ }
 {
-    words_distinct(t, n, 0, seen)
+    let mut seen = [0u8; 8192];
+    words_distinct(t, n, 0, &mut seen)
 }
 
-// Whether the slots of the first `d` rows are all different; `seen` as above.
-pub fn slots_distinct(t: &[u8], d: usize, seen: &mut [u8]) -> bool
+// Whether the slots of the first `d` rows are all different.
+pub fn slots_distinct(t: &[u8], d: usize) -> bool
     requires { ⌜ tableBytes d ≤ length (now t) ⌝ }
-    requires { ⌜ ((k : ℕ) → k < d → rowSlot (rowAt (now t) k) < length (now seen) * 8) ⌝ }
-    requires { ⌜ ((x : ℕ) → x < length (now seen) * 8 → bitAt (now seen) x ≡ 0) ⌝ }
+    requires { ⌜ ((k : ℕ) → k < d → rowSlot (rowAt (now t) k) < 256) ⌝ }
     ensures { λ r. ⌜ r ≡ distinct (map rowSlot (rows d (now (t .entry)))) ⌝ }
-    ensures { λ r. ⌜ length (now (seen .exit)) ≡ length (now (seen .entry)) ⌝ }
-    ensures { λ r. ⌜ (r ≡ true → (x : ℕ) → x < length (now (seen .exit)) * 8 → bitAt (now (seen .exit)) x ≡ mark (elem x (map rowSlot (rows d (now (t .entry)))))) ⌝ }
 {
-    words_distinct(t, d, 32, seen)
+    let mut seen = [0u8; 32];
+    words_distinct(t, d, 32, &mut seen)
 }

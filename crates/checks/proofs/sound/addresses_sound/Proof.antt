@@ -1,6 +1,5 @@
--- The tests in turn; what the second lets pass has a byte in `seen`. Assumes nothing.
+-- The tests in turn; what the second lets pass is below 65,536. Assumes nothing.
 use Rattle.tables.specs.SoundLaws.{addrs-below}
-use Rattle.tables.specs.Bits.{no-bits}
 use Rattle.tables.specs.Find.{all}
 use Rattle.tables.specs.Sound.{isZero, soundAddresses}
 use borrow.Author.Tests.{le-leb, lt-leb, not-true, not-false}
@@ -19,23 +18,26 @@ returns-2 c = rw (le-leb _ _ (c .before .before .if1 .left), sym (c .before .add
 
 addresses-distinct-requires : tie.Need-addresses-distinct-requires
 addresses-distinct-requires c κs =
-    let s = c .before .before .before .before .before in
+    let o = c .before in
+    let s = o .before .before .before in
     let a = s .args in
-    let ok = sym (c .before .before .addresses-ok .ensures) ∙ not-false _ (c .before .if2 .left) in
-    (search needs, (addrs-below 8192 (a .p) (a .n) (a .t .now) ok (s .pre .1), no-bits 8192))
+    (search needs, addrs-below 65536 (a .p) (a .n) (a .t .now) (sym (o .addresses-ok .ensures) ∙ not-false _ (c .if2 .left)) (s .pre .1))
 
 returns-3 : tie.Need-returns-3
 unfolding soundAddresses
 returns-3 c =
-    let w = c .before .before in
-    rw (le-leb _ _ (w .before .before .before .before .if1 .left), sym (w .before .before .before .addresses-ok .ensures) ∙ not-false _ (w .before .before .if2 .left), sym (w .addresses-distinct .ensures .0) ∙ not-true _ (c .if3 .taken))
+    let w = c .before in
+    let e = w .before in
+    rw (le-leb _ _ (e .before .before .if1 .left), sym (e .before .addresses-ok .ensures) ∙ not-false _ (e .if2 .left), sym (w .addresses-distinct .ensures) ∙ not-true _ (c .if3 .taken))
 
 returns-4 : tie.Need-returns-4
 unfolding soundAddresses
 returns-4 c =
     let z = c .before in
-    let w = z .before .before .before in
-    rw (le-leb _ _ (w .before .before .before .before .if1 .left), sym (w .before .before .before .addresses-ok .ensures) ∙ not-false _ (w .before .before .if2 .left), sym (w .addresses-distinct .ensures .0) ∙ not-false _ (z .before .if3 .left)) (c .all-zero .ensures ∙ ap (all isZero) (z .behind .ensures))
+    let w = z .before .before in
+    let e = w .before in
+    rw (le-leb _ _ (e .before .before .if1 .left), sym (e .before .addresses-ok .ensures) ∙ not-false _ (e .if2 .left), sym (w .addresses-distinct .ensures) ∙ not-false _ (z .before .if3 .left))
+    (c .all-zero .ensures ∙ ap (all isZero) (z .behind .ensures))
 
 pub addresses-sound-spec : {M : Type 1} → statement M
 addresses-sound-spec =
@@ -44,7 +46,6 @@ addresses-sound-spec =
     returns
     (λ c κs. search needs)
     returns-2
-    (λ c. search needs)
     addresses-distinct-requires
     returns-3
     (λ c κs. search needs)

@@ -5,7 +5,6 @@ use borrow.Author.Needs.{needs}
 use borrow.Author.Tests.{not-true, not-false}
 use Rattle.tables.specs.Checked.{blocks-checked}
 use Rattle.tables.specs.SoundLaws.{slots-below}
-use Rattle.tables.specs.Bits.{no-bits}
 use Rattle.checks.proofs.sound.blocks_sound.Statement.{statement}
 use Rattle.checks.proofs.sound.blocks_sound.Tie as tie
 
@@ -23,19 +22,18 @@ returns c =
 
 slots-distinct-requires : tie.Need-slots-distinct-requires
 slots-distinct-requires c κs =
-    let e = c .before .before in
-    let s = e .before .before .before in
+    let o = c .before in
+    let s = o .before .before .before in
     let a = s .args in
-    let ok = sym (e .rows-ok .ensures) ∙ not-false _ (c .before .if1 .left) in
-    (search needs, (slots-below 32 (a .d) (a .t .now) ok (s .pre .0 .1 .0), no-bits 32))
+    (search needs, slots-below 256 (a .d) (a .t .now) (sym (o .rows-ok .ensures) ∙ not-false _ (c .if1 .left)) (s .pre .0 .1 .0))
 
 returns-2 : tie.Need-returns-2
 returns-2 c =
-    let w = c .before .before in
-    let e = w .before .before in
+    let w = c .before in
+    let e = w .before in
     let s = e .before .before .before .before in
     let a = s .args in (
-      rw (blocks-checked (a .d) (a .t .now), sym (e .before .rows-ok .ensures) ∙ not-false _ (e .if1 .left), sym (w .slots-distinct .ensures .0) ∙ not-true _ (c .if2 .taken)),
+      rw (blocks-checked (a .d) (a .t .now), sym (e .before .rows-ok .ensures) ∙ not-false _ (e .if1 .left), sym (w .slots-distinct .ensures) ∙ not-true _ (c .if2 .taken)),
       ((λ e. absurd (false≢true e)), s .pre .0 .1 .1),
     )
 
@@ -43,13 +41,13 @@ returns-3 : tie.Need-returns-3
 returns-3 c =
     let b = c .before .before in
     let l = b .before .before in
-    let w = l .before .before in
-    let e = w .before .before in
+    let w = l .before in
+    let e = w .before in
     let s = e .before .before .before .before in
     let a = s .args in (
-      b .build .ensures .0 ∙ sym (rw (blocks-checked (a .d) (a .t .now), sym (e .before .rows-ok .ensures) ∙ not-false _ (e .if1 .left), sym (w .slots-distinct .ensures .0) ∙ not-false _ (l .if2 .left)) (not-not _)),
+      b .build .ensures .0 ∙ sym (rw (blocks-checked (a .d) (a .t .now), sym (e .before .rows-ok .ensures) ∙ not-false _ (e .if1 .left), sym (w .slots-distinct .ensures) ∙ not-false _ (l .if2 .left)) (not-not _)),
       b .build .ensures .1,
     )
 
 pub blocks-sound-spec : {M : Type 1} → statement M
-blocks-sound-spec = tie.close (tie.spec (λ c κs. search needs) returns (λ c. search needs) slots-distinct-requires returns-2 (λ c κs. search needs) (λ c. search needs) returns-3)
+blocks-sound-spec = tie.close (tie.spec (λ c κs. search needs) returns slots-distinct-requires returns-2 (λ c κs. search needs) (λ c. search needs) returns-3)

@@ -1,16 +1,19 @@
--- The numbers at place 32 are the slots. Assumes nothing.
+-- The numbers at that place are the slots, and each has a bit. Assumes nothing.
 use borrow.Author.Needs.{needs}
 use Rattle.tables.specs.Records.{readBlock}
+use Rattle.tables.specs.Bits.{has-bit, no-bits}
 use Rattle.tables.proofs.distinct.slots_distinct.Statement.{statement}
 use Rattle.tables.proofs.distinct.slots_distinct.Tie as tie
 
 words-distinct-requires : tie.Need-words-distinct-requires
 unfolding readBlock
-words-distinct-requires c κs = search needs
+words-distinct-requires c κs =
+    let s = c .before .before in
+    (search needs, ((λ k h. has-bit 32 _ (s .pre .1 k h)), no-bits 32))
 
 returns : tie.Need-returns
 unfolding readBlock
-returns c = search needs
+returns c = c .before .words-distinct .ensures .0
 
 pub slots-distinct-spec : {M : Type 1} → statement M
-slots-distinct-spec = tie.close (tie.spec words-distinct-requires (λ c. search needs) returns)
+slots-distinct-spec = tie.close (tie.spec (λ c. search needs) words-distinct-requires returns)

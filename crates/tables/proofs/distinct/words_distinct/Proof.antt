@@ -7,7 +7,7 @@ use Rattle.tables.specs.RowLaws.{le4-rowAt}
 use Rattle.tables.specs.Sound.{distinct, wordOf}
 use Rattle.tables.specs.Rows.{rows, rowAt}
 use mathlib.Core.List.{map}
-use mathlib.Core.Bool.{true, false≢true}
+use mathlib.Core.Bool.{true}
 use Prim.Native.Nat.{ℕ, _-_, _*_, _≤_, _<_}
 use native.Mathlib.Omega.{arith}
 use borrow.Author.Needs.{needs}
@@ -55,7 +55,7 @@ returns c =
     let w = b .before .before in
     let l = w .before .before in
     let r = word w in
-    (twice r (bitAt (l .loop .seen)) (l .loop .inv .3) (eqb-false _ 0 (sym (b .set-bit .ensures .0) ∙ not-true _ (c .if1 .taken))), (b .set-bit .ensures .1 .1 ∙ l .loop .inv .1, λ f. absurd (false≢true f)))
+    (twice r (bitAt (l .loop .seen)) (l .loop .inv .3) (eqb-false _ 0 (sym (b .set-bit .ensures .0) ∙ not-true _ (c .if1 .taken))), b .set-bit .ensures .1 .1 ∙ l .loop .inv .1)
 
 loop-again : tie.Need-loop-again Inv-loop μ-loop
 loop-again c =
@@ -78,7 +78,7 @@ returns-2 c =
     let e : c .before .loop .k ≡ 0 = omega arith in
     let i = c .before .loop .inv in
     let ws = map (wordOf (a .j)) (rows (a .n) (a .t .now)) in
-    (sym (subst (λ (k : ℕ). distinct (drop k ws) ≡ true) e (i .2)), (i .1, λ f. subst (λ (k : ℕ). Marked (bitAt (c .before .loop .seen)) (length (c .before .loop .seen) * 8) (drop k ws)) e (i .3)))
+    (sym (subst (λ (k : ℕ). distinct (drop k ws) ≡ true) e (i .2)), i .1)
 
 pub words-distinct-spec : {M : Type 1} → statement M
 words-distinct-spec =
