@@ -6,7 +6,7 @@ use Prim.Native.Nat.{ℕ, _*_}
 use lib.ListN.{length, replicate}
 use borrow.Author.Tests.{eq-eqb}
 use Rattle.paper.specs.Cache.{Counters}
-use Rattle.paper.specs.Lent.{Numbers, Lent, opening, unfit, wrongBuffers, fresh}
+use Rattle.paper.specs.Lent.{Numbers, Lent, unfit, wrongBuffers, fresh}
 use Rattle.paper.specs.RefusalLaws.{exactly-opening, opened-is}
 use Rattle.parts.specs.declared.BoxRecord.{BoxRecord}
 use Rattle.refusals.specs.Given.{numbersOf, countersOf, lent}

@@ -8,7 +8,6 @@ use lib.ListN.{length, getD}
 use borrow.Author.Tests.{eqb-true, eqb-false, ne-eqb}
 use Rattle.tables.specs.Rows.{rowAt}
 use Rattle.tables.specs.Records.{readBlock}
-use Rattle.block.specs.Blocks.{part}
 use Rattle.paper.specs.KeyedLaws.{by-test, by-option}
 use Rattle.paper.specs.Cache.{Box, Counters, rowWithBlock, slotOf, serve, lookAs}
 use Rattle.paper.specs.Engine.{Fixed, engine}

@@ -8,7 +8,6 @@ use tables::SourceAddress;
 ghost use mathlib.Core.Path.{_≡_};
 ghost use Rattle.paper.specs.Cache.{Counters};
 ghost use Rattle.paper.specs.Lent.{Ask, calling, refusal, call};
-ghost use Rattle.block.specs.Blocks.{part};
 ghost use Rattle.refusals.specs.Given.{numbersOf, lent};
 ghost use Rattle.policy.specs.Contract.{answerOf};
 ghost use Rattle.look.specs.Look.{whereIs};

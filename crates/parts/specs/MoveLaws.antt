@@ -2,12 +2,12 @@
 use mathlib.Core.Path.{_≡_, refl, sym, ap, ap₂, _∙_}
 use mathlib.Core.Bool.{Bool, true, false}
 use mathlib.Core.List.{List, [], _∷_, _++_, map, append-assoc}
-use Prim.Native.Nat.{ℕ, suc, zero, _<_, _+_, _-_}
+use Prim.Native.Nat.{ℕ, suc, zero, _<_, _+_}
 use native.Mathlib.Nat.{le-of-suc-le-suc, zero-add, suc-add}
 use native.Mathlib.Omega.{arith}
 use lib.Dec.{eqb}
 use lib.ListN.{length, getD, set, length-map}
-use Rattle.tables.specs.Rows.{rows, removeAt, rowAt}
+use Rattle.tables.specs.Rows.{removeAt, rowAt}
 use Rattle.tables.specs.Records.{addressRow, addressBytes, blockBytes, readAddress, readBlock, freeRow, addressTable, blockTable}
 use Rattle.tables.specs.Records as R
 use Rattle.tables.specs.Find.{isDirty, isUsed}

@@ -1,6 +1,6 @@
 -- A call that is not refused, from what its refusal says and what its steps leave. Assumes nothing.
 use mathlib.Core.Path.{_≡_, refl, sym, ap, _∙_}
-use mathlib.Core.Bool.{Bool, true, false, not, _||_, cond}
+use mathlib.Core.Bool.{Bool, true, false, _||_, cond}
 use mathlib.Core.List.{List, [], _∷_}
 use mathlib.Core.Option.{Option, none, some}
 use Prim.Native.Nat.{ℕ, suc, _≤_, _<_, _+_, _*_, _^_}
@@ -13,7 +13,7 @@ use Rattle.counters.specs.Added.{added}
 use Rattle.paper.specs.KeyedLaws.{or-false-left, or-false-right}
 use Rattle.paper.specs.Cache.{AddressRow, Box, Call, Outcome, Word, hit, miss, sameBlock, newBlock, Counters, counted, oneIf, isRead, isHit, answer, cached, serve, readAs, rowWithBlock, writeThrough, writeBack, writeInvalidate}
 use Rattle.paper.specs.Engine.{Fixed, fit, engine}
-use Rattle.paper.specs.Lent.{Numbers, Lent, Ask, calling, refusal, callOf, boxIn, lentOf, call, served, answered, blockAfter, partAfter, wrongBuffers, wrongBlock, lentBlock, outside, addressOf, over}
+use Rattle.paper.specs.Lent.{Numbers, Lent, Ask, calling, refusal, callOf, boxIn, lentOf, served, answered, blockAfter, partAfter, wrongBuffers, wrongBlock, lentBlock, outside, addressOf, over}
 use Rattle.paper.specs.RowBytes.{Bytes}
 use Rattle.paper.specs.LentLaws.{passes-sound, fit-whole}
 use Rattle.paper.specs.RefusalLaws.{exactly, served-is, refused-keeps}

@@ -7,7 +7,7 @@ use Prim.Native.Nat.{ℕ, _≤_, _<_, _-_}
 use lib.Dec.{eqb}
 use native.Mathlib.Omega.{arith}
 use lib.ListN.{length, getD}
-use Rattle.tables.specs.Rows.{rows, removeAt, rowAt}
+use Rattle.tables.specs.Rows.{removeAt, rowAt}
 use Rattle.tables.specs.Operations.{rowFreed}
 use Rattle.tables.specs.OperationLaws.{length-removeAt}
 use Rattle.paper.specs.KeyedLaws.{Distinct, eqb→≡, all-without, without-absent}

@@ -8,7 +8,7 @@ use native.Mathlib.Omega.{arith}
 use lib.ListN.{length, getD, set, take, drop, drop-of-length-le}
 use lib.Seq.{take-all}
 use Rattle.parts.specs.declared.BoxRecord.{BoxRecord}
-use Rattle.tables.specs.Rows.{rowAt, rows, removeAt}
+use Rattle.tables.specs.Rows.{rowAt, removeAt}
 use Rattle.paper.specs.KeyedLaws.{Distinct}
 use Rattle.paper.specs.Cache.{AddressRow, BlockRow, Box, Taken, blockRow, withoutBlock, cached, slotOf, copied, copies, cleaned, isLost, taken, stored, step4}
 use Rattle.paper.specs.Engine.{Fixed, engine}

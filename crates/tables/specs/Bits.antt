@@ -1,7 +1,7 @@
 -- Bits in an array of bytes, eight numbers to a byte: what the check for distinct numbers marks. Assumes nothing.
 use mathlib.Core.Path.{_≡_, refl, sym, ap, _∙_}
 use mathlib.Core.Bool.{Bool, true, false, cond, _&&_}
-use mathlib.Core.List.{List, []}
+use mathlib.Core.List.{List}
 use Prim.Native.Nat.{ℕ, zero, suc, _+_, _*_, _/_, _%_, _^_, _≤_, _<_}
 use native.Mathlib.Nat.{zero-div, mod-eq-of-lt, one-mul}
 use native.Mathlib.Omega.{arith}

@@ -8,7 +8,7 @@ use lib.ListN.{drop, getD}
 use Rattle.tables.specs.Find.{all, findFrom, caches, hasFingerprint, absent, isDirty, isUsed}
 use Rattle.tables.specs.declared.Found.{Found}
 use Rattle.tables.specs.declared.Found.the-variants.{At, Nothing}
-use Rattle.tables.specs.Sound.{isZero, tailOk, rowSlot, blockOk}
+use Rattle.tables.specs.Sound.{isZero, tailOk, rowSlot}
 use Rattle.tables.specs.Records.{readAddress, readBlock}
 
 -- the bucket of a fingerprint, by its first two bytes

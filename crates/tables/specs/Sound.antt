@@ -4,7 +4,7 @@ use mathlib.Core.Bool.{Bool, true, false, not, cond, _&&_}
 use mathlib.Core.List.{List, [], _∷_, map}
 use lib.Dec.{eqb, leb, ltb}
 use lib.ListN.{length, drop, getD}
-use Rattle.tables.specs.Rows.{rows, le4, tableBytes, zeros}
+use Rattle.tables.specs.Rows.{rows, le4, tableBytes}
 use Rattle.tables.specs.Records.{readAddress, readBlock}
 use Rattle.tables.specs.Find.{all, every, caches, findFrom, absent, isUsed}
 use Rattle.tables.specs.Unsound.{elem}

@@ -9,7 +9,7 @@ use lib.Dec.{eqb, leb}
 use lib.ListN.{replicate, length-replicate, getD-replicate, length, getD, set, drop, length-set, length-map, drop-of-length-le}
 use lib.Seq.{drop-cons, getD-set-same, getD-set-other}
 use borrow.Author.Tests.{eqb-true, eqb-false, ltb-true}
-use Rattle.tables.specs.Rows.{rows, rowAt, zeros}
+use Rattle.tables.specs.Rows.{rows, rowAt}
 use Rattle.tables.specs.Find.{all, every, same}
 use Rattle.tables.specs.Unsound.{elem}
 use Rattle.tables.specs.Sound.{distinct, tailOk, addressOk, mark, rowAddress, rowSlot}

@@ -1,7 +1,7 @@
 -- The four parts in turn: what each leaves is a paper box again, so that the next can be asked. Assumes nothing.
 use mathlib.Core.Path.{refl, sym, ap₂, _∙_}
 use mathlib.Core.List.{List, [], _∷_, _++_}
-use Prim.Native.Nat.{ℕ, _+_}
+use Prim.Native.Nat.{ℕ}
 use native.Mathlib.Omega.{arith}
 use Rattle.paper.specs.Cache.{step1, newest}
 use Rattle.paper.specs.Engine.{Fixed, engine}

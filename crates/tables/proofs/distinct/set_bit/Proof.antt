@@ -1,9 +1,11 @@
 -- The bit was set before, or there is room for it in its byte and the others stay: `bit-set`. Assumes nothing.
-use mathlib.Core.Path.{_≡_, sym}
+use mathlib.Core.Path.{sym, ap, _∙_, subst}
 use mathlib.Core.Bool.{false≢true}
-use Prim.Native.Nat.{ℕ, _<_}
+use mir.Syntax.{w8}
+use mir.Val.{Fits}
+use Prim.Native.Nat.{ℕ, _+_, _/_, _%_, _^_, _<_}
 use native.Mathlib.Omega.{arith}
-use lib.ListN.{getD, length-set}
+use lib.ListN.{getD, set, length-set}
 use borrow.Author.Needs.{needs}
 use borrow.Author.Tests.{eq-eqb, ne-eqb}
 use Rattle.tables.specs.Bits.{bitAt, bit-room, bit-shifted, bit-set}
@@ -21,15 +23,19 @@ returns c =
 add-seen : tie.Need-add-seen
 add-seen c =
     let a = c .before .before .args in
-    let h = bit-room (a .seen .now) (bytes (c .before)) (a .x) (c .if1 .left) in
-    rw (bit-shifted (a .seen .now) (bytes (c .before)) (a .x) (c .if1 .left)) (omega (arith, h))
+    let s = a .seen .now in
+    let h = bit-room s (bytes (c .before)) (a .x) (c .if1 .left) in
+    let f : Fits w8 (getD s (a .x / 8) 0 + 2 ^ (a .x % 8)) = omega (arith, h) in
+    subst (λ (p : ℕ). Fits w8 (getD s (a .x / 8) 0 + p)) (sym (bit-shifted s (bytes (c .before)) (a .x) (c .if1 .left))) f
 
 returns-2 : tie.Need-returns-2
 returns-2 c =
     let a = c .before .before .args in
-    let s = a .seen .now in (
-      sym (eq-eqb (bitAt s (a .x)) 0 (c .if1 .left)),
-      rw (bit-shifted s (bytes (c .before)) (a .x) (c .if1 .left)) ((λ e y. bit-set s (bytes (c .before)) (a .x) (c .if1 .left) y (omega arith)), length-set s _ _),
+    let s = a .seen .now in
+    let b = bytes (c .before) in
+    let z = c .if1 .left in (
+      sym (eq-eqb (bitAt s (a .x)) 0 z),
+      ((λ q y. ap (λ (p : ℕ). bitAt (set s (a .x / 8) (getD s (a .x / 8) 0 + p)) y) (bit-shifted s b (a .x) z) ∙ bit-set s b (a .x) z y (omega arith)), length-set s _ _),
     )
 
 pub set-bit-spec : {M : Type 1} → statement M
