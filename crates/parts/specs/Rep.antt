@@ -2,14 +2,23 @@
 use mathlib.Core.Path.{_≡_}
 use mathlib.Core.Bool.{Bool, false, _&&_, cond}
 use mathlib.Core.List.{List, [], _++_}
-use Prim.Native.Nat.{ℕ}
-use lib.ListN.{getD, set, take, drop}
+use Prim.Native.Nat.{ℕ, _≤_}
+use lib.ListN.{length, getD, set, take, drop}
+use Rattle.tables.specs.Rows.{tableBytes}
 use Rattle.parts.specs.declared.BoxRecord.{BoxRecord}
 use Rattle.paper.specs.Cache.{AddressRow, Box, newest, slotOf, blockOf, copied, copies, cleaned}
 use Rattle.paper.specs.Engine.{Fixed, fit}
 use Rattle.paper.specs.Lent.{join}
 use Rattle.paper.specs.Layout.{Addrs, Blocks, Parts, addressesOf}
 use Rattle.paper.specs.Engine.{engine}
+
+-- the tables have the lengths of the box, and the rows held are in it
+abbrev pub Sized : BoxRecord → (addrs blocks : List ℕ) → Type 0
+Sized b addrs blocks = (b .held ≤ b .rows) × (length addrs ≡ tableBytes (b .rows)) × (length blocks ≡ tableBytes (b .slots))
+
+-- a box record with another number of rows held
+abbrev pub withHeld : BoxRecord → ℕ → BoxRecord
+withHeld b n = record { size = b .size; blocks = b .blocks; rows = b .rows; slots = b .slots; held = n }
 
 pub record Rep (b : BoxRecord) (disk flash addrs blocks : List ℕ) (s : Box (Fixed 32) (Fixed (b .size))) : Type 0 where
   pub rows-are : Addrs (b .blocks) (b .rows) (b .held) addrs (s .rows)

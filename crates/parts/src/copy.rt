@@ -12,7 +12,7 @@ ghost use lib.ListN.{length, getD};
 ghost use Rattle.paper.specs.Cache.{BlockRow, Box, slotOf};
 ghost use Rattle.paper.specs.Engine.{Fixed, engine};
 ghost use Rattle.paper.specs.Layout.{Blocks};
-ghost use Rattle.parts.specs.Rep.{Rep, Lent, LentWith, noRow, copiedRow, copiedRows};
+ghost use Rattle.parts.specs.Rep.{Sized, Rep, Lent, LentWith, noRow, copiedRow, copiedRows};
 ghost use Rattle.parts.specs.Asked.{slotIn, Placed};
 ghost use Rattle.tables.specs.Rows.{tableBytes};
 
@@ -70,7 +70,7 @@ pub fn flush_row(
     addrs: &mut [u8],
     blocks: &[u8],
 ) -> usize
-    requires { ⌜ (i < b .held) × (0 < b .slots) × (b .held ≤ b .rows) × (length (now addrs) ≡ tableBytes (b .rows)) × (length (now blocks) ≡ tableBytes (b .slots)) ⌝ }
+    requires { ⌜ (i < b .held) × (0 < b .slots) × Sized b (now addrs) (now blocks) ⌝ }
     requires { ⌜ Lent b (now disk) (now flash) (now addrs) (now blocks) ⌝ }
     ensures { λ r. ⌜ r ≤ 1 ⌝ }
     ensures { λ r. ⌜ ((s : Box (Fixed 32) (Fixed (b .size))) → Rep b (now (disk .entry)) (now (flash .entry)) (now (addrs .entry)) (now (blocks .entry)) s
@@ -119,7 +119,7 @@ pub fn flush_rows(
     blocks: &[u8],
     places: &[u16],
 ) -> usize
-    requires { ⌜ (0 < b .slots) × (b .slots ≤ 256) × (b .held ≤ b .rows) × (length (now addrs) ≡ tableBytes (b .rows)) × (length (now blocks) ≡ tableBytes (b .slots)) × (b .held ≤ length (now places)) ⌝ }
+    requires { ⌜ (0 < b .slots) × (b .slots ≤ 256) × (b .held ≤ length (now places)) × Sized b (now addrs) (now blocks) ⌝ }
     requires { ⌜ Lent b (now disk) (now flash) (now addrs) (now blocks) ⌝ }
     requires { ⌜ Placed (b .held) (b .slots) (now addrs) (now blocks) (now places) ⌝ }
     ensures { λ r. ⌜ r ≤ b .held ⌝ }

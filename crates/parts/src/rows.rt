@@ -16,7 +16,7 @@ ghost use Rattle.tables.specs.Index.{unique, code};
 ghost use Rattle.paper.specs.Cache.{AddressRow, BlockRow, known, someUncached};
 ghost use Rattle.paper.specs.Engine.{Fixed, engine};
 ghost use Rattle.paper.specs.Lent.{bit};
-ghost use Rattle.parts.specs.Rep.{noRow};
+ghost use Rattle.parts.specs.Rep.{Sized, noRow};
 ghost use Rattle.paper.specs.Index.{indexWhere};
 ghost use Rattle.paper.specs.Layout.{Addrs, Blocks};
 ghost use Rattle.parts.specs.Asked.{victimPlace, Placed, full};
@@ -129,7 +129,7 @@ pub fn dirty_at(t: &[u8], i: usize) -> u8
 
 // The place of the block row of row `i`'s fingerprint, the count of block rows where there is no row `i` or it is not cached.
 pub fn place_of_row(b: BoxRecord, i: usize, addrs: &[u8], blocks: &[u8]) -> usize
-    requires { ⌜ (b .held ≤ b .rows) × (length (now addrs) ≡ tableBytes (b .rows)) × (length (now blocks) ≡ tableBytes (b .slots)) ⌝ }
+    requires { ⌜ Sized b (now addrs) (now blocks) ⌝ }
     ensures { λ r. ⌜ ((P m : ℕ) (rows : List (AddressRow (Fixed 32))) (free : List ℕ) (used : List (BlockRow (Fixed 32))) → Addrs P m (b .held) (now (addrs .entry)) rows → Blocks (b .slots) (now (blocks .entry)) free used
         → r ≡ cond (ltb i (b .held)) (length free + indexWhere (λ u. engine 0 .same (getD rows i noRow .fingerprint) (u .fingerprint)) used) (b .slots)) ⌝ }
 {

@@ -10,6 +10,8 @@ use Rattle.policy.specs.declared.Word.the-variants.{Hit, Miss, Same, New
 use Rattle.policy.specs.declared.Answer as CodeAnswer
 use Rattle.policy.specs.declared.Answer.the-variants.{Refused, Answered}
 use Rattle.policy.specs.declared.calls.Outcome.{Outcome}
+use Rattle.serve.specs.declared.Write.{Write}
+use Rattle.serve.specs.declared.Write.the-variants.{Through, Back, Invalidate}
 use Rattle.paper.specs.Cache.{Word, hit, miss, sameBlock, newBlock, fromCache, fromDisk, done}
 use Rattle.paper.specs.Lent.{Numbers, Lent, Ask, Answer, refused, answered, After, call}
 
@@ -42,3 +44,9 @@ told r disk flash addresses blocks block =
 -- the paper's call on what is lent
 abbrev pub called : BoxRecord → Lent → Ask → Told
 called b t q = record { numbers = numbersOf b; after = call (numbersOf b) t q }
+
+-- a write of each kind, as it is asked
+abbrev pub askOf : Write → ℕ → List ℕ → Ask
+askOf Through a l = Ask.through a l
+askOf Back a l = Ask.back a l
+askOf Invalidate a l = Ask.invalidate a l

@@ -1,11 +1,13 @@
 // The service that C calls: numbers and byte slices. Each call reads the box record and the counters in the state's bytes,
 // does the cache's call, and writes what it tells into the state and the answer.
+use serve::Write;
 use tables::SourceAddress;
 ghost use mathlib.Core.Path.{_≡_};
 ghost use mathlib.Core.Option.{Option};
 ghost use mathlib.Core.Bool.{true};
 ghost use Rattle.paper.specs.Lent.{Ask, call};
 ghost use Rattle.refusals.specs.Given.{numbersOf};
+ghost use Rattle.policy.specs.Contract.{askOf};
 ghost use Rattle.fields.specs.Fields.{recordIn, fitting};
 ghost use Rattle.service.specs.Left.{lentIn, leaves, leavesOpen, leavesLook, Shows};
 
@@ -42,6 +44,40 @@ pub extern "C" fn mindavehu_read(
     fields::write_outcome(state, answer, o)
 }
 
+// Writes `block`, by the kind of the write.
+fn write(
+    kind: Write,
+    state: &mut [u8],
+    address: u32,
+    disk: &mut [u8],
+    flash: &mut [u8],
+    addresses: &mut [u8],
+    blocks: &mut [u8],
+    block: &[u8],
+    answer: &mut [u8],
+) -> u32
+    ensures { λ r. ⌜ record { number = r; state = now (state .exit); disk = now (disk .exit); flash = now (flash .exit); addresses = now (addresses .exit); blocks = now (blocks .exit); block = Option.some (now (block .entry)); answer = now (answer .exit) }
+        ≡ leaves (askOf kind address (now (block .entry))) (now (state .entry)) (now (disk .entry)) (now (flash .entry)) (now (addresses .entry)) (now (blocks .entry)) (now (answer .entry)) ⌝ }
+{
+    if !fields::fit(state, answer) {
+        return 2;
+    }
+    let b = fields::record_in(state);
+    let c = fields::counters_in(state);
+    let o = policy::calls::write(
+        kind,
+        b,
+        SourceAddress(address),
+        disk,
+        flash,
+        addresses,
+        blocks,
+        c,
+        block,
+    );
+    fields::write_outcome(state, answer, o)
+}
+
 // Writes `block` to the disk and into the cache.
 #[no_mangle]
 pub extern "C" fn mindavehu_write_through(
@@ -57,22 +93,17 @@ pub extern "C" fn mindavehu_write_through(
     ensures { λ r. ⌜ record { number = r; state = now (state .exit); disk = now (disk .exit); flash = now (flash .exit); addresses = now (addresses .exit); blocks = now (blocks .exit); block = Option.some (now (block .entry)); answer = now (answer .exit) }
         ≡ leaves (Ask.through address (now (block .entry))) (now (state .entry)) (now (disk .entry)) (now (flash .entry)) (now (addresses .entry)) (now (blocks .entry)) (now (answer .entry)) ⌝ }
 {
-    if !fields::fit(state, answer) {
-        return 2;
-    }
-    let b = fields::record_in(state);
-    let c = fields::counters_in(state);
-    let o = policy::calls::write_through(
-        b,
-        SourceAddress(address),
+    write(
+        Write::Through,
+        state,
+        address,
         disk,
         flash,
         addresses,
         blocks,
-        c,
         block,
-    );
-    fields::write_outcome(state, answer, o)
+        answer,
+    )
 }
 
 // Writes `block` into the cache; the disk gets it later.
@@ -90,22 +121,17 @@ pub extern "C" fn mindavehu_write_back(
     ensures { λ r. ⌜ record { number = r; state = now (state .exit); disk = now (disk .exit); flash = now (flash .exit); addresses = now (addresses .exit); blocks = now (blocks .exit); block = Option.some (now (block .entry)); answer = now (answer .exit) }
         ≡ leaves (Ask.back address (now (block .entry))) (now (state .entry)) (now (disk .entry)) (now (flash .entry)) (now (addresses .entry)) (now (blocks .entry)) (now (answer .entry)) ⌝ }
 {
-    if !fields::fit(state, answer) {
-        return 2;
-    }
-    let b = fields::record_in(state);
-    let c = fields::counters_in(state);
-    let o = policy::calls::write_back(
-        b,
-        SourceAddress(address),
+    write(
+        Write::Back,
+        state,
+        address,
         disk,
         flash,
         addresses,
         blocks,
-        c,
         block,
-    );
-    fields::write_outcome(state, answer, o)
+        answer,
+    )
 }
 
 // Writes `block` to the disk, and takes the address out of the cache.
@@ -114,31 +140,26 @@ pub extern "C" fn mindavehu_write_invalidate(
     state: &mut [u8],
     address: u32,
     disk: &mut [u8],
-    flash: &[u8],
+    flash: &mut [u8],
     addresses: &mut [u8],
     blocks: &mut [u8],
     block: &[u8],
     answer: &mut [u8],
 ) -> u32
-    ensures { λ r. ⌜ record { number = r; state = now (state .exit); disk = now (disk .exit); flash = now (flash .entry); addresses = now (addresses .exit); blocks = now (blocks .exit); block = Option.some (now (block .entry)); answer = now (answer .exit) }
+    ensures { λ r. ⌜ record { number = r; state = now (state .exit); disk = now (disk .exit); flash = now (flash .exit); addresses = now (addresses .exit); blocks = now (blocks .exit); block = Option.some (now (block .entry)); answer = now (answer .exit) }
         ≡ leaves (Ask.invalidate address (now (block .entry))) (now (state .entry)) (now (disk .entry)) (now (flash .entry)) (now (addresses .entry)) (now (blocks .entry)) (now (answer .entry)) ⌝ }
 {
-    if !fields::fit(state, answer) {
-        return 2;
-    }
-    let b = fields::record_in(state);
-    let c = fields::counters_in(state);
-    let o = policy::calls::write_invalidate(
-        b,
-        SourceAddress(address),
+    write(
+        Write::Invalidate,
+        state,
+        address,
         disk,
         flash,
         addresses,
         blocks,
-        c,
         block,
-    );
-    fields::write_outcome(state, answer, o)
+        answer,
+    )
 }
 
 // Copies each block that is newer in the flash to the disk.

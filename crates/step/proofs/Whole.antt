@@ -21,7 +21,7 @@ use Rattle.paper.specs.Faithful.{slots-below-0}
 use Rattle.paper.specs.Engine.{Fixed, engine}
 use Rattle.paper.specs.Lent.{bit}
 use Rattle.paper.specs.Layout.{Addrs, Blocks, blocksOf}
-use Rattle.parts.specs.Rep.{Rep}
+use Rattle.parts.specs.Rep.{Rep, withHeld}
 use Rattle.parts.specs.Asked.{Placed}
 use Rattle.step.specs.Steps.{placeOf, Out1, out1, blockBytes, Out4, out4, After, after, asks, Sure}
 use Rattle.parts.specs.TableLaws.{addrBytes}
@@ -118,7 +118,7 @@ module _ (b : BoxRecord) (disk flash addrs blocks : List ℕ) (s : Box (Fixed 32
     abbrev pub s₃ : Box (Fixed 32) (Fixed (b .size))
     s₃ = record { rows = step1 (engine (b .size)) (b .rows) s a .rows ++ (newest a f w ∷ []); free = t₃ .free; used = t₃ .used; flash = s .flash; disk = step1 (engine (b .size)) (b .rows) s a .disk }
 
-    pub rep₃ : Rep (record { size = b .size; blocks = b .blocks; rows = b .rows; slots = b .slots; held = n + 1 }) disk₁ flash addrs₂ blocks₃ s₃
+    pub rep₃ : Rep (withHeld b (n + 1)) disk₁ flash addrs₂ blocks₃ s₃
     unfolding out1
     rep₃ =
         record {
@@ -130,7 +130,7 @@ module _ (b : BoxRecord) (disk flash addrs blocks : List ℕ) (s : Box (Fixed 32
 
     pub step-is : (x : Fixed (b .size)) (flashed copies : ℕ) (disk₄ flash₄ addrs₄ blocks₄ : List ℕ)
         → _≡_ {A = Out4} (record { flashed = flashed; primary = copies; disk = disk₄; flash = flash₄; addrs = addrs₄; blocks = blocks₄ })
-        (out4 (record { size = b .size; blocks = b .blocks; rows = b .rows; slots = b .slots; held = n + 1 }) (step4 (engine (b .size)) (s₃ .rows) (record { free = s₃ .free; used = s₃ .used }) (s₃ .flash) (s₃ .disk) f x 0))
+        (out4 (withHeld b (n + 1)) (step4 (engine (b .size)) (s₃ .rows) (record { free = s₃ .free; used = s₃ .used }) (s₃ .flash) (s₃ .disk) f x 0))
         → _≡_ {A = After} (record { held = n + 1; left = (record { flashed = flashed; primary = primary + copies; disk = disk₄; flash = flash₄; addrs = addrs₄; blocks = blocks₄ }) }) (after b (step (engine (b .size)) (b .rows) s (asks a f x w)))
     unfolding out4 out1 after step more
     step-is x flashed copies disk₄ flash₄ addrs₄ blocks₄ e =

@@ -25,7 +25,7 @@ ghost use Rattle.paper.specs.Cache.{AddressRow, BlockRow, Box, blockRow, isLost
 ghost use Rattle.paper.specs.Engine.{Fixed, engine};
 ghost use Rattle.paper.specs.Lent.{bit, join};
 ghost use Rattle.paper.specs.Layout.{Addrs, Blocks, Parts, addressesOf, blocksOf};
-ghost use Rattle.parts.specs.Rep.{Rep, Lent, copiedRows, noRow};
+ghost use Rattle.parts.specs.Rep.{Sized, Rep, Lent, copiedRows, noRow};
 ghost use Rattle.parts.specs.Asked.{Placed, full};
 ghost use Rattle.step.specs.Steps.{placeOf, out1, blockBytes, Picked, pickedTaken, out4, after, asks, Sure};
 ghost use Rattle.parts.specs.TableLaws.{addrBytes};
@@ -39,7 +39,7 @@ pub struct Out {
 
 // Takes row `i` out. The place of its fingerprint's block row.
 pub fn take_row(b: BoxRecord, i: usize, addrs: &mut [u8], blocks: &[u8]) -> usize
-    requires { ⌜ (i < b .held) × (b .held ≤ b .rows) × (length (now addrs) ≡ tableBytes (b .rows)) × (length (now blocks) ≡ tableBytes (b .slots)) ⌝ }
+    requires { ⌜ (i < b .held) × Sized b (now addrs) (now blocks) ⌝ }
     ensures { λ r. ⌜ ((rows : List (AddressRow (Fixed 32))) (free : List ℕ) (used : List (BlockRow (Fixed 32))) → Addrs (b .blocks) (b .rows) (b .held) (now (addrs .entry)) rows → Blocks (b .slots) (now (blocks .entry)) free used
         → (r ≡ placeOf (Option.some (getD rows i noRow .fingerprint)) free used) × (now (addrs .exit) ≡ addressesOf (b .rows) (removeAt rows i))) ⌝ }
 {
@@ -58,7 +58,7 @@ pub fn step1(
     blocks: &[u8],
     places: &mut [u16],
 ) -> Out
-    requires { ⌜ (0 < b .rows) × (0 < b .slots) × (b .held ≤ b .rows) × (length (now addrs) ≡ tableBytes (b .rows)) × (length (now blocks) ≡ tableBytes (b .slots)) × (b .held ≤ length (now places)) ⌝ }
+    requires { ⌜ (0 < b .rows) × (0 < b .slots) × (b .held ≤ length (now places)) × Sized b (now addrs) (now blocks) ⌝ }
     requires { ⌜ Lent b (now disk) (now flash) (now addrs) (now blocks) ⌝ }
     ensures { λ r. ⌜ (r .held < b .rows) × (r .primary ≤ 1) ⌝ }
     ensures { λ r. ⌜ ((s : Box (Fixed 32) (Fixed (b .size))) → Rep b (now (disk .entry)) (now (flash .entry)) (now (addrs .entry)) (now (blocks .entry)) s → Distinct eqb (λ x. x .address) (s .rows)
@@ -115,7 +115,7 @@ pub fn hold(
 
 // Step 3, where the fingerprint taken out has its block row at `place`. Where no row is free then, none was moved.
 pub fn step3(b: BoxRecord, place: usize, addrs: &[u8], blocks: &mut [u8], places: &[u16])
-    requires { ⌜ (0 < b .held) × (b .held ≤ b .rows) × (length (now addrs) ≡ tableBytes (b .rows)) × (length (now blocks) ≡ tableBytes (b .slots)) × (b .slots ≤ 256) × (b .held ≤ length (now places)) ⌝ }
+    requires { ⌜ (0 < b .held) × (b .slots ≤ 256) × (b .held ≤ length (now places)) × Sized b (now addrs) (now blocks) ⌝ }
     requires { ⌜ Placed (b .held) (b .slots) (now addrs) (now blocks) (now places) ⌝ }
     ensures { λ _. ⌜ ((B : ℕ) (l : List (AddressRow (Fixed 32))) (free : List ℕ) (used : List (BlockRow (Fixed 32))) (gone : Option (Fixed 32)) → Addrs (b .blocks) (b .rows) (b .held) (now (addrs .entry)) l → Blocks (b .slots) (now (blocks .entry)) free used
         → Distinct (engine 0 .same) (λ u. u .fingerprint) used → place ≡ placeOf gone free used → now (blocks .exit) ≡ blockBytes (step3 (engine B) gone (take (b .held - 1) l) l (record { free = free; used = used }))) ⌝ }
@@ -143,7 +143,7 @@ pub fn lose(
     addrs: &mut [u8],
     blocks: &[u8],
 ) -> usize
-    requires { ⌜ (t < b .slots) × (slot .0 < b .slots) × (b .held ≤ b .rows) × (length (now addrs) ≡ tableBytes (b .rows)) × (length (now blocks) ≡ tableBytes (b .slots)) ⌝ }
+    requires { ⌜ (t < b .slots) × (slot .0 < b .slots) × Sized b (now addrs) (now blocks) ⌝ }
     requires { ⌜ ((s : Box (Fixed 32) (Fixed (b .size))) × Rep b (now disk) (now flash) (now addrs) (now blocks) s × Distinct (engine 0 .same) (λ u. u .fingerprint) (s .used) × Picked (s .free) (s .used) t × (slot .0 ≡ pickedTaken (s .free) (s .used) t .slot)) ⌝ }
     ensures { λ r. ⌜ r ≤ b .held ⌝ }
     ensures { λ r. ⌜ ((s : Box (Fixed 32) (Fixed (b .size))) → Rep b (now (disk .entry)) (now (flash .entry)) (now (addrs .entry)) (now (blocks .entry)) s → Distinct (engine 0 .same) (λ u. u .fingerprint) (s .used) → Picked (s .free) (s .used) t → slot .0 ≡ pickedTaken (s .free) (s .used) t .slot
@@ -186,7 +186,7 @@ pub fn store(
     block: &[u8],
     places: &[u16],
 ) -> usize
-    requires { ⌜ (0 < b .slots) × (b .held ≤ b .rows) × (length (now addrs) ≡ tableBytes (b .rows)) × (length (now blocks) ≡ tableBytes (b .slots)) × (length (now g) ≡ 32) × (length (now block) ≡ b .size) × (b .slots ≤ 256) × (b .held ≤ length (now places)) ⌝ }
+    requires { ⌜ (0 < b .slots) × (length (now g) ≡ 32) × (length (now block) ≡ b .size) × (b .slots ≤ 256) × (b .held ≤ length (now places)) × Sized b (now addrs) (now blocks) ⌝ }
     requires { ⌜ ((s : Box (Fixed 32) (Fixed (b .size))) × Rep b (now disk) (now flash) (now addrs) (now blocks) s × Distinct (engine 0 .same) (λ u. u .fingerprint) (s .used)) ⌝ }
     requires { ⌜ (full (now blocks) ≡ true → Placed (b .held) (b .slots) (now addrs) (now blocks) (now places)) ⌝ }
     ensures { λ r. ⌜ r ≤ b .held ⌝ }
@@ -218,7 +218,7 @@ pub fn step4(
     block: &[u8],
     places: &[u16],
 ) -> Wrote
-    requires { ⌜ (0 < b .slots) × (b .held ≤ b .rows) × (length (now addrs) ≡ tableBytes (b .rows)) × (length (now blocks) ≡ tableBytes (b .slots)) × (length (now g) ≡ 32) × (length (now block) ≡ b .size) × (b .slots ≤ 256) × (b .held ≤ length (now places)) ⌝ }
+    requires { ⌜ (0 < b .slots) × (length (now g) ≡ 32) × (length (now block) ≡ b .size) × (b .slots ≤ 256) × (b .held ≤ length (now places)) × Sized b (now addrs) (now blocks) ⌝ }
     requires { ⌜ ((s : Box (Fixed 32) (Fixed (b .size))) × Rep b (now disk) (now flash) (now addrs) (now blocks) s × Distinct (engine 0 .same) (λ u. u .fingerprint) (s .used)) ⌝ }
     requires { ⌜ (full (now blocks) ≡ true → Placed (b .held) (b .slots) (now addrs) (now blocks) (now places)) ⌝ }
     ensures { λ r. ⌜ (r .flashed ≤ 1) × (r .primary ≤ b .held) ⌝ }
@@ -261,7 +261,7 @@ pub fn step(
     block: &[u8],
     places: &mut [u16],
 ) -> Done
-    requires { ⌜ (0 < b .rows) × (0 < b .slots) × (b .held ≤ b .rows) × (length (now addrs) ≡ tableBytes (b .rows)) × (length (now blocks) ≡ tableBytes (b .slots)) × (length (now g) ≡ 32) × (length (now block) ≡ b .size) × (a .0 < b .blocks) × (b .rows ≤ 1024) × (length (now places) ≡ 1024) ⌝ }
+    requires { ⌜ (0 < b .rows) × (0 < b .slots) × (length (now g) ≡ 32) × (length (now block) ≡ b .size) × (a .0 < b .blocks) × (b .rows ≤ 1024) × (length (now places) ≡ 1024) × Sized b (now addrs) (now blocks) ⌝ }
     requires { ⌜ ((s : Box (Fixed 32) (Fixed (b .size))) × (w : Bool) × Rep b (now disk) (now flash) (now addrs) (now blocks) s × Sure b s × (dirty ≡ bit w)) ⌝ }
     requires { ⌜ Placed (b .held) (b .slots) (now addrs) (now blocks) (now places) ⌝ }
     ensures { λ r. ⌜ (r .flashed ≤ 1) × (r .primary ≤ 1 + b .rows) × (length (now (places .exit)) ≡ 1024) ⌝ }
@@ -272,13 +272,8 @@ pub fn step(
     let o = step1(b, a, disk, flash, addrs, blocks, places);
     hold(o.held, a, dirty, addrs, blocks, b.slots, g, places);
     let n = o.held + 1;
-    let c = BoxRecord {
-        size: b.size,
-        blocks: b.blocks,
-        rows: b.rows,
-        slots: b.slots,
-        held: n,
-    };
+    let mut c = b;
+    c.held = n;
     step3(c, o.place, addrs, blocks, places);
     let w = step4(c, disk, flash, addrs, blocks, g, block, places);
     Done {
@@ -290,7 +285,7 @@ pub fn step(
 
 // Frees the block row at `place` where no held row has its fingerprint.
 pub fn free_unknown(b: BoxRecord, place: usize, addrs: &[u8], blocks: &mut [u8])
-    requires { ⌜ (b .held ≤ b .rows) × (length (now addrs) ≡ tableBytes (b .rows)) × (length (now blocks) ≡ tableBytes (b .slots)) ⌝ }
+    requires { ⌜ Sized b (now addrs) (now blocks) ⌝ }
     ensures { λ _. ⌜ ((B : ℕ) (l : List (AddressRow (Fixed 32))) (free : List ℕ) (used : List (BlockRow (Fixed 32))) (r : AddressRow (Fixed 32)) → Addrs (b .blocks) (b .rows) (b .held) (now (addrs .entry)) l → Blocks (b .slots) (now (blocks .entry)) free used
         → Distinct (engine 0 .same) (λ u. u .fingerprint) used → place ≡ placeOf (Option.some (r .fingerprint)) free used → now (blocks .exit) ≡ blockBytes (dropped (engine B) l (record { free = free; used = used }) (Option.some r))) ⌝ }
 {
@@ -306,7 +301,7 @@ pub fn free_unknown(b: BoxRecord, place: usize, addrs: &[u8], blocks: &mut [u8])
 
 // Takes row `i` out, if there is one, and frees its fingerprint's block row where no other row has it. The rows then held.
 pub fn drop_row(b: BoxRecord, i: usize, addrs: &mut [u8], blocks: &mut [u8]) -> usize
-    requires { ⌜ (b .held ≤ b .rows) × (length (now addrs) ≡ tableBytes (b .rows)) × (length (now blocks) ≡ tableBytes (b .slots)) ⌝ }
+    requires { ⌜ Sized b (now addrs) (now blocks) ⌝ }
     ensures { λ r. ⌜ ((B a : ℕ) (l : List (AddressRow (Fixed 32))) (free : List ℕ) (used : List (BlockRow (Fixed 32))) → Addrs (b .blocks) (b .rows) (b .held) (now (addrs .entry)) l → Blocks (b .slots) (now (blocks .entry)) free used
         → Distinct eqb (λ x. x .address) l → Distinct (engine 0 .same) (λ u. u .fingerprint) used → i ≡ indexWhere (λ x. eqb a (x .address)) l
         → (r ≡ length (withoutAddress a l)) × (now (addrs .exit) ≡ addressesOf (b .rows) (withoutAddress a l)) × (now (blocks .exit) ≡ blockBytes (dropped (engine B) (withoutAddress a l) (record { free = free; used = used }) (rowOf a l)))) ⌝ }
@@ -316,13 +311,8 @@ pub fn drop_row(b: BoxRecord, i: usize, addrs: &mut [u8], blocks: &mut [u8]) -> 
     }
     let place = take_row(b, i, addrs, blocks);
     let n = b.held - 1;
-    let c = BoxRecord {
-        size: b.size,
-        blocks: b.blocks,
-        rows: b.rows,
-        slots: b.slots,
-        held: n,
-    };
+    let mut c = b;
+    c.held = n;
     free_unknown(c, place, addrs, blocks);
     n
 }

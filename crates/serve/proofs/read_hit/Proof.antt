@@ -25,12 +25,12 @@ in-slot-requires c κs =
     let p = start .pre .0 in
     let q = start .pre .1 .0 in
     let f = getD (q .0 .rows) (a .i) noRow .fingerprint in
-    rw (parts-length (a .b .size) (a .b .slots) (a .flash .now) (q .0 .flash) (q .1 .flash-is)) (block-ends (c .before .slot-at .result .0) (a .b .slots) (a .b .size) (rw (slot-some (a .b .size) (a .b .slots) (a .blocks .now) (q .0 .free) (q .0 .used) f (q .1 .blocks-are) (a .j) (q .3 .place) (q .3 .is-cached) (c .before .slot-at .result .0) (c .before .slot-at .ensures)) (slotOf-below (a .b .size) (a .b .slots) f (q .0 .used) (p .1) (q .1 .blocks-are .used-below))))
+    rw (parts-length (a .b .size) (a .b .slots) (a .flash .now) (q .0 .flash) (q .1 .flash-is)) (block-ends (c .before .slot-at .result .0) (a .b .slots) (a .b .size) (rw (slot-some (a .b .size) (a .b .slots) (a .blocks .now) (q .0 .free) (q .0 .used) f (q .1 .blocks-are) (a .j) (q .3 .place) (q .3 .is-cached) (c .before .slot-at .result .0) (c .before .slot-at .ensures)) (slotOf-below (a .b .size) (a .b .slots) f (q .0 .used) (p .3 .1) (q .1 .blocks-are .used-below))))
 
 copy-all-requires : tie.Need-copy-all-requires
 copy-all-requires c κs =
     let start = c .before .before .before .before .before .before .before .before .before .before .before .before .before .before .before in
-    c .before .in-slot .ensures .1 ∙ sym (start .pre .0 .5)
+    c .before .in-slot .ensures .1 ∙ sym (start .pre .0 .3 .2)
 
 step-requires : tie.Need-step-requires
 step-requires c κs =
@@ -41,8 +41,8 @@ step-requires c κs =
     let a = start .args in
     let q = start .pre .1 .0 in
     let p = start .pre .0 in
-    let lb : length (at-copy-all .copy-all .last .1 .0) ≡ a .b .size = at-copy-all .copy-all .kept .1 .0 ∙ p .5 in
-    ((p .0, p .1, p .2, p .3, p .4, at-fp-at .fp-at .ensures .0, lb, p .6, p .7, p .10), ((q .0, getD (q .0 .rows) (a .i) noRow .dirty, q .1, q .2, (at-dirty-at .dirty-at .ensures ∙ ap bit (dirty-is (a .b .blocks) (a .b .rows) (a .b .held) (a .addrs .now) (q .0 .rows) (q .1 .rows-are) (a .i) (start .pre .0 .8) noRow))), start .pre .1 .1))
+    let lb : length (at-copy-all .copy-all .last .1 .0) ≡ a .b .size = at-copy-all .copy-all .kept .1 .0 ∙ p .3 .2 in
+    ((p .3 .0, p .3 .1, at-fp-at .fp-at .ensures .0, lb, p .3 .3, p .3 .4, p .2, p .3 .5), ((q .0, getD (q .0 .rows) (a .i) noRow .dirty, q .1, q .2, (at-dirty-at .dirty-at .ensures ∙ ap bit (dirty-is (a .b .blocks) (a .b .rows) (a .b .held) (a .addrs .now) (q .0 .rows) (q .1 .rows-are) (a .i) (start .pre .0 .0) noRow))), start .pre .1 .1))
 
 returns : tie.Need-returns
 returns c =
@@ -61,11 +61,11 @@ returns c =
           let f = getD (s .rows) (a .i) noRow .fingerprint in
           let x = blockOf (engine (a .b .size)) f (s .used) (s .flash) in
           let k = (slot-some (a .b .size) (a .b .slots) (a .blocks .now) (s .free) (s .used) (getD (s .rows) (a .i) noRow .fingerprint) (h .blocks-are) (a .j) (q .place) (q .is-cached) (at-slot-at .slot-at .result .0) (at-slot-at .slot-at .ensures)) in
-          let kb : at-slot-at .slot-at .result .0 < a .b .slots = rw k (slotOf-below (a .b .size) (a .b .slots) f (s .used) (p .1) (h .blocks-are .used-below)) in
+          let kb : at-slot-at .slot-at .result .0 < a .b .slots = rw k (slotOf-below (a .b .size) (a .b .slots) f (s .used) (p .3 .1) (h .blocks-are .used-below)) in
           let ex = sym (at-copy-all .copy-all .ensures ∙ at-block .in-slot .ensures .0 ∙ part-block (a .b .size) (a .b .slots) (a .flash .now) (s .flash) (h .flash-is) (at-slot-at .slot-at .result .0) (engine (a .b .size) .blank) kb ∙ ap (λ (y : ℕ). getD (s .flash) y (engine (a .b .size) .blank) .0) k) in
-          let ef = sym (fp-is (a .b .blocks) (a .b .rows) (a .b .held) (a .addrs .now) (s .rows) (h .rows-are) (a .i) (p .8) noRow) ∙ sym (at-fp-at .fp-at .ensures .1) in
+          let ef = sym (fp-is (a .b .blocks) (a .b .rows) (a .b .held) (a .addrs .now) (s .rows) (h .rows-are) (a .i) (p .0) noRow) ∙ sym (at-fp-at .fp-at .ensures .1) in
           answer-is (a .b) lent hit (some x) 0 (step (engine (a .b .size)) (a .b .rows) s (asks (a .a .0) f x (getD (s .rows) (a .i) noRow .dirty))) true (w .result .held) (w .result .flashed) (w .result .primary) (w .result .primary) _ _ _ _ _
-          (w .ensures .1 s f x (getD (s .rows) (a .i) noRow .dirty) h sd ef ex (at-dirty-at .dirty-at .ensures ∙ ap bit (dirty-is (a .b .blocks) (a .b .rows) (a .b .held) (a .addrs .now) (s .rows) (h .rows-are) (a .i) (start .pre .0 .8) noRow))) refl (sym (zero-add (w .result .primary))) (sym ex)
+          (w .ensures .1 s f x (getD (s .rows) (a .i) noRow .dirty) h sd ef ex (at-dirty-at .dirty-at .ensures ∙ ap bit (dirty-is (a .b .blocks) (a .b .rows) (a .b .held) (a .addrs .now) (s .rows) (h .rows-are) (a .i) (start .pre .0 .0) noRow))) refl (sym (zero-add (w .result .primary))) (sym ex)
           ∙ hit-is (a .b) (a .disk .now) (a .flash .now) (a .addrs .now) (a .blocks .now) s h (a .a .0) lent (a .i) (a .j) q,
     )
 

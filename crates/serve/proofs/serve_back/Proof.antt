@@ -16,8 +16,10 @@ use Rattle.serve.proofs.serve_back.Tie as tie
 step-requires : tie.Need-step-requires
 step-requires c κs =
     let start = c .before .before .before .before .before .before .before .before .before .before .before .before .before .before .before .before in
+    let p = start .pre .0 in
     let q = start .pre .1 .0 in
-    (search needs, ((q .0, true, q .1, q .2, refl), start .pre .1 .1))
+    let g = c .before .before .before .before .before .before .before .before .before .sha256 .ok in
+    ((p .2 .0, p .2 .1, search needs, p .2 .2, p .2 .3, p .2 .4, p .0, p .2 .5), ((q .0, true, q .1, q .2, refl), start .pre .1 .1))
 
 returns : tie.Need-returns
 returns c =

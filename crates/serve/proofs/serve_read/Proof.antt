@@ -14,7 +14,7 @@ read-hit-requires c κs =
     let p = start .pre .0 in
     let q = start .pre .1 .0 in
     let t = (found-hit (a .b) (a .disk .now) (a .flash .now) (a .addrs .now) (a .blocks .now) (q .0) (q .1) (a .a .0) (at-row-of .row-of .result) (at-place-of-row .place-of-row .result) (at-row-of .row-of .ensures (a .b .blocks) (a .b .rows) (q .0 .rows) (q .1 .rows-are)) (at-place-of-row .place-of-row .ensures (a .b .blocks) (a .b .rows) (q .0 .rows) (q .0 .free) (q .0 .used) (q .1 .rows-are) (q .1 .blocks-are)) (at-if1 .if1 .taken)) in
-    ((p .0, p .1, p .2, p .3, p .4, p .5, p .6, p .7, t .is-held, t .is-cached, p .8), ((q .0, q .1, q .2, t), start .pre .1 .1))
+    ((t .is-held, t .is-cached, p .0, p .1), ((q .0, q .1, q .2, t), start .pre .1 .1))
 
 returns : tie.Need-returns
 returns c =

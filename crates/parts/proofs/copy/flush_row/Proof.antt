@@ -26,7 +26,7 @@ copy-row-requires c κs =
     let h = start .pre .1 .1 in
     let f = getD (s .rows) (a .i) noRow .fingerprint in
     let p = sym (g .address-fingerprint .ensures .0 ∙ fp-is (a .b .blocks) (a .b .rows) (a .b .held) (a .addrs .now) (s .rows) (h .rows-are) (a .i) (start .pre .0 .0) noRow) in
-    ((start .pre .0 .0, rw (c .before .before .slot-for .ensures 0 (s .free) (s .used) f (h .blocks-are) p) (slotOf-below 0 (a .b .slots) f (s .used) (start .pre .0 .1) (h .blocks-are .used-below)), start .pre .0 .2, start .pre .0 .3), start .pre .1)
+    ((start .pre .0 .0, rw (c .before .before .slot-for .ensures 0 (s .free) (s .used) f (h .blocks-are) p) (slotOf-below 0 (a .b .slots) f (s .used) (start .pre .0 .1) (h .blocks-are .used-below)), start .pre .0 .2 .0, start .pre .0 .2 .1), start .pre .1)
 
 returns-2 : tie.Need-returns-2
 returns-2 c =

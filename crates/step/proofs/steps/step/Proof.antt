@@ -18,7 +18,7 @@ step1-requires c κs =
     let start = c .before .before .before .before .before .before .before .before .before .before .before .before in
     let p = start .pre .0 in
     let q = start .pre .1 .0 in
-    ((p .0, p .1, p .2, p .3, p .4, omega (arith, p .2, p .8, p .9)), (q .0, q .2))
+    ((p .0, p .1, omega (arith, p .7 .0, p .5, p .6), p .7), (q .0, q .2))
 
 hold-requires : tie.Need-hold-requires
 hold-requires c κs =
@@ -27,13 +27,13 @@ hold-requires c κs =
     let p = start .pre .0 in
     let st = at-step1 .step1 in
     let few = st .ensures .0 .0 in
-    (omega (arith, few, st .kept .1 .1 .1 .1 .0, p .3), p .5, omega (arith, p .4), start .pre .1 .0 .2 .blocks-are .small, omega (arith, few, st .kept .1 .1 .1 .1 .1 .1 .0, p .8, p .9))
+    (omega (arith, few, st .kept .1 .1 .1 .1 .0, p .7 .1), p .2, omega (arith, p .7 .2), start .pre .1 .0 .2 .blocks-are .small, omega (arith, few, st .kept .1 .1 .1 .1 .1 .1 .0, p .5, p .6))
 
 add-n : tie.Need-add-n
 add-n c =
     let at-step1 = c .before .before .before .before .before .before .before .before .before .before .before .before .before .before .before in
     let start = at-step1 .before .before .before .before .before .before .before .before .before .before .before .before .before in
-    omega (arith, at-step1 .step1 .ensures .0 .0, start .pre .0 .8)
+    omega (arith, at-step1 .step1 .ensures .0 .0, start .pre .0 .5)
 
 step3-requires : tie.Need-step3-requires
 step3-requires c κs =
@@ -43,7 +43,7 @@ step3-requires c κs =
     let a = start .args in
     let p = start .pre .0 in
     let q = start .pre .1 .0 in
-    let f : Fixed 32 = (a .g .now, p .5) in
+    let f : Fixed 32 = (a .g .now, p .2) in
     let st = at-step1 .step1 in
     let pu = at-hold .hold in
     let n = st .result .held in
@@ -51,17 +51,17 @@ step3-requires c κs =
     let few = st .ensures .0 .0 in
     let e1 = st .ensures .1 .0 (q .0) (q .2) ((q .3) .addresses) in
     let e2 = pu .ensures .0 ∙ ap₂ {C = List ℕ} (λ y d. rowAdded n (addressBytes (addressRow (a .a .0) y d)) (st .last .1 .1 .1 .1 .0)) refl (q .4) in
-    let l2 = pu .kept .1 .1 .1 .0 ∙ st .kept .1 .1 .1 .1 .0 ∙ p .3 in
-    let k2 = pu .kept .1 .1 .1 .1 .1 .1 .1 .0 ∙ st .kept .1 .1 .1 .1 .1 .1 .0 ∙ p .9 in
-    ((omega arith, omega (arith, few), l2, p .4, small, omega (arith, few, k2, p .8)), placed₂ (a .b) (a .disk .now) (a .flash .now) (a .addrs .now) (a .blocks .now) (q .0) (q .2) (q .3) (p .0) (p .1) (a .a .0) (p .7) f (q .1) n (st .result .place) (st .result .primary) _ _ e1 _ e2 (a .places .now) _ _ (start .pre .1 .1) (st .ensures .1 .1 (q .0) (rows (a .b .slots) (a .blocks .now)) (q .2) ((q .3) .addresses)) (pu .ensures .1))
+    let l2 = pu .kept .1 .1 .1 .0 ∙ st .kept .1 .1 .1 .1 .0 ∙ p .7 .1 in
+    let k2 = pu .kept .1 .1 .1 .1 .1 .1 .1 .0 ∙ st .kept .1 .1 .1 .1 .1 .1 .0 ∙ p .6 in
+    ((omega arith, small, omega (arith, few, k2, p .5), (omega (arith, few), l2, p .7 .2)), placed₂ (a .b) (a .disk .now) (a .flash .now) (a .addrs .now) (a .blocks .now) (q .0) (q .2) (q .3) (p .0) (p .1) (a .a .0) (p .4) f (q .1) n (st .result .place) (st .result .primary) _ _ e1 _ e2 (a .places .now) _ _ (start .pre .1 .1) (st .ensures .1 .1 (q .0) (rows (a .b .slots) (a .blocks .now)) (q .2) ((q .3) .addresses)) (pu .ensures .1))
 
 step4-requires : tie.Need-step4-requires
 step4-requires c κs =
     let p = c .before .before .before .before .before .before .before .before .before .before .before .before .before .before .before .before .before .before .before .before .before .before .before .before .before .before .before .before .before .before .before .before .before .before .before .before .before .before .before .pre .0 in
     let d1 = p .1 in
-    let g32 = p .5 in
-    let one = p .6 in
-    let most = p .8 in
+    let g32 = p .2 in
+    let one = p .3 in
+    let most = p .5 in
     let small = c .before .before .before .before .before .before .before .before .before .before .before .before .before .before .before .before .before .before .before .before .before .before .before .before .before .before .before .before .before .before .before .before .before .before .before .before .before .before .before .pre .1 .0 .2 .blocks-are .small in
     let few = c .before .before .before .before .before .before .before .before .before .before .before .before .before .before .before .before .before .before .before .before .before .before .before .before .before .before .step1 .ensures .0 .0 in (
       search needs,
@@ -74,8 +74,8 @@ step4-requires c κs =
           let q = start .pre .1 .0 in
           let m1 = p .0 in
           let d1 = p .1 in
-          let la = p .7 in
-          let f : Fixed 32 = (a .g .now, p .5) in
+          let la = p .4 in
+          let f : Fixed 32 = (a .g .now, p .2) in
           let st = at-step1 .step1 in
           let pu = at-hold .hold in
           let s3 = at-step3 .step3 in
@@ -94,7 +94,7 @@ add-t48 c =
     let at-step4 = c .before .before .before .before .before .before .before .before .before .before in
     let at-step1 = at-step4 .before .before .before .before .before .before .before .before .before .before .before .before .before .before .before .before .before .before .before .before .before .before .before .before .before .before .before in
     let start = at-step1 .before .before .before .before .before .before .before .before .before .before .before .before .before in
-    omega (arith, at-step4 .step4 .ensures .0 .1, at-step1 .step1 .ensures .0 .0, at-step1 .step1 .ensures .0 .1, start .pre .0 .8)
+    omega (arith, at-step4 .step4 .ensures .0 .1, at-step1 .step1 .ensures .0 .0, at-step1 .step1 .ensures .0 .1, start .pre .0 .5)
 
 -- each buffer keeps its length through the parts that write it
 same-length : tie.Need-same-length
@@ -133,8 +133,8 @@ returns c =
     let p = start .pre .0 in
     let m1 = p .0 in
     let d1 = p .1 in
-    let la = p .7 in (
-      (at-step4 .step4 .ensures .0 .0, omega (arith, at-step4 .step4 .ensures .0 .1, at-step1 .step1 .ensures .0 .0, at-step1 .step1 .ensures .0 .1), at-hold .hold .kept .1 .1 .1 .1 .1 .1 .1 .0 ∙ at-step1 .step1 .kept .1 .1 .1 .1 .1 .1 .0 ∙ p .9),
+    let la = p .4 in (
+      (at-step4 .step4 .ensures .0 .0, omega (arith, at-step4 .step4 .ensures .0 .1, at-step1 .step1 .ensures .0 .0, at-step1 .step1 .ensures .0 .1), at-hold .hold .kept .1 .1 .1 .1 .1 .1 .1 .0 ∙ at-step1 .step1 .kept .1 .1 .1 .1 .1 .1 .0 ∙ p .6),
       λ s f x w h sd ef ex ed.
           let st = at-step1 .step1 in
           let pu = at-hold .hold in

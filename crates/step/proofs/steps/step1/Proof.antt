@@ -50,7 +50,7 @@ returns-3 c =
     let r = at-row-of .row-of in
     let w = at-flush-row .flush-row in
     let t = at-take-row2 .take-row2 in (
-      (omega (arith, start .pre .0 .0, start .pre .0 .2), w .ensures .0),
+      (omega (arith, start .pre .0 .0, start .pre .0 .3 .0), w .ensures .0),
       (
         (λ s h d.
             let q = w .ensures .1 s h in

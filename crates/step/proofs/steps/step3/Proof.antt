@@ -44,7 +44,7 @@ returns-3 c =
       (λ B l free used gone h hb ds e. c .before .before .to-front .ensures
           ∙ gone-freed B (a .b .slots) (a .blocks .now) (take (a .b .held - 1) l) l free used hb (a .place) (at-knows .knows .result) _ (p .block-fingerprint .ensures .0) (λ q. at-knows .knows .ensures (a .b .blocks) (a .b .rows) l q h) (omega (arith, at-if1 .if1 .left)) gone e (at-if2 .if2 .left) ds
           (sym (at-uncached .uncached .ensures B (a .b .blocks) (a .b .rows) (a .b .held) l free used h hb (omega arith)) ∙ at-if3 .if3 .taken)),
-      λ f. clash (ap full (sym (c .before .before .to-front .ensures)) ∙ f) (front-free (a .b .slots) (a .place) (a .blocks .now) (start .pre .0 .3) (omega (arith, at-if1 .if1 .left))),
+      λ f. clash (ap full (sym (c .before .before .to-front .ensures)) ∙ f) (front-free (a .b .slots) (a .place) (a .blocks .now) (start .pre .0 .3 .2) (omega (arith, at-if1 .if1 .left))),
     )
 
 returns-4 : tie.Need-returns-4

@@ -3,11 +3,12 @@ use mathlib.Core.Path.{_≡_, sym, _∙_}
 use mathlib.Core.Bool.{true}
 use borrow.Author.Needs.{needs}
 use borrow.Author.Tests.{not-true, not-false}
-use Rattle.paper.specs.Lent.{Ask}
+use Rattle.policy.specs.Contract.{askOf}
+use Rattle.policy.specs.CallLaws.{asks-write}
 use Rattle.fields.specs.Fields.{fitting}
 use Rattle.service.proofs.Noting.{lengths, unchanged, changed}
-use Rattle.service.proofs.mindavehu_write_back.Statement.{statement}
-use Rattle.service.proofs.mindavehu_write_back.Tie as tie
+use Rattle.service.proofs.write.Statement.{statement}
+use Rattle.service.proofs.write.Tie as tie
 
 abbrev start : tie.After-fit → tie.Start
 start c = c .before .before .before .before .before .before .before .before .before .before
@@ -18,7 +19,7 @@ fits c = sym (c .before .fit .ensures) ∙ not-false _ (c .if1 .left)
 returns : tie.Need-returns
 returns c =
     let a = start (c .before) .args in
-    unchanged (Ask.back (a .address) (a .block .now)) (a .state .now) (a .disk .now) (a .flash .now) (a .addresses .now) (a .blocks .now) (a .answer .now) (sym (c .before .fit .ensures) ∙ not-true _ (c .if1 .taken))
+    unchanged (askOf (a .kind) (a .address) (a .block .now)) (a .state .now) (a .disk .now) (a .flash .now) (a .addresses .now) (a .blocks .now) (a .answer .now) (sym (c .before .fit .ensures) ∙ not-true _ (c .if1 .taken)) _ (sym (asks-write (a .kind) 0 (a .address) (a .block .now) .block))
 
 record-in-requires : tie.Need-record-in-requires
 record-in-requires c κs = lengths _ _ (fits (c .before)) .0
@@ -27,10 +28,10 @@ counters-in-requires : tie.Need-counters-in-requires
 counters-in-requires c κs = lengths _ _ (fits (c .before .before .before)) .0
 
 -- the place after the cache's call
-abbrev called-at : tie.After-write-outcome-arg2 → tie.After-write-back
+abbrev called-at : tie.After-write-outcome-arg2 → tie.After-write
 called-at c = c .before .before .before .before .before .before .before .before .before .before
 
-abbrev read-at : tie.After-write-back → tie.After-counters-in
+abbrev read-at : tie.After-write → tie.After-counters-in
 read-at c = c .before .before .before .before .before
 
 write-outcome-requires : tie.Need-write-outcome-requires
@@ -44,11 +45,11 @@ returns-2 c =
     let b = k .before .before in
     let e = b .before .before in
     let a = start (e .before) .args in
-    changed (Ask.back (a .address) (a .block .now)) (a .state .now) (a .disk .now) (a .flash .now) (a .addresses .now) (a .blocks .now) (a .answer .now) (fits e)
-    (b .record-in .result) (k .counters-in .result) (b .record-in .ensures) (k .counters-in .ensures) (r .write-back .result) _ _ _ _ _ (r .write-back .ensures) _ _ _ (w .write-outcome .ensures)
+    changed (askOf (a .kind) (a .address) (a .block .now)) (a .state .now) (a .disk .now) (a .flash .now) (a .addresses .now) (a .blocks .now) (a .answer .now) (fits e)
+    (b .record-in .result) (k .counters-in .result) (b .record-in .ensures) (k .counters-in .ensures) (r .write .result) _ _ _ _ _ (r .write .ensures) _ _ _ (w .write-outcome .ensures)
 
-pub mindavehu-write-back-spec : {M : Type 1} → statement M
-mindavehu-write-back-spec =
+pub write-spec : {M : Type 1} → statement M
+write-spec =
     tie.close
     (tie.spec
     (λ c κs. search needs)

@@ -1,18 +1,18 @@
 -- The call of the policy, with a block of one byte repeated. Assumes nothing.
 use mathlib.Core.Path.{ap}
 use borrow.Author.Needs.{needs}
-use Rattle.paper.specs.Lent.{Ask}
+use Rattle.policy.specs.Contract.{askOf}
 use Rattle.answers.proofs.Doing.{call-done, block-filled}
-use Rattle.answers.proofs.call.back.Statement.{statement}
-use Rattle.answers.proofs.call.back.Tie as tie
+use Rattle.answers.proofs.call.write.Statement.{statement}
+use Rattle.answers.proofs.call.write.Tie as tie
 
 returns : tie.Need-returns
 returns c =
     let a = c .before .before .before .before .before .before .before .before .before .before .before .before .before .before .before .before .before .before .before .args in
-    call-done (c .before .before .before .before .before .before .before .before .write-back .result) (a .b) _ _ _ _ _ _ _ _ (c .before .before .before .before .before .before .before .before .write-back .ensures) (ap (Ask.back (a .a .0)) (block-filled (a .b .size) 4096 (a .x) (c .before .before .before .before .before .before .before .before .before .before .before .before .before .before .before .before .before .before .before .pre)))
+    call-done (c .before .before .before .before .before .before .before .before .write .result) (a .b) _ _ _ _ _ _ _ _ (c .before .before .before .before .before .before .before .before .write .ensures) (ap (askOf (a .kind) (a .a .0)) (block-filled (a .b .size) 4096 (a .x) (c .before .before .before .before .before .before .before .before .before .before .before .before .before .before .before .before .before .before .before .pre)))
 
-pub back-spec : {M : Type 1} → statement M
-back-spec =
+pub write-spec : {M : Type 1} → statement M
+write-spec =
     tie.close
     (tie.spec
     (λ c. search needs)
