@@ -1,3 +1,4 @@
 -- The laws that the proofs share. Assumes nothing.
 pub mod Indexes
 pub mod Knowns
+pub mod Zeros

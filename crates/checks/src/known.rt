@@ -12,12 +12,12 @@ ghost use Rattle.tables.specs.Rows.{tableBytes, rows, rowAt, removeAt};
 ghost use Rattle.tables.specs.Find.{all, every, findFrom, caches, isDirty, isUsed};
 ghost use Rattle.tables.specs.Unsound.{elem};
 ghost use Rattle.tables.specs.Sound.{mark};
-ghost use Rattle.tables.specs.Index.{Index, unique, code, Places, cachedIn, dirtyOk, unknownIn};
+ghost use Rattle.tables.specs.Index.{Linked, unique, code, Places, cachedIn, dirtyOk, unknownIn};
 
 // The index of the block row of the fingerprint `g`, or 256.
 pub(crate) fn place_of(t: &[u8], d: usize, heads: &[u16], g: &[u8]) -> u16
-    requires { ⌜ ((tableBytes d ≤ length (now t)) × (d ≤ 256)) × ((length (now g) ≡ 32) × (length (now heads) ≡ 16384)) ⌝ }
-    requires { ⌜ Index 0 (now heads) (rows d (now t)) ⌝ }
+    requires { ⌜ ((tableBytes d ≤ length (now t)) × (d ≤ 256)) × ((length (now g) ≡ 32) × (length (now heads) ≡ 4352)) ⌝ }
+    requires { ⌜ Linked 0 (now heads) (rows d (now t)) ⌝ }
     ensures { λ r. ⌜ r ≡ code (findFrom (caches (now (g .entry))) 0 (rows d (now (t .entry)))) ⌝ }
 {
     let found = index::find(t, d, heads, g);
@@ -27,32 +27,21 @@ pub(crate) fn place_of(t: &[u8], d: usize, heads: &[u16], g: &[u8]) -> u16
     }
 }
 
-// Fills `places` with the index of the block row of each of the first `n` address rows of `a`, or 256.
-pub fn places_of_rows(a: &[u8], n: usize, t: &[u8], d: usize, heads: &[u16], places: &mut [u16])
-    requires { ⌜ (tableBytes n ≤ length (now a)) × ((n ≤ length (now places)) × ((tableBytes d ≤ length (now t)) × ((d ≤ 256) × (length (now heads) ≡ 16384)))) ⌝ }
-    requires { ⌜ Index 0 (now heads) (rows d (now t)) ⌝ }
-    ensures { λ _. ⌜ Places (rows d (now (t .entry))) (rows n (now (a .entry))) (take n (now (places .exit))) ⌝ }
-    ensures { λ _. ⌜ length (now (places .exit)) ≡ length (now (places .entry)) ⌝ }
+// Whether every dirty row of the first `n` rows of `a` has a cached fingerprint. If so, `places` has the index of the block row of each of them, or 256.
+pub fn places_of_rows(a: &[u8], n: usize, t: &[u8], d: usize, heads: &[u16], places: &mut [u16]) -> bool
+    requires { ⌜ (tableBytes n ≤ length (now a)) × ((n ≤ length (now places)) × ((tableBytes d ≤ length (now t)) × ((d ≤ 256) × (length (now heads) ≡ 4352)))) ⌝ }
+    requires { ⌜ Linked 0 (now heads) (rows d (now t)) ⌝ }
+    ensures { λ r. ⌜ r ≡ all (dirtyOk (rows d (now (t .entry)))) (rows n (now (a .entry))) ⌝ }
+    ensures { λ r. ⌜ (r ≡ true → Places (rows d (now (t .entry))) (rows n (now (a .entry))) (take n (now (places .exit)))) ⌝ }
+    ensures { λ r. ⌜ length (now (places .exit)) ≡ length (now (places .entry)) ⌝ }
 {
     let mut k = 0;
     while k < n {
         let b = place_of(t, d, heads, row::address_fingerprint(a, k));
-        places[k] = b;
-        k += 1;
-    }
-}
-
-// Whether every dirty row of the first `n` has a cached fingerprint.
-pub fn dirty_cached(a: &[u8], n: usize, t: &[u8], d: usize, places: &[u16]) -> bool
-    requires { ⌜ (tableBytes n ≤ length (now a)) × ((n ≤ length (now places)) × (d ≤ 256)) ⌝ }
-    requires { ⌜ Places (rows d (now t)) (rows n (now a)) (take n (now places)) ⌝ }
-    ensures { λ r. ⌜ r ≡ all (dirtyOk (rows d (now (t .entry)))) (rows n (now (a .entry))) ⌝ }
-{
-    let mut k = 0;
-    while k < n {
-        if !dirty_ok(a, k, places[k]) {
+        if !dirty_ok(a, k, b) {
             return false;
         }
+        places[k] = b;
         k += 1;
     }
     true
@@ -63,8 +52,39 @@ pub(crate) fn dirty_ok(a: &[u8], k: usize, b: u16) -> bool
     requires { ⌜ tableBytes (k + 1) ≤ length (now a) ⌝ }
     ensures { λ r. ⌜ r ≡ cond (isDirty (rowAt (now (a .entry)) k)) (not (eqb b 256)) true ⌝ }
 {
-    if row::is_dirty(a, k) {
-        return b != 256;
+    if b != 256 {
+        return true;
+    }
+    !row::is_dirty(a, k)
+}
+
+// Whether row `k` of `a` is clean, or has a cached fingerprint.
+pub(crate) fn dirty_found(a: &[u8], k: usize, t: &[u8], d: usize, heads: &[u16]) -> bool
+    requires { ⌜ (tableBytes (k + 1) ≤ length (now a)) × ((tableBytes d ≤ length (now t)) × ((d ≤ 256) × (length (now heads) ≡ 4352))) ⌝ }
+    requires { ⌜ Linked 0 (now heads) (rows d (now t)) ⌝ }
+    ensures { λ r. ⌜ r ≡ dirtyOk (rows d (now (t .entry))) (rowAt (now (a .entry)) k) ⌝ }
+{
+    if !row::is_dirty(a, k) {
+        return true;
+    }
+    match index::find(t, d, heads, row::address_fingerprint(a, k)) {
+        Found::At(_) => true,
+        Found::Nothing => false,
+    }
+}
+
+// Whether every dirty row of the first `n` has a cached fingerprint: the clean ones are not searched for.
+pub fn dirty_cached(a: &[u8], n: usize, t: &[u8], d: usize, heads: &[u16]) -> bool
+    requires { ⌜ (tableBytes n ≤ length (now a)) × ((tableBytes d ≤ length (now t)) × ((d ≤ 256) × (length (now heads) ≡ 4352))) ⌝ }
+    requires { ⌜ Linked 0 (now heads) (rows d (now t)) ⌝ }
+    ensures { λ r. ⌜ r ≡ all (dirtyOk (rows d (now (t .entry)))) (rows n (now (a .entry))) ⌝ }
+{
+    let mut k = 0;
+    while k < n {
+        if !dirty_found(a, k, t, d, heads) {
+            return false;
+        }
+        k += 1;
     }
     true
 }

@@ -2,16 +2,18 @@
 use crate::index;
 use crate::known;
 use tables::distinct;
+use tables::find;
 use tables::row;
 ghost use mathlib.Core.Path.{_≡_};
 ghost use mathlib.Core.Bool.{true, false, not, cond, _&&_, _||_};
+ghost use mathlib.Core.List.{map};
 ghost use Prim.Native.Nat.{ℕ, suc, _+_, _<_, _≤_};
 ghost use lib.ListN.{length, take, drop, getD};
 ghost use Rattle.tables.specs.Rows.{rows, rowAt, tableBytes};
 ghost use Rattle.tables.specs.Find.{all, every, isUsed};
 ghost use Rattle.tables.specs.Unsound.{addressesUnsound, blocksUnsound, dirtyUncached};
-ghost use Rattle.tables.specs.Sound.{addressOk, isZero, soundAddresses, addressesFit, blocksFit};
-ghost use Rattle.tables.specs.Index.{Index, Places, rowOk};
+ghost use Rattle.tables.specs.Sound.{addressOk, distinct, isZero, rowAddress, soundAddresses, addressesFit, blocksFit};
+ghost use Rattle.tables.specs.Index.{Linked, Places, rowOk};
 
 // Whether row `k` is a held address row's, with an address below `p`.
 pub(crate) fn address_ok(t: &[u8], k: usize, p: u32) -> bool
@@ -40,11 +42,12 @@ pub(crate) fn addresses_ok(t: &[u8], n: usize, p: u32) -> bool
     true
 }
 
-// Whether all bytes are zero.
-pub(crate) fn all_zero(t: &[u8]) -> bool
-    ensures { λ r. ⌜ r ≡ all isZero (now (t .entry)) ⌝ }
+// Whether all bytes from index `from` on are zero, byte by byte.
+pub(crate) fn zero_from(t: &[u8], from: usize) -> bool
+    requires { ⌜ from ≤ length (now t) ⌝ }
+    ensures { λ r. ⌜ r ≡ all isZero (drop from (now (t .entry))) ⌝ }
 {
-    let mut k = 0;
+    let mut k = from;
     while k < t.len() {
         if t[k] != 0 {
             return false;
@@ -52,6 +55,54 @@ pub(crate) fn all_zero(t: &[u8]) -> bool
         k += 1;
     }
     true
+}
+
+// Whether the 32 bytes from index `at` on are zero: four words are the same, and the last is zero. (A word that is compared
+// with 0 is taken apart into bytes by the compiler, one that is compared with another is not.)
+pub(crate) fn zero_words(t: &[u8], at: usize) -> bool
+    requires { ⌜ at + 32 ≤ length (now t) ⌝ }
+    ensures { λ r. ⌜ all isZero (drop at (now (t .entry))) ≡ r && all isZero (drop (at + 32) (now (t .entry))) ⌝ }
+{
+    let w = find::word8(t, at);
+    let x = find::word8(t, at + 8);
+    let y = find::word8(t, at + 16);
+    let z = find::word8(t, at + 24);
+    if w != x {
+        return false;
+    }
+    if x != y {
+        return false;
+    }
+    if y != z {
+        return false;
+    }
+    z == 0
+}
+
+// Whether all bytes are zero.
+pub(crate) fn all_zero(t: &[u8]) -> bool
+    ensures { λ r. ⌜ r ≡ all isZero (now (t .entry)) ⌝ }
+{
+    let mut k = 0;
+    while 32 <= t.len() - k {
+        if !zero_words(t, k) {
+            return false;
+        }
+        k += 32;
+    }
+    zero_from(t, k)
+}
+
+// Whether the addresses of the first `n` rows, each below `p`, are all different.
+pub(crate) fn distinct_below(t: &[u8], n: usize, p: u32) -> bool
+    requires { ⌜ (tableBytes n ≤ length (now t)) × (p ≤ 65536) ⌝ }
+    requires { ⌜ ((k : ℕ) → k < n → rowAddress (rowAt (now t) k) < p) ⌝ }
+    ensures { λ r. ⌜ r ≡ distinct (map rowAddress (rows n (now (t .entry)))) ⌝ }
+{
+    if p <= 4096 {
+        return distinct::few_distinct(t, n);
+    }
+    distinct::addresses_distinct(t, n)
 }
 
 // Whether the address table is sound: `n` rows of `m` held, over `p` disk blocks.
@@ -65,7 +116,7 @@ pub(crate) fn addresses_sound(t: &[u8], m: usize, n: usize, p: u32) -> bool
     if !addresses_ok(t, n, p) {
         return false;
     }
-    if !distinct::addresses_distinct(t, n) {
+    if !distinct_below(t, n, p) {
         return false;
     }
     all_zero(row::behind(t, n))
@@ -119,13 +170,13 @@ pub(crate) fn rows_ok(t: &[u8], d: usize) -> bool
     true
 }
 
-// Whether the block table of `d` rows is sound. If so, `heads`, 256 everywhere at first, is its index.
+// Whether the block table of `d` rows is sound. If so, `heads`, 0 everywhere at first, is its index.
 pub(crate) fn blocks_sound(t: &[u8], d: usize, heads: &mut [u16]) -> bool
-    requires { ⌜ (length (now t) ≡ tableBytes d) × ((d ≤ 256) × (length (now heads) ≡ 16384)) ⌝ }
-    requires { ⌜ ((x : ℕ) → x < length (now heads) → getD (now heads) x 0 ≡ 256) ⌝ }
+    requires { ⌜ (length (now t) ≡ tableBytes d) × ((d ≤ 256) × (length (now heads) ≡ 4352)) ⌝ }
+    requires { ⌜ ((x : ℕ) → x < length (now heads) → getD (now heads) x 0 ≡ 0) ⌝ }
     ensures { λ r. ⌜ r ≡ not (blocksUnsound d (now (t .entry))) ⌝ }
-    ensures { λ r. ⌜ (r ≡ true → Index 0 (now (heads .exit)) (rows d (now (t .entry)))) ⌝ }
-    ensures { λ r. ⌜ length (now (heads .exit)) ≡ 16384 ⌝ }
+    ensures { λ r. ⌜ (r ≡ true → Linked 0 (now (heads .exit)) (rows d (now (t .entry)))) ⌝ }
+    ensures { λ r. ⌜ length (now (heads .exit)) ≡ 4352 ⌝ }
 {
     if !rows_ok(t, d) {
         return false;
@@ -152,13 +203,13 @@ pub fn addresses_unsound(t: &[u8], m: usize, n: usize, p: usize) -> bool
     !addresses_sound(t, m, n, p as u32)
 }
 
-// Refusal 7, of any bytes and numbers: whether the block table of `d` rows is unsound. If not, `heads`, 256 everywhere at first, is its index.
+// Refusal 7, of any bytes and numbers: whether the block table of `d` rows is unsound. If not, `heads`, 0 everywhere at first, is its index.
 pub fn blocks_unsound(t: &[u8], d: usize, heads: &mut [u16]) -> bool
-    requires { ⌜ length (now heads) ≡ 16384 ⌝ }
-    requires { ⌜ ((x : ℕ) → x < length (now heads) → getD (now heads) x 0 ≡ 256) ⌝ }
+    requires { ⌜ length (now heads) ≡ 4352 ⌝ }
+    requires { ⌜ ((x : ℕ) → x < length (now heads) → getD (now heads) x 0 ≡ 0) ⌝ }
     ensures { λ r. ⌜ r ≡ not (blocksFit d (now (t .entry))) || blocksUnsound d (now (t .entry)) ⌝ }
-    ensures { λ r. ⌜ (r ≡ false → Index 0 (now (heads .exit)) (rows d (now (t .entry)))) ⌝ }
-    ensures { λ r. ⌜ length (now (heads .exit)) ≡ 16384 ⌝ }
+    ensures { λ r. ⌜ (r ≡ false → Linked 0 (now (heads .exit)) (rows d (now (t .entry)))) ⌝ }
+    ensures { λ r. ⌜ length (now (heads .exit)) ≡ 4352 ⌝ }
 {
     if 256 < d {
         return true;
@@ -187,12 +238,35 @@ pub fn tables_refused(
     if addresses_unsound(addresses, m, n, p) {
         return 6;
     }
-    let mut heads = [256u16; 16384];
+    let mut heads = [0u16; 4352];
     if blocks_unsound(blocks, d, &mut heads) {
         return 7;
     }
-    known::places_of_rows(addresses, n, blocks, d, &heads, places);
-    if known::dirty_cached(addresses, n, blocks, d, places) {
+    if known::places_of_rows(addresses, n, blocks, d, &heads, places) {
+        return 0;
+    }
+    8
+}
+
+// The same for a call that needs no places: only the dirty rows are searched for.
+pub fn tables_unsound(
+    addresses: &[u8],
+    m: usize,
+    n: usize,
+    p: usize,
+    blocks: &[u8],
+    d: usize,
+) -> u32
+    ensures { λ r. ⌜ r ≡ cond (not (addressesFit p m (now (addresses .entry))) || addressesUnsound p m n (now (addresses .entry))) 6 (cond (not (blocksFit d (now (blocks .entry))) || blocksUnsound d (now (blocks .entry))) 7 (cond (dirtyUncached n d (now (addresses .entry)) (now (blocks .entry))) 8 0)) ⌝ }
+{
+    if addresses_unsound(addresses, m, n, p) {
+        return 6;
+    }
+    let mut heads = [0u16; 4352];
+    if blocks_unsound(blocks, d, &mut heads) {
+        return 7;
+    }
+    if known::dirty_cached(addresses, n, blocks, d, &heads) {
         return 0;
     }
     8

@@ -110,6 +110,14 @@ pub(crate) fn of_tables(b: BoxRecord, addresses: &[u8], blocks: &[u8], places: &
     checks::sound::tables_refused(addresses, b.rows, b.held, b.blocks, blocks, b.slots, places)
 }
 
+// The same for a call that needs no places.
+pub(crate) fn of_bytes(b: BoxRecord, addresses: &[u8], blocks: &[u8]) -> u32
+    requires { ⌜ (b .blocks ≤ 65536) × (b .rows ≤ 1024) × (b .slots ≤ 256) × (length (now addresses) ≡ tableBytes (b .rows)) × (length (now blocks) ≡ tableBytes (b .slots)) ⌝ }
+    ensures { λ r. ⌜ r ≡ tablesRefusal b (now (addresses .entry)) (now (blocks .entry)) ⌝ }
+{
+    checks::sound::tables_unsound(addresses, b.rows, b.held, b.blocks, blocks, b.slots)
+}
+
 // Refusal 9: a counter above 2 to the power 63.
 pub(crate) fn counters_over(c: counters::Counters) -> bool
     ensures { λ r. ⌜ r ≡ over (countersOf c) ⌝ }
@@ -203,8 +211,7 @@ pub fn of_look(
     if address_outside(b, a) {
         return 3;
     }
-    let mut places = [0u16; 1024];
-    of_tables(b, addresses, blocks, &mut places)
+    of_bytes(b, addresses, blocks)
 }
 
 // The refusal of a flush.

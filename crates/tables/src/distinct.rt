@@ -56,6 +56,16 @@ pub fn addresses_distinct(t: &[u8], n: usize) -> bool
     words_distinct(t, n, 0, &mut seen)
 }
 
+// The same where the addresses are below 4,096: with fewer bytes to clear.
+pub fn few_distinct(t: &[u8], n: usize) -> bool
+    requires { ⌜ tableBytes n ≤ length (now t) ⌝ }
+    requires { ⌜ ((k : ℕ) → k < n → rowAddress (rowAt (now t) k) < 4096) ⌝ }
+    ensures { λ r. ⌜ r ≡ distinct (map rowAddress (rows n (now (t .entry)))) ⌝ }
+{
+    let mut seen = [0u8; 512];
+    words_distinct(t, n, 0, &mut seen)
+}
+
 // Whether the slots of the first `d` rows are all different.
 pub fn slots_distinct(t: &[u8], d: usize) -> bool
     requires { ⌜ tableBytes d ≤ length (now t) ⌝ }

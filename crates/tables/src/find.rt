@@ -18,7 +18,7 @@ pub(crate) fn byte64(t: &[u8], at: usize) -> u64
 }
 
 // The eight bytes from index `at` on, little-endian.
-pub(crate) fn word8(t: &[u8], at: usize) -> u64
+pub fn word8(t: &[u8], at: usize) -> u64
     requires { ⌜ at + 8 ≤ length (now t) ⌝ }
     ensures { λ r. ⌜ r ≡ le8 (now (t .entry)) at ⌝ }
 {
@@ -76,7 +76,7 @@ pub fn fingerprint_is(t: &[u8], k: usize, g: &[u8]) -> bool
 }
 
 // Whether row `k` of a block table is used and has the fingerprint `g`.
-pub(crate) fn caches_fingerprint(t: &[u8], k: usize, g: &[u8]) -> bool
+pub fn caches_fingerprint(t: &[u8], k: usize, g: &[u8]) -> bool
     requires { ⌜ (tableBytes (k + 1) ≤ length (now t)) × (length (now g) ≡ 32) ⌝ }
     ensures { λ r. ⌜ r ≡ caches (now (g .entry)) (rowAt (now (t .entry)) k) ⌝ }
 {

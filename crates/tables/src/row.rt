@@ -92,20 +92,10 @@ pub fn is_used(t: &[u8], k: usize) -> bool
     t[k * 40 + 36] == 1
 }
 
-// Whether the last four bytes of row `k` are a byte that is 0 or 1 and three zeros.
+// Whether the last four bytes of row `k` are a byte that is 0 or 1 and three zeros: as a number, at most 1.
 pub fn tail_ok(t: &[u8], k: usize) -> bool
     requires { ⌜ tableBytes (k + 1) ≤ length (now t) ⌝ }
     ensures { λ r. ⌜ r ≡ tailOk (rowAt (now (t .entry)) k) ⌝ }
 {
-    let at = k * 40;
-    if 1 < t[at + 36] {
-        return false;
-    }
-    if t[at + 37] != 0 {
-        return false;
-    }
-    if t[at + 38] != 0 {
-        return false;
-    }
-    t[at + 39] == 0
+    word_at(t, k * 40 + 36) <= 1
 }

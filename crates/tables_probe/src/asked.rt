@@ -26,7 +26,7 @@ pub extern "C" fn tables_probe_addresses_unsound(t: &[u8], m: usize, n: usize, p
 pub extern "C" fn tables_probe_blocks_unsound(t: &[u8], d: usize) -> bool
     ensures { λ r. ⌜ r ≡ not (blocksFit d (now (t .entry))) || blocksUnsound d (now (t .entry)) ⌝ }
 {
-    let mut heads = [256u16; 16384];
+    let mut heads = [0u16; 4352];
     sound::blocks_unsound(t, d, &mut heads)
 }
 

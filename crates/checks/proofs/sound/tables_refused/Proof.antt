@@ -14,7 +14,7 @@ returns : tie.Need-returns
 returns c = (rw (sym (c .before .addresses-unsound .ensures) ∙ c .if1 .taken), ((λ e. absurd (omega arith)), c .before .before .before .before .before .pre))
 
 blocks-unsound-requires : tie.Need-blocks-unsound-requires
-blocks-unsound-requires c κs = (length-replicate {A = ℕ} 16384 256, filled-with 16384 256)
+blocks-unsound-requires c κs = (length-replicate {A = ℕ} 4352 0, filled-with 4352 0)
 
 returns-2 : tie.Need-returns-2
 returns-2 c =
@@ -43,37 +43,26 @@ places-of-rows-requires c κs =
     let q = passed-blocks e in
     ((omega arith, (omega arith, (omega arith, (q .0, b .blocks-unsound .ensures .1 .1)))), b .blocks-unsound .ensures .1 .0 (e .if2 .left))
 
-dirty-cached-requires : tie.Need-dirty-cached-requires
-dirty-cached-requires c κs =
-    let r = c .before .before .before in
-    let e = r .before .before .before in
-    let p = passed-addresses e in
-    let q = passed-blocks e in
-    let l = r .places-of-rows .ensures .1 in
-    ((omega arith, (omega arith, q .0)), r .places-of-rows .ensures .0)
-
 returns-3 : tie.Need-returns-3
 returns-3 c =
-    let k = c .before in
-    let r = k .before .before .before .before in
+    let r = c .before .before .before in
     let e = r .before .before .before in
     let f = e .before .before .before .before in
     let s = f .before .before .before .before .before in
     let a = s .args in (
-      rw (sym (f .before .addresses-unsound .ensures) ∙ f .if1 .left, sym (e .before .before .blocks-unsound .ensures .0) ∙ e .if2 .left, dirty-checked (a .n) (a .d) (a .addresses .now) (a .blocks .now), sym (k .dirty-cached .ensures) ∙ c .if3 .taken),
-      ((λ z. r .places-of-rows .ensures .0), r .places-of-rows .ensures .1 ∙ s .pre),
+      rw (sym (f .before .addresses-unsound .ensures) ∙ f .if1 .left, sym (e .before .before .blocks-unsound .ensures .0) ∙ e .if2 .left, dirty-checked (a .n) (a .d) (a .addresses .now) (a .blocks .now), sym (r .places-of-rows .ensures .0) ∙ c .if3 .taken),
+      ((λ z. r .places-of-rows .ensures .1 .0 (c .if3 .taken)), r .places-of-rows .ensures .1 .1 ∙ s .pre),
     )
 
 returns-4 : tie.Need-returns-4
 returns-4 c =
-    let k = c .before in
-    let r = k .before .before .before .before in
+    let r = c .before .before .before in
     let e = r .before .before .before in
     let f = e .before .before .before .before in
     let s = f .before .before .before .before .before in
     let a = s .args in (
-      rw (sym (f .before .addresses-unsound .ensures) ∙ f .if1 .left, sym (e .before .before .blocks-unsound .ensures .0) ∙ e .if2 .left, dirty-checked (a .n) (a .d) (a .addresses .now) (a .blocks .now), sym (k .dirty-cached .ensures) ∙ c .if3 .left),
-      ((λ z. absurd (omega arith)), r .places-of-rows .ensures .1 ∙ s .pre),
+      rw (sym (f .before .addresses-unsound .ensures) ∙ f .if1 .left, sym (e .before .before .blocks-unsound .ensures .0) ∙ e .if2 .left, dirty-checked (a .n) (a .d) (a .addresses .now) (a .blocks .now), sym (r .places-of-rows .ensures .0) ∙ c .if3 .left),
+      ((λ z. absurd (omega arith)), r .places-of-rows .ensures .1 .1 ∙ s .pre),
     )
 
 pub tables-refused-spec : {M : Type 1} → statement M
@@ -87,7 +76,6 @@ tables-refused-spec =
     returns-2
     (λ c. search needs)
     places-of-rows-requires
-    dirty-cached-requires
     (λ c. search needs)
     returns-3
     (λ c. search needs)

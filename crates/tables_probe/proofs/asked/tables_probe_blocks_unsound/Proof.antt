@@ -1,4 +1,4 @@
--- Every element of the array is 256. Assumes nothing.
+-- Every element of the array is 0. Assumes nothing.
 use mathlib.Core.Path.{refl}
 use lib.ListN.{length-replicate, getD-replicate}
 use borrow.Author.Needs.{needs}
@@ -6,7 +6,7 @@ use Rattle.tables_probe.proofs.asked.tables_probe_blocks_unsound.Statem
 use Rattle.tables_probe.proofs.asked.tables_probe_blocks_unsound.Tie as tie
 
 blocks-unsound-requires : tie.Need-blocks-unsound-requires
-blocks-unsound-requires c κs = (refl, λ x h. getD-replicate 16384 x 256 0 (rw length-replicate at h))
+blocks-unsound-requires c κs = (refl, λ x h. getD-replicate 4352 x 0 0 (rw length-replicate at h))
 
 pub tables-probe-blocks-unsound-spec : {M : Type 1} → statement M
 tables-probe-blocks-unsound-spec =
