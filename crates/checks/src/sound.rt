@@ -8,12 +8,12 @@ ghost use mathlib.Core.Path.{_≡_};
 ghost use mathlib.Core.Bool.{true, false, not, cond, _&&_, _||_};
 ghost use mathlib.Core.List.{map};
 ghost use Prim.Native.Nat.{ℕ, suc, _+_, _<_, _≤_};
-ghost use lib.ListN.{length, take, drop, getD};
+ghost use lib.ListN.{length, drop, getD};
 ghost use Rattle.tables.specs.Rows.{rows, rowAt, tableBytes};
 ghost use Rattle.tables.specs.Find.{all, every, isUsed};
 ghost use Rattle.tables.specs.Unsound.{addressesUnsound, blocksUnsound, dirtyUncached};
 ghost use Rattle.tables.specs.Sound.{addressOk, distinct, isZero, rowAddress, soundAddresses, addressesFit, blocksFit};
-ghost use Rattle.tables.specs.Index.{Linked, Places, rowOk};
+ghost use Rattle.tables.specs.Index.{headsLength, Linked, Indexed, rowOk};
 
 // Whether row `k` is a held address row's, with an address below `p`.
 pub(crate) fn address_ok(t: &[u8], k: usize, p: u32) -> bool
@@ -172,11 +172,11 @@ pub(crate) fn rows_ok(t: &[u8], d: usize) -> bool
 
 // Whether the block table of `d` rows is sound. If so, `heads`, 0 everywhere at first, is its index.
 pub(crate) fn blocks_sound(t: &[u8], d: usize, heads: &mut [u16]) -> bool
-    requires { ⌜ (length (now t) ≡ tableBytes d) × ((d ≤ 256) × (length (now heads) ≡ 4352)) ⌝ }
+    requires { ⌜ (length (now t) ≡ tableBytes d) × ((d ≤ 256) × (length (now heads) ≡ headsLength)) ⌝ }
     requires { ⌜ ((x : ℕ) → x < length (now heads) → getD (now heads) x 0 ≡ 0) ⌝ }
     ensures { λ r. ⌜ r ≡ not (blocksUnsound d (now (t .entry))) ⌝ }
     ensures { λ r. ⌜ (r ≡ true → Linked 0 (now (heads .exit)) (rows d (now (t .entry)))) ⌝ }
-    ensures { λ r. ⌜ length (now (heads .exit)) ≡ 4352 ⌝ }
+    ensures { λ r. ⌜ length (now (heads .exit)) ≡ headsLength ⌝ }
 {
     if !rows_ok(t, d) {
         return false;
@@ -205,11 +205,11 @@ pub fn addresses_unsound(t: &[u8], m: usize, n: usize, p: usize) -> bool
 
 // Refusal 7, of any bytes and numbers: whether the block table of `d` rows is unsound. If not, `heads`, 0 everywhere at first, is its index.
 pub fn blocks_unsound(t: &[u8], d: usize, heads: &mut [u16]) -> bool
-    requires { ⌜ length (now heads) ≡ 4352 ⌝ }
+    requires { ⌜ length (now heads) ≡ headsLength ⌝ }
     requires { ⌜ ((x : ℕ) → x < length (now heads) → getD (now heads) x 0 ≡ 0) ⌝ }
     ensures { λ r. ⌜ r ≡ not (blocksFit d (now (t .entry))) || blocksUnsound d (now (t .entry)) ⌝ }
     ensures { λ r. ⌜ (r ≡ false → Linked 0 (now (heads .exit)) (rows d (now (t .entry)))) ⌝ }
-    ensures { λ r. ⌜ length (now (heads .exit)) ≡ 4352 ⌝ }
+    ensures { λ r. ⌜ length (now (heads .exit)) ≡ headsLength ⌝ }
 {
     if 256 < d {
         return true;
@@ -220,7 +220,7 @@ pub fn blocks_unsound(t: &[u8], d: usize, heads: &mut [u16]) -> bool
     !blocks_sound(t, d, heads)
 }
 
-// The first of 6, 7 and 8 that applies, of any bytes and numbers, 0 where none does: `places` then has the place of each held row's block row.
+// The first of 6, 7 and 8 that applies, of any bytes and numbers, 0 where none does: `heads`, 0 everywhere at first, is then the block table's index.
 pub fn tables_refused(
     addresses: &[u8],
     m: usize,
@@ -228,45 +228,23 @@ pub fn tables_refused(
     p: usize,
     blocks: &[u8],
     d: usize,
-    places: &mut [u16],
+    heads: &mut [u16],
 ) -> u32
-    requires { ⌜ length (now places) ≡ 1024 ⌝ }
-    ensures { λ r. ⌜ r ≡ cond (not (addressesFit p m (now (addresses .entry))) || addressesUnsound p m n (now (addresses .entry))) 6 (cond (not (blocksFit d (now (blocks .entry))) || blocksUnsound d (now (blocks .entry))) 7 (cond (dirtyUncached n d (now (addresses .entry)) (now (blocks .entry))) 8 0)) ⌝ }
-    ensures { λ r. ⌜ (r ≡ 0 → Places (rows d (now (blocks .entry))) (rows n (now (addresses .entry))) (take n (now (places .exit)))) ⌝ }
-    ensures { λ r. ⌜ length (now (places .exit)) ≡ 1024 ⌝ }
+    requires { ⌜ length (now heads) ≡ headsLength ⌝ }
+    requires { ⌜ ((x : ℕ) → x < length (now heads) → getD (now heads) x 0 ≡ 0) ⌝ }
+    ensures { λ r. ⌜ r ≡ cond (not (addressesFit p m (now (addresses .entry))) || addressesUnsound p m n (now (addresses .entry))) 6
+        (cond (not (blocksFit d (now (blocks .entry))) || blocksUnsound d (now (blocks .entry))) 7
+        (cond (dirtyUncached n d (now (addresses .entry)) (now (blocks .entry))) 8 0)) ⌝ }
+    ensures { λ r. ⌜ (r ≡ 0 → Indexed d (now (blocks .entry)) (now (heads .exit))) ⌝ }
+    ensures { λ r. ⌜ length (now (heads .exit)) ≡ headsLength ⌝ }
 {
     if addresses_unsound(addresses, m, n, p) {
         return 6;
     }
-    let mut heads = [0u16; 4352];
-    if blocks_unsound(blocks, d, &mut heads) {
+    if blocks_unsound(blocks, d, heads) {
         return 7;
     }
-    if known::places_of_rows(addresses, n, blocks, d, &heads, places) {
-        return 0;
-    }
-    8
-}
-
-// The same for a call that needs no places: only the dirty rows are searched for.
-pub fn tables_unsound(
-    addresses: &[u8],
-    m: usize,
-    n: usize,
-    p: usize,
-    blocks: &[u8],
-    d: usize,
-) -> u32
-    ensures { λ r. ⌜ r ≡ cond (not (addressesFit p m (now (addresses .entry))) || addressesUnsound p m n (now (addresses .entry))) 6 (cond (not (blocksFit d (now (blocks .entry))) || blocksUnsound d (now (blocks .entry))) 7 (cond (dirtyUncached n d (now (addresses .entry)) (now (blocks .entry))) 8 0)) ⌝ }
-{
-    if addresses_unsound(addresses, m, n, p) {
-        return 6;
-    }
-    let mut heads = [0u16; 4352];
-    if blocks_unsound(blocks, d, &mut heads) {
-        return 7;
-    }
-    if known::dirty_cached(addresses, n, blocks, d, &heads) {
+    if known::dirty_cached(addresses, n, blocks, d, heads) {
         return 0;
     }
     8

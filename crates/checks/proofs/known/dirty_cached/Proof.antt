@@ -1,16 +1,16 @@
 -- Each turn leaves what `all` says of the rows from k on. Assumes nothing.
+use mathlib.Core.Path.{_≡_, refl, sym, _∙_}
 use Prim.Native.Nat.{_-_, _≤_}
+use lib.ListN.{drop}
 use native.Mathlib.Omega.{arith}
-use Rattle.tables.specs.SoundLaws.{rows-all-more, rows-all-fails, rows-all-holds}
-use Rattle.checks.proofs.known.dirty_cached.Statement.{statement}
-use Rattle.checks.proofs.known.dirty_cached.Tie as tie
+use borrow.Author.Tests.{not-true, not-false}
 use Rattle.tables.specs.Find.{all}
 use Rattle.tables.specs.Index.{dirtyOk}
 use Rattle.tables.specs.Rows.{rows}
+use Rattle.tables.specs.SoundLaws.{rows-all-more, rows-all-fails, rows-all-holds}
 use borrow.Author.Needs.{needs}
-use borrow.Author.Tests.{not-true, not-false}
-use lib.ListN.{drop}
-use mathlib.Core.Path.{_≡_, refl, sym, _∙_}
+use Rattle.checks.proofs.known.dirty_cached.Statement.{statement}
+use Rattle.checks.proofs.known.dirty_cached.Tie as tie
 
 abbrev Inv-loop : tie.InvT-loop
 Inv-loop a n t d heads k₀ k = (k ≤ n) × (all (dirtyOk (rows d t)) (rows n a) ≡ all (dirtyOk (rows d t)) (drop k (rows n a)))
@@ -23,14 +23,14 @@ returns c =
     let n = c .before .before in
     let l = n .before in
     let a = l .before .before .before .before .args in
-    rows-all-fails (dirtyOk (rows (a .d) (a .t .now))) (a .n) (a .a .now) (l .loop .k) (l .loop .inv .1) (n .loop-test .taken) (sym (c .before .dirty-found .ensures) ∙ not-true _ (c .if1 .taken))
+    rows-all-fails (dirtyOk (rows (a .d) (a .t .now))) (a .n) (a .a .now) (l .loop .k) (l .loop .inv .1) (n .loop-test .taken) (sym (c .before .dirty-ok .ensures) ∙ not-true _ (c .if1 .taken))
 
 loop-again : tie.Need-loop-again Inv-loop μ-loop
 loop-again c =
     let n = c .before .before in
     let l = n .before in
     let a = l .before .before .before .before .args in
-    (omega arith, rows-all-more (dirtyOk (rows (a .d) (a .t .now))) (a .n) (a .a .now) (l .loop .k) (l .loop .inv .1) (n .loop-test .taken) (sym (c .before .dirty-found .ensures) ∙ not-false _ (c .if1 .left)))
+    (omega arith, rows-all-more (dirtyOk (rows (a .d) (a .t .now))) (a .n) (a .a .now) (l .loop .k) (l .loop .inv .1) (n .loop-test .taken) (sym (c .before .dirty-ok .ensures) ∙ not-false _ (c .if1 .left)))
 
 returns-2 : tie.Need-returns-2 Inv-loop μ-loop
 returns-2 c =

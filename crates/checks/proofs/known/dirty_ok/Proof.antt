@@ -1,30 +1,15 @@
--- The row has a block row, or it is dirty or not. Assumes nothing.
+-- The row is clean, or its fingerprint is cached or not. Assumes nothing.
+use mathlib.Core.Path.{sym, _∙_}
+use borrow.Author.Tests.{not-true, not-false}
+use borrow.Author.Needs.{needs}
 use Rattle.checks.proofs.known.dirty_ok.Statement.{statement}
 use Rattle.checks.proofs.known.dirty_ok.Tie as tie
-use Rattle.tables.specs.Find.{isDirty}
-use Rattle.tables.specs.Rows.{rowAt}
-use borrow.Author.Needs.{needs}
-use borrow.Author.Tests.{eq-eqb, ne-eqb}
-use mathlib.Core.Bool.{Bool, true, false, not, cond}
-use mathlib.Core.Path.{_≡_, refl, sym, ap, _∙_}
-
-either-way : (b : Bool) → true ≡ cond b true true
-either-way true = refl
-either-way false = refl
-
-turned-round : (b : Bool) → not b ≡ cond b false true
-turned-round true = refl
-turned-round false = refl
 
 returns : tie.Need-returns
-returns c =
-    let a = c .before .before .args in
-    rw (ne-eqb _ _ (c .if1 .taken)) (either-way (isDirty (rowAt (a .a .now) (a .k))))
+returns c = rw (sym (c .before .is-dirty .ensures) ∙ not-true _ (c .if1 .taken))
 
 returns-2 : tie.Need-returns-2
-returns-2 c =
-    let a = c .before .before .before .args in
-    rw (eq-eqb _ _ (c .before .if1 .left)) (ap not (c .is-dirty .ensures) ∙ turned-round (isDirty (rowAt (a .a .now) (a .k))))
+returns-2 c = rw (sym (c .before .before .is-dirty .ensures) ∙ not-false _ (c .before .if1 .left)) (c .cached .ensures)
 
 pub dirty-ok-spec : {M : Type 1} → statement M
-dirty-ok-spec = tie.close (tie.spec returns (λ c κs. search needs) returns-2)
+dirty-ok-spec = tie.close (tie.spec (λ c κs. search needs) returns (λ c κs. search needs) returns-2)
