@@ -5,11 +5,11 @@ use tables::row;
 ghost use mathlib.Core.Path.{_≡_};
 ghost use mathlib.Core.Bool.{true, cond};
 ghost use Prim.Native.Nat.{ℕ, suc, _+_, _<_, _≤_};
-ghost use lib.ListN.{length, drop, getD};
+ghost use lib.ListN.{length, drop};
 ghost use Rattle.tables.specs.Rows.{tableBytes, rows, rowAt};
 ghost use Rattle.tables.specs.Records.{readBlock};
 ghost use Rattle.tables.specs.Find.{every, findFrom, caches, absent, isUsed};
-ghost use Rattle.tables.specs.Index.{headsLength, bucket, choice, In, Goes, onward, Linked, Indexed, unique};
+ghost use Rattle.tables.specs.Index.{headsLength, Blank, bucket, choice, In, Goes, onward, Linked, Indexed, unique};
 
 // The entries of an index: of 4,096 buckets, of 256 rows, and which bytes of a fingerprint give its bucket.
 pub const ENTRIES: usize = 4353;
@@ -138,8 +138,8 @@ pub(crate) fn choose(t: &[u8], d: usize) -> u16
 
 // Whether no two used rows of `d` have one fingerprint. If so, `heads`, 0 everywhere at first, is their index.
 pub fn build(t: &[u8], d: usize, heads: &mut [u16]) -> bool
-    requires { ⌜ (length (now t) ≡ tableBytes d) × (d ≤ 256) × (length (now heads) ≡ headsLength) ⌝ }
-    requires { ⌜ ((x : ℕ) → x < length (now heads) → getD (now heads) x 0 ≡ 0) ⌝ }
+    requires { ⌜ (length (now t) ≡ tableBytes d) × (d ≤ 256) ⌝ }
+    requires { ⌜ Blank (now heads) ⌝ }
     ensures { λ r. ⌜ r ≡ every unique (rows d (now (t .entry))) ⌝ }
     ensures { λ r. ⌜ (r ≡ true → Linked 0 (now (heads .exit)) (rows d (now (t .entry)))) ⌝ }
     ensures { λ r. ⌜ length (now (heads .exit)) ≡ headsLength ⌝ }

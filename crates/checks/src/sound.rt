@@ -8,12 +8,12 @@ ghost use mathlib.Core.Path.{_≡_};
 ghost use mathlib.Core.Bool.{true, false, not, cond, _&&_, _||_};
 ghost use mathlib.Core.List.{map};
 ghost use Prim.Native.Nat.{ℕ, suc, _+_, _<_, _≤_};
-ghost use lib.ListN.{length, drop, getD};
+ghost use lib.ListN.{length, drop};
 ghost use Rattle.tables.specs.Rows.{rows, rowAt, tableBytes};
 ghost use Rattle.tables.specs.Find.{all, every, isUsed};
 ghost use Rattle.tables.specs.Unsound.{addressesUnsound, blocksUnsound, dirtyUncached};
 ghost use Rattle.tables.specs.Sound.{addressOk, distinct, isZero, rowAddress, soundAddresses, addressesFit, blocksFit};
-ghost use Rattle.tables.specs.Index.{headsLength, Linked, Indexed, rowOk};
+ghost use Rattle.tables.specs.Index.{headsLength, Blank, Linked, Indexed, rowOk};
 
 // Whether row `k` is a held address row's, with an address below `p`.
 pub(crate) fn address_ok(t: &[u8], k: usize, p: u32) -> bool
@@ -172,8 +172,8 @@ pub(crate) fn rows_ok(t: &[u8], d: usize) -> bool
 
 // Whether the block table of `d` rows is sound. If so, `heads`, 0 everywhere at first, is its index.
 pub(crate) fn blocks_sound(t: &[u8], d: usize, heads: &mut [u16]) -> bool
-    requires { ⌜ (length (now t) ≡ tableBytes d) × ((d ≤ 256) × (length (now heads) ≡ headsLength)) ⌝ }
-    requires { ⌜ ((x : ℕ) → x < length (now heads) → getD (now heads) x 0 ≡ 0) ⌝ }
+    requires { ⌜ (length (now t) ≡ tableBytes d) × (d ≤ 256) ⌝ }
+    requires { ⌜ Blank (now heads) ⌝ }
     ensures { λ r. ⌜ r ≡ not (blocksUnsound d (now (t .entry))) ⌝ }
     ensures { λ r. ⌜ (r ≡ true → Linked 0 (now (heads .exit)) (rows d (now (t .entry)))) ⌝ }
     ensures { λ r. ⌜ length (now (heads .exit)) ≡ headsLength ⌝ }
@@ -205,8 +205,7 @@ pub fn addresses_unsound(t: &[u8], m: usize, n: usize, p: usize) -> bool
 
 // Refusal 7, of any bytes and numbers: whether the block table of `d` rows is unsound. If not, `heads`, 0 everywhere at first, is its index.
 pub fn blocks_unsound(t: &[u8], d: usize, heads: &mut [u16]) -> bool
-    requires { ⌜ length (now heads) ≡ headsLength ⌝ }
-    requires { ⌜ ((x : ℕ) → x < length (now heads) → getD (now heads) x 0 ≡ 0) ⌝ }
+    requires { ⌜ Blank (now heads) ⌝ }
     ensures { λ r. ⌜ r ≡ not (blocksFit d (now (t .entry))) || blocksUnsound d (now (t .entry)) ⌝ }
     ensures { λ r. ⌜ (r ≡ false → Linked 0 (now (heads .exit)) (rows d (now (t .entry)))) ⌝ }
     ensures { λ r. ⌜ length (now (heads .exit)) ≡ headsLength ⌝ }
@@ -230,8 +229,7 @@ pub fn tables_refused(
     d: usize,
     heads: &mut [u16],
 ) -> u32
-    requires { ⌜ length (now heads) ≡ headsLength ⌝ }
-    requires { ⌜ ((x : ℕ) → x < length (now heads) → getD (now heads) x 0 ≡ 0) ⌝ }
+    requires { ⌜ Blank (now heads) ⌝ }
     ensures { λ r. ⌜ r ≡ cond (not (addressesFit p m (now (addresses .entry))) || addressesUnsound p m n (now (addresses .entry))) 6
         (cond (not (blocksFit d (now (blocks .entry))) || blocksUnsound d (now (blocks .entry))) 7
         (cond (dirtyUncached n d (now (addresses .entry)) (now (blocks .entry))) 8 0)) ⌝ }

@@ -60,6 +60,10 @@ pub record Linked (k : ℕ) (heads : List ℕ) (rs : List (List ℕ)) : Type 0 w
   pub firsts : (x : ℕ) → x < 4096 → First (choice heads) k rs x (getD heads x 0)
   pub links : (r x : ℕ) → k ≤ r → r < length rs → In (choice heads) rs x r → Goes (choice heads) rs x r (onward heads r)
 
+-- `heads` before an index is made: 0 everywhere
+abbrev pub Blank : List ℕ → Type 0
+Blank heads = (length heads ≡ headsLength) × ((x : ℕ) → x < length heads → getD heads x 0 ≡ 0)
+
 -- `heads` is the index of the d rows of a block table
 abbrev pub Indexed : ℕ → (blocks heads : List ℕ) → Type 0
 Indexed d blocks heads = (length heads ≡ headsLength) × Linked 0 heads (rows d blocks)

@@ -1,6 +1,9 @@
 -- Each test in turn: what the opening's check gives, the address, and the tables; a look has no 9. Assumes nothing.
 use mathlib.Core.Path.{sym, _∙_}
+use Prim.Native.Nat.{ℕ}
+use lib.ListN.{length-replicate}
 use borrow.Author.Needs.{needs}
+use Rattle.tables.specs.SoundLaws.{filled-with}
 use Rattle.paper.specs.Cache.{Counters, noCounts}
 use Rattle.paper.specs.Lent.{Ask}
 use Rattle.refusals.specs.Given.{numbersOf, lent}
@@ -28,17 +31,18 @@ returns-2 c k =
     let a = start e .args in
     look-3 (a .b) (a .disk .now) (a .flash .now) (a .addresses .now) (a .blocks .now) k (opens e k) (a .a .0) (sym (c .before .address-outside .ensures) ∙ c .if2 .taken)
 
-of-bytes-requires : tie.Need-of-bytes-requires
-of-bytes-requires c κs =
-    let o = opens (c .before .before) noCounts in
-    (o .most .blocks, o .most .rows, o .most .slots, o .lengths .addresses, o .lengths .blocks)
+of-tables-requires : tie.Need-of-tables-requires
+of-tables-requires c κs =
+    let o = opens (c .before .before .before) noCounts in
+    ((o .most .blocks, o .most .rows, o .most .slots, o .lengths .addresses, o .lengths .blocks), (length-replicate {A = ℕ} 4353 0, filled-with 4353 0))
 
 returns-3 : tie.Need-returns-3
 returns-3 c k =
-    let f = c .before in
+    let t = c .before in
+    let f = t .before .before in
     let e = f .before .before in
     let a = start e .args in
-    c .of-bytes .ensures ∙ look-rest (a .b) (a .disk .now) (a .flash .now) (a .addresses .now) (a .blocks .now) k (opens e k) (a .a .0) (sym (f .before .address-outside .ensures) ∙ f .if2 .left)
+    t .of-tables .ensures .0 ∙ look-rest (a .b) (a .disk .now) (a .flash .now) (a .addresses .now) (a .blocks .now) k (opens e k) (a .a .0) (sym (f .before .address-outside .ensures) ∙ f .if2 .left)
 
 pub of-look-spec : {M : Type 1} → statement M
-of-look-spec = tie.close (tie.spec (λ c κs. search needs) returns (λ c κs. search needs) returns-2 of-bytes-requires returns-3)
+of-look-spec = tie.close (tie.spec (λ c κs. search needs) returns (λ c κs. search needs) returns-2 (λ c. search needs) of-tables-requires returns-3)

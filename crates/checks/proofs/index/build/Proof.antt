@@ -29,9 +29,9 @@ loop-holds c =
     let a = s .args in
     let rs = rows (a .d) (a .t .now) in
     let h : length rs ≤ a .d = omega (arith, rows-length (a .d) (a .t .now)) in
-    let o : choice (set (a .heads .now) 4352 (c .choose .result)) + 2 ≤ 32 = rw (getD-set-same (a .heads .now) 4352 (c .choose .result) 0 (omega (arith, s .pre .0 .2))) (c .choose .ensures) in
-    let z : (x : ℕ) → x < 4352 → getD (set (a .heads .now) 4352 (c .choose .result)) x 0 ≡ 0 = λ x b. getD-set-other (a .heads .now) 4352 x (c .choose .result) 0 (λ e. omega arith) ∙ s .pre .1 x (omega (arith, b, s .pre .0 .2)) in
-    (search needs, simp length-set (s .pre .0 .2), rw (drop-of-length-le rs h), linked-end _ rs (a .d) h (s .pre .0 .1) o z)
+    let o : choice (set (a .heads .now) 4352 (c .choose .result)) + 2 ≤ 32 = rw (getD-set-same (a .heads .now) 4352 (c .choose .result) 0 (omega (arith, s .pre .1 .0))) (c .choose .ensures) in
+    let z : (x : ℕ) → x < 4352 → getD (set (a .heads .now) 4352 (c .choose .result)) x 0 ≡ 0 = λ x b. getD-set-other (a .heads .now) 4352 x (c .choose .result) 0 (λ e. omega arith) ∙ s .pre .1 .1 x (omega (arith, b, s .pre .1 .0)) in
+    (search needs, simp length-set (s .pre .1 .0), rw (drop-of-length-le rs h), linked-end _ rs (a .d) h (s .pre .0 .1) o z)
 
 put-row-requires : tie.Need-put-row-requires Inv-loop μ-loop
 put-row-requires c κs =
