@@ -4,23 +4,17 @@ use Rattle.serve.proofs.serve_write.Statement.{statement}
 use Rattle.serve.proofs.serve_write.Tie as tie
 
 serve-invalidate-requires : tie.Need-serve-invalidate-requires
-serve-invalidate-requires c κs =
-    let start = c .before .before .before .before .before .before .before .before .before .before .before in
-    let p = start .pre .0 in
-    let q = start .pre .1 .0 in
-    ((p .1, p .2), (start .args .flash .now, q))
+serve-invalidate-requires c κs = let start = c .before .before .before .before .before .before .before .before .before .before .before in (start .pre .0, (start .args .flash .now, start .pre .1 .0))
 
 returns : tie.Need-returns
 returns c =
-    let w = c .before .before .before .before .before .before .before .before .before .before in
-    let e = w .serve-through .ensures in
-    rw (w .before .before .before .before .before .before .enum-told .given .1) ((e .0 .0, e .0 .1), e .1)
+    let w = c .before .before .before .before .before .before .before .before in
+    rw (w .before .before .before .before .before .enum-told .given .1) (w .serve-through .ensures)
 
 returns-2 : tie.Need-returns-2
 returns-2 c =
-    let w = c .before .before .before .before .before .before .before .before .before .before in
-    let e = w .serve-back .ensures in
-    rw (w .before .before .before .before .before .before .enum-told2 .given .1) ((e .0 .0, e .0 .1), e .1)
+    let w = c .before .before .before .before .before .before .before .before in
+    rw (w .before .before .before .before .before .enum-told2 .given .1) (w .serve-back .ensures)
 
 returns-3 : tie.Need-returns-3
 returns-3 c =
@@ -43,9 +37,7 @@ serve-write-spec =
     (λ c. search needs)
     (λ c. search needs)
     (λ c. search needs)
-    (λ c. search needs)
     returns
-    (λ c. search needs)
     (λ c. search needs)
     (λ c. search needs)
     (λ c. search needs)
