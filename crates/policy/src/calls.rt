@@ -1,6 +1,7 @@
 // The calls: each takes any numbers, any slices and any counters.
 use crate::Answer;
 use crate::Word;
+use checks::index;
 use counters::Counters;
 use parts::BoxRecord;
 use serve::Served;
@@ -95,12 +96,12 @@ pub fn read(
     ensures { λ r. ⌜ told r (now (disk .exit)) (now (flash .exit)) (now (addresses .exit)) (now (blocks .exit)) (Option.some (now (block .exit)))
         ≡ called b (lent b (now (disk .entry)) (now (flash .entry)) (now (addresses .entry)) (now (blocks .entry)) (countersOf c)) (Ask.read (a .0) (now (block .entry))) ⌝ }
 {
-    let mut places = [0u16; 1024];
-    let number = refusals::of_access(b, a, disk, flash, addresses, blocks, c, block, &mut places);
+    let mut heads = [0u16; index::ENTRIES];
+    let number = refusals::of_access(b, a, disk, flash, addresses, blocks, c, block, &mut heads);
     if number != 0 {
         return refused(number, b, c);
     }
-    let s = serve::serve_read(b, a, disk, flash, addresses, blocks, block, &mut places);
+    let s = serve::serve_read(b, a, disk, flash, addresses, blocks, block, &heads);
     answered(b, read_word(s.yes), s, c, 1, one_if(s.yes))
 }
 
@@ -120,8 +121,8 @@ pub fn write(
     ensures { λ r. ⌜ told r (now (disk .exit)) (now (flash .exit)) (now (addresses .exit)) (now (blocks .exit)) (Option.some (now (block .entry)))
         ≡ called b (lent b (now (disk .entry)) (now (flash .entry)) (now (addresses .entry)) (now (blocks .entry)) (countersOf c)) (askOf kind (a .0) (now (block .entry))) ⌝ }
 {
-    let mut places = [0u16; 1024];
-    let number = refusals::of_access(b, a, disk, flash, addresses, blocks, c, block, &mut places);
+    let mut heads = [0u16; index::ENTRIES];
+    let number = refusals::of_access(b, a, disk, flash, addresses, blocks, c, block, &mut heads);
     if number != 0 {
         return refused(number, b, c);
     }
@@ -134,7 +135,7 @@ pub fn write(
         addresses,
         blocks,
         block,
-        &mut places,
+        &heads,
     );
     answered(b, write_word(s.yes), s, c, 0, 0)
 }
@@ -151,11 +152,11 @@ pub fn flush(
     ensures { λ r. ⌜ told r (now (disk .exit)) (now (flash .entry)) (now (addresses .exit)) (now (blocks .entry)) Option.none
         ≡ called b (lent b (now (disk .entry)) (now (flash .entry)) (now (addresses .entry)) (now (blocks .entry)) (countersOf c)) Ask.flush ⌝ }
 {
-    let mut places = [0u16; 1024];
-    let number = refusals::of_flush(b, disk, flash, addresses, blocks, c, &mut places);
+    let mut heads = [0u16; index::ENTRIES];
+    let number = refusals::of_flush(b, disk, flash, addresses, blocks, c, &mut heads);
     if number != 0 {
         return refused(number, b, c);
     }
-    let s = serve::serve_flush(b, disk, flash, addresses, blocks, &places);
+    let s = serve::serve_flush(b, disk, flash, addresses, blocks, &heads);
     answered(b, Word::Done, s, c, 0, 0)
 }

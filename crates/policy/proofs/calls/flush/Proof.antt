@@ -6,6 +6,7 @@ use Prim.Native.Nat.{ℕ}
 use native.Mathlib.Omega.{arith}
 use lib.ListN.{length-replicate}
 use borrow.Author.Needs.{needs}
+use Rattle.tables.specs.SoundLaws.{filled-with}
 use Rattle.paper.specs.Cache.{serve, flushed}
 use Rattle.paper.specs.Lent.{Ask, calling, refusal, callOf}
 use Rattle.paper.specs.CallLaws.{served-finds}
@@ -17,7 +18,7 @@ use Rattle.policy.proofs.calls.flush.Statement.{statement}
 use Rattle.policy.proofs.calls.flush.Tie as tie
 
 of-flush-requires : tie.Need-of-flush-requires
-of-flush-requires c κs = length-replicate {A = ℕ} 1024 0
+of-flush-requires c κs = (length-replicate {A = ℕ} 4353 0, filled-with 4353 0)
 
 -- the refusal is 0
 zero : (c : tie.Else1) → (let a = c .before .before .before .before .before .before .before .before .before .before .args in refusal (numbersOf (a .b)) (lent (a .b) (a .disk .now) (a .flash .now) (a .addresses .now) (a .blocks .now) (countersOf (a .c))) (calling Ask.flush) ≡ 0)
@@ -42,9 +43,8 @@ serve-flush-requires c κs =
     let k = countersOf (a .c) in
     let o = served-finds (numbersOf (a .b)) (lent (a .b) (a .disk .now) (a .flash .now) (a .addresses .now) (a .blocks .now) k) Ask.flush z in
     let l = sized (a .b) (a .disk .now) (a .flash .now) (a .addresses .now) (a .blocks .now) k Ask.flush z x y in
-    let n = w .of-flush .kept .1 .1 .1 .1 .1 .1 .0 ∙ length-replicate {A = ℕ} 1024 0 in
     let on = sound (a .b) (a .disk .now) (a .flash .now) (a .addresses .now) (a .blocks .now) k Ask.flush z x y in
-    ((o .fits .d-least, o .fits .d-most, omega (arith, l .0, o .fits .m-most, n), l), ((on .0, on .1), w .of-flush .ensures .1 (e .if1 .left)))
+    ((o .fits .d-least, o .fits .d-most, l), ((on .0, on .1), w .of-flush .ensures .1 (e .if1 .left)))
 
 answered-requires : tie.Need-answered-requires
 answered-requires c κs =

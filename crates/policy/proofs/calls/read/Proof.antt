@@ -5,6 +5,7 @@ use Prim.Native.Nat.{ℕ}
 use native.Mathlib.Omega.{arith}
 use lib.ListN.{length-replicate}
 use borrow.Author.Needs.{needs}
+use Rattle.tables.specs.SoundLaws.{filled-with}
 use Rattle.paper.specs.Cache.{Call, hit, miss, serve}
 use Rattle.paper.specs.Engine.{engine}
 use Rattle.paper.specs.Lent.{Ask, calling, refusal, callOf}
@@ -16,7 +17,7 @@ use Rattle.policy.proofs.calls.read.Statement.{statement}
 use Rattle.policy.proofs.calls.read.Tie as tie
 
 of-access-requires : tie.Need-of-access-requires
-of-access-requires c κs = length-replicate {A = ℕ} 1024 0
+of-access-requires c κs = (length-replicate {A = ℕ} 4353 0, filled-with 4353 0)
 
 -- the refusal is 0
 zero : (c : tie.Else1) → (let a = c .before .before .before .before .before .before .before .before .before .before .before .before .before .before .args in refusal (numbersOf (a .b)) (lent (a .b) (a .disk .now) (a .flash .now) (a .addresses .now) (a .blocks .now) (countersOf (a .c))) (calling (Ask.read (a .a .0) (a .block .now))) ≡ 0)
@@ -40,12 +41,11 @@ serve-read-requires c κs =
     let y = all-bytes (a .blocks .now) (λ i. omega (arith, s .slice-known4 .given i)) in
     let q = Ask.read (a .a .0) (a .block .now) in
     let k = countersOf (a .c) in
-    let n = w .of-access .kept .1 .1 .1 .1 .1 .1 .1 .1 .0 ∙ length-replicate {A = ℕ} 1024 0 in
-    ((n, access (a .b) (a .disk .now) (a .flash .now) (a .addresses .now) (a .blocks .now) k q z x y (a .a .0) (a .block .now) refl refl), (sound (a .b) (a .disk .now) (a .flash .now) (a .addresses .now) (a .blocks .now) k q z x y, w .of-access .ensures .1 (e .if1 .left)))
+    (access (a .b) (a .disk .now) (a .flash .now) (a .addresses .now) (a .blocks .now) k q z x y (a .a .0) (a .block .now) refl refl, (sound (a .b) (a .disk .now) (a .flash .now) (a .addresses .now) (a .blocks .now) k q z x y, w .of-access .ensures .1 (e .if1 .left)))
 
 answered-requires : tie.Need-answered-requires
 answered-requires c κs =
-    let r = c .before .before .before .before .before .before .before .before .before .before .before .before .before in
+    let r = c .before .before .before .before .before .before .before .before .before .before .before .before in
     let e = r .before .before .before .before .before .before .before in
     let a = e .before .before .before .before .before .before .before .before .before .before .before .before .before .before .args in
     let o = served-finds (numbersOf (a .b)) (lent (a .b) (a .disk .now) (a .flash .now) (a .addresses .now) (a .blocks .now) (countersOf (a .c))) (Ask.read (a .a .0) (a .block .now)) (zero e) in
@@ -54,7 +54,7 @@ answered-requires c κs =
 returns-2 : tie.Need-returns-2
 unfolding callOf
 returns-2 c =
-    let r = c .before .before .before .before .before .before .before .before .before .before .before .before .before .before in
+    let r = c .before .before .before .before .before .before .before .before .before .before .before .before .before in
     let e = r .before .before .before .before .before .before .before in
     let s = e .before .before .before .before .before .before .before .before .before .before in
     let a = s .before .before .before .before .args in

@@ -5,6 +5,7 @@ use Prim.Native.Nat.{ℕ}
 use native.Mathlib.Omega.{arith}
 use lib.ListN.{length-replicate}
 use borrow.Author.Needs.{needs}
+use Rattle.tables.specs.SoundLaws.{filled-with}
 use Rattle.paper.specs.Engine.{fit}
 use Rattle.paper.specs.Lent.{calling, refusal}
 use Rattle.paper.specs.CallLaws.{served-finds}
@@ -15,7 +16,7 @@ use Rattle.policy.proofs.calls.write.Statement.{statement}
 use Rattle.policy.proofs.calls.write.Tie as tie
 
 of-access-requires : tie.Need-of-access-requires
-of-access-requires c κs = length-replicate {A = ℕ} 1024 0
+of-access-requires c κs = (length-replicate {A = ℕ} 4353 0, filled-with 4353 0)
 
 -- the refusal is 0
 zero : (c : tie.Else1) → (let a = c .before .before .before .before .before .before .before .before .before .before .before .before .before .args in refusal (numbersOf (a .b)) (lent (a .b) (a .disk .now) (a .flash .now) (a .addresses .now) (a .blocks .now) (countersOf (a .c))) (calling (askOf (a .kind) (a .a .0) (a .block .now))) ≡ 0)
@@ -42,12 +43,11 @@ serve-write-requires c κs =
     let q = askOf (a .kind) (a .a .0) (a .block .now) in
     let k = countersOf (a .c) in
     let f = asks-write (a .kind) (a .b .size) (a .a .0) (a .block .now) in
-    let n = w .of-access .kept .1 .1 .1 .1 .1 .1 .1 .1 .0 ∙ length-replicate {A = ℕ} 1024 0 in
-    ((n, disk-fits (a .b) (a .disk .now) (a .flash .now) (a .addresses .now) (a .blocks .now) k q z, access (a .b) (a .disk .now) (a .flash .now) (a .addresses .now) (a .blocks .now) k q z x y (a .a .0) (a .block .now) (f .address) (f .block)), (sound (a .b) (a .disk .now) (a .flash .now) (a .addresses .now) (a .blocks .now) k q z x y, w .of-access .ensures .1 (e .if1 .left)))
+    ((disk-fits (a .b) (a .disk .now) (a .flash .now) (a .addresses .now) (a .blocks .now) k q z, access (a .b) (a .disk .now) (a .flash .now) (a .addresses .now) (a .blocks .now) k q z x y (a .a .0) (a .block .now) (f .address) (f .block)), (sound (a .b) (a .disk .now) (a .flash .now) (a .addresses .now) (a .blocks .now) k q z x y, w .of-access .ensures .1 (e .if1 .left)))
 
 answered-requires : tie.Need-answered-requires
 answered-requires c κs =
-    let r = c .before .before .before .before .before .before .before .before .before .before in
+    let r = c .before .before .before .before .before .before .before .before .before in
     let e = r .before .before .before .before .before .before in
     let a = e .before .before .before .before .before .before .before .before .before .before .before .before .before .args in
     let o = served-finds (numbersOf (a .b)) (lent (a .b) (a .disk .now) (a .flash .now) (a .addresses .now) (a .blocks .now) (countersOf (a .c))) (askOf (a .kind) (a .a .0) (a .block .now)) (zero e) in
@@ -55,7 +55,7 @@ answered-requires c κs =
 
 returns-2 : tie.Need-returns-2
 returns-2 c =
-    let r = c .before .before .before .before .before .before .before .before .before .before .before in
+    let r = c .before .before .before .before .before .before .before .before .before .before in
     let e = r .before .before .before .before .before .before in
     let s = e .before .before .before .before .before .before .before .before .before in
     let a = s .before .before .before .before .args in
