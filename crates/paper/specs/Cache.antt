@@ -10,6 +10,13 @@ use lib.ListN.{length, getD, set}
 use Rattle.tables.specs.Records.{slotsFrom}
 use Rattle.paper.specs.Keyed.{has, without, find}
 
+-- "B is the block size in bytes .. P is the number of disk blocks .. m is the most addresses held .. d is the number of cached blocks"
+pub record Numbers : Type 0 where
+  pub B : ℕ
+  pub P : ℕ
+  pub m : ℕ
+  pub d : ℕ
+
 -- What the cache needs to know of blocks: the fingerprint of one, when two fingerprints are the same, and a block to stand for none.
 pub record Hashing (F X : Type 0) : Type 0 where
   pub same : F → F → Bool
@@ -317,13 +324,13 @@ module _ {F X : Type 0} (H : Hashing F X) where
         primaryWrites = copies H (λ f. true) (s .rows);
       }
 
-  unfoldable pub serve : ℕ → Box F X → Call X → Outcome F X
-  serve m s (read a) = readAs m s a (rowWithBlock s a)
-  serve m s (through a b) = writeThrough m s a b
-  serve m s (back a b) = writeBack m s a b
-  serve m s (invalidate a b) = writeInvalidate s a b
-  serve m s (look a) = lookAs s a (rowWithBlock s a)
-  serve m s flush = flushed s
+  unfoldable pub serve : Numbers → Box F X → Call X → Outcome F X
+  serve N s (read a) = readAs (N .m) s a (rowWithBlock s a)
+  serve N s (through a b) = writeThrough (N .m) s a b
+  serve N s (back a b) = writeBack (N .m) s a b
+  serve N s (invalidate a b) = writeInvalidate s a b
+  serve N s (look a) = lookAs s a (rowWithBlock s a)
+  serve N s flush = flushed s
 
 -- "Fresh: n = 0, counters and address rows zero, block rows free with slots 0 to d − 1 in order; flash and disk keep their bytes."
 abbrev pub fresh : {F X : Type 0} → ℕ → List X → List X → Box F X

@@ -9,9 +9,9 @@ use Prim.Native.Nat.{ℕ}
 use lib.Dec.{eqb}
 use lib.ListN.{getD}
 use Rattle.paper.specs.KeyedLaws.{All}
-use Rattle.paper.specs.Cache.{Word}
+use Rattle.paper.specs.Cache.{Numbers, Word}
 use Rattle.paper.specs.Engine.{Fixed, engine}
-use Rattle.paper.specs.Lent.{Numbers, Lent, Ask, Answer, refused, answered, calling, refusal, call, callOf, boxIn, join, split}
+use Rattle.paper.specs.Lent.{Lent, Ask, Answer, refused, answered, calling, refusal, call, callOf, boxIn, join, split}
 use Rattle.paper.specs.Machines.{plainNext, writtenBy, Read, Compared, seenIn, printedTrace, contentOf, OrphanLaw, TrueFingerprints, NoTwoShare}
 
 -- "Box record, disk, flash, both tables and counters pass from call to call."

@@ -9,16 +9,9 @@ use lib.ListN.{length, drop}
 use Rattle.tables.specs.Records as Table
 use Rattle.tables.specs.Records.{addressTable, heldRows, blockTable, blockRows, freeRow, freshAddresses, freshBlocks}
 use Rattle.tables.specs.Unsound.{elem, addressesUnsound, blocksUnsound, dirtyUncached}
-use Rattle.paper.specs.Cache.{AddressRow, BlockRow, Box, Call, Word, Counters, noCounts, counted, serve}
+use Rattle.paper.specs.Cache.{Numbers, AddressRow, BlockRow, Box, Call, Word, Counters, noCounts, counted, serve}
 use Rattle.paper.specs.Engine.{Fixed, fit, engine}
 use Rattle.tables.specs.Rows.{tableBytes}
-
--- "B is the block size in bytes .. P is the number of disk blocks .. m is the most addresses held .. d is the number of cached blocks"
-pub record Numbers : Type 0 where
-  pub B : ℕ
-  pub P : ℕ
-  pub m : ℕ
-  pub d : ℕ
 
 -- What is lent and passes from call to call: "n is the number of addresses held now", "disk (P × B bytes), flash (d × B), address table
 -- (m × 40), block table (d × 40) .. and the counters record". The box record is the four numbers and n.
@@ -212,7 +205,7 @@ partAfter flush b = []
 -- a call that is served: the paper's call on the box in the lent bytes, written down again
 unfoldable pub served : (N : Numbers) → Lent → Ask → After
 served N t q =
-    let o = serve (engine (N .B)) (N .m) (boxIn N t) (callOf (N .B) q) in
+    let o = serve (engine (N .B)) N (boxIn N t) (callOf (N .B) q) in
     record {
       answer = answered (o .word) (o .flashWrites) (o .primaryWrites);
       lent = lentOf N (o .box) (counted (t .counters) (callOf (N .B) q) o);

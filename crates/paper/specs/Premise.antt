@@ -14,8 +14,9 @@ use Rattle.tables.specs.Unsound as Unsound
 use Rattle.paper.specs.Cache as Cache
 use Rattle.paper.specs.KeyedLaws.{by-test}
 use Rattle.paper.specs.Engine.{Fixed, fit, engine}
+use Rattle.paper.specs.Cache.{Numbers}
 use Rattle.paper.specs.Lent as Lent
-use Rattle.paper.specs.Lent.{Numbers, Lent, Ask, opening, calling, refusal, opened, fresh, split, call}
+use Rattle.paper.specs.Lent.{Lent, Ask, opening, calling, refusal, opened, fresh, split, call}
 use Rattle.paper.specs.Machines.{NoTwoShare, writtenBy}
 use Rattle.paper.specs.Demand3.{EachServed, ShowsPlain, refusals, written}
 use Rattle.paper.specs.RefusalLaws.{opened-is}
