@@ -224,14 +224,30 @@ pub data Call (X : Type 0) : Type 0 where
   look : ℕ → Call X
   flush : Call X
 
--- its address is one of the disk's
+-- What a call is about: its address, the block that it writes there, whether it is a read, whether it returns a block, and whether it counts
+pub record About (X : Type 0) : Type 0 where
+  pub address : Option ℕ
+  pub written : Option X
+  pub reads : Bool
+  pub returns : Bool
+  pub counts : Bool
+
+-- "A read or look answers block a. Each write replaces block a by the block lent to it."; look "counts nothing"; a flush has no address
+abbrev pub about : {X : Type 0} → Call X → About X
+about (read a) = record { address = some a; written = none; reads = true; returns = true; counts = true }
+about (through a b) = record { address = some a; written = some b; reads = false; returns = false; counts = true }
+about (back a b) = record { address = some a; written = some b; reads = false; returns = false; counts = true }
+about (invalidate a b) = record { address = some a; written = some b; reads = false; returns = false; counts = true }
+about (look a) = record { address = some a; written = none; reads = false; returns = true; counts = false }
+about flush = record { address = none; written = none; reads = false; returns = false; counts = true }
+
+-- its address, if it has one, is one of the disk's
+abbrev pub Below : ℕ → Option ℕ → Type 0
+Below P none = Unit {0}
+Below P (some a) = a < P
+
 abbrev pub Within : {X : Type 0} → ℕ → Call X → Type 0
-Within P (read a) = a < P
-Within P (through a b) = a < P
-Within P (back a b) = a < P
-Within P (invalidate a b) = a < P
-Within P (look a) = a < P
-Within P flush = Unit {0}
+Within P c = Below P (about c .address)
 
 -- "answer (hit, miss, same, new, cache, disk, done)"
 pub data Word : Type 0 where
@@ -351,12 +367,7 @@ oneIf true = 1
 oneIf false = 0
 
 abbrev pub isRead : {X : Type 0} → Call X → Bool
-isRead (read a) = true
-isRead (through a b) = false
-isRead (back a b) = false
-isRead (invalidate a b) = false
-isRead (look a) = false
-isRead flush = false
+isRead c = about c .reads
 
 abbrev pub isHit : Word → Bool
 isHit hit = true

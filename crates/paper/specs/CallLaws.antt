@@ -1,17 +1,18 @@
 -- What a served call finds and leaves: lent memory that passes, before and after, and counters that stay in 64 bits.
 use mathlib.Core.Path.{_≡_, refl, sym, ap, ap₂, _∙_, subst}
 use mathlib.Core.Bool.{true, and-false, false, not, _&&_, _||_}
-use mathlib.Core.List.{[], _∷_}
+use mathlib.Core.List.{List, [], _∷_}
 use mathlib.Core.Logic.{_≢_}
+use mathlib.Core.Option.{Option, none, some, Option·map}
 use Prim.Native.Nat.{ℕ, _≤_, _<_, _+_, _^_}
 use native.Mathlib.Omega.{arith}
 use lib.Dec.{eqb, leb, ltb}
 use borrow.Author.Tests.{eqb-true, eqb-false, leb-true, leb-false, ltb-false, not-false}
 use Rattle.tables.specs.Unsound.{elem}
-use Rattle.paper.specs.Cache.{Numbers, Box, flushed, Outcome, Within, Counters, counted, serve, oneIf, isRead, isHit}
+use Rattle.paper.specs.Cache.{Numbers, Box, About, about, Below, flushed, Outcome, Within, Counters, counted, serve, oneIf, isRead, isHit}
 use Rattle.paper.specs.KeyedLaws.{All, clash, by-test, or-false-left, or-false-right, and-left, and-right}
-use Rattle.paper.specs.Engine.{Fixed, engine}
-use Rattle.paper.specs.Lent.{Lent, Ask, calling, callOf, addressOf, lentBlock, between, unfit, wrongBuffers, wrongBlock, outside, over, counts, refusal, served, call, boxIn, lentOf}
+use Rattle.paper.specs.Engine.{Fixed, fit, engine}
+use Rattle.paper.specs.Lent.{Lent, Ask, calling, callOf, aboutAsk, addressOf, lentBlock, between, unfit, wrongBuffers, wrongBlock, outside, over, counts, refusal, served, call, boxIn, lentOf}
 use Rattle.paper.specs.Sound.{Sound, all-cleaned, sound-serve}
 use Rattle.paper.specs.Quiet.{look-same}
 use Rattle.paper.specs.RowBytes.{Bytes}
@@ -48,14 +49,26 @@ fits N h =
       d-most = leb-true (N .d) 256 (and-right (leb 1 (N .d)) (leb (N .d) 256) d′);
     }
 
-within : (P B : ℕ) (q : Ask) → outside P (addressOf q) ≡ false → Within P (callOf B q)
+-- the call on paper is about what is asked, its block cut to size
+abbrev sized : (B : ℕ) → About (List ℕ) → About (Fixed B)
+sized B x =
+    record { address = x .address; written = Option·map (fit B) (x .written); reads = x .reads; returns = x .returns; counts = x .counts }
+
+pub about-call : (B : ℕ) (q : Ask) → about (callOf B q) ≡ sized B (aboutAsk q)
 unfolding callOf
-within P B (Ask.read a l) e = leb-false P a e
-within P B (Ask.through a l) e = leb-false P a e
-within P B (Ask.back a l) e = leb-false P a e
-within P B (Ask.invalidate a l) e = leb-false P a e
-within P B (Ask.look a) e = leb-false P a e
-within P B Ask.flush e = tt
+about-call B (Ask.read a l) = refl
+about-call B (Ask.through a l) = refl
+about-call B (Ask.back a l) = refl
+about-call B (Ask.invalidate a l) = refl
+about-call B (Ask.look a) = refl
+about-call B Ask.flush = refl
+
+below : (P : ℕ) (a : Option ℕ) → outside P a ≡ false → Below P a
+below P none e = tt
+below P (some a) e = leb-false P a e
+
+within : (P B : ℕ) (q : Ask) → outside P (addressOf q) ≡ false → Within P (callOf B q)
+within P B q e = subst (λ x. Below P (x .address)) (sym (about-call B q)) (below P (addressOf q) e)
 
 -- what a served call finds
 pub record Served (N : Numbers) (t : Lent) (q : Ask) : Type 0 where
@@ -184,24 +197,11 @@ counters-fit N t q h =
 
 -- a served read is one read more, and no other call is
 abbrev pub ownReads : Ask → ℕ
-ownReads (Ask.read a l) = 1
-ownReads (Ask.through a l) = 0
-ownReads (Ask.back a l) = 0
-ownReads (Ask.invalidate a l) = 0
-ownReads (Ask.look a) = 0
-ownReads Ask.flush = 0
+ownReads q = oneIf (aboutAsk q .reads)
 
 pub reads-counted : (N : Numbers) (t : Lent) (q : Ask) → refusal N t (calling q) ≡ 0 → (call N t q) .lent .counters .reads ≡ t .counters .reads + ownReads q
-unfolding counted callOf
-reads-counted N t q e = ap (λ k. k .reads) (served-counters N t q e) ∙ own q
-  where
-    own : (q : Ask) → t .counters .reads + oneIf (isRead (callOf (N .B) q)) ≡ t .counters .reads + ownReads q
-    own (Ask.read a l) = refl
-    own (Ask.through a l) = refl
-    own (Ask.back a l) = refl
-    own (Ask.invalidate a l) = refl
-    own (Ask.look a) = refl
-    own Ask.flush = refl
+unfolding counted
+reads-counted N t q e = ap (λ k. k .reads) (served-counters N t q e) ∙ ap (λ x. t .counters .reads + oneIf (x .reads)) (about-call (N .B) q)
 
 -- a look counts nothing, and moves nothing
 look-counted : (N : Numbers) (t : Lent) (a : ℕ) → counted (t .counters) (callOf (N .B) (Ask.look a)) (outcome N t (Ask.look a)) ≡ t .counters

@@ -3,7 +3,7 @@ use mathlib.Core.Path.{_≡_, refl, sym, ap, ap₂, _∙_, subst, subst₂}
 use mathlib.Core.Bool.{Bool, true, false, not, _&&_, _||_, cond}
 use mathlib.Core.List.{List, [], _∷_, _++_, map, append-nil}
 use mathlib.Core.Logic.{inl, inr}
-use mathlib.Core.Option.{none, some}
+use mathlib.Core.Option.{Option, none, some}
 use Prim.Native.Nat.{ℕ}
 use lib.Dec.{eqb}
 use borrow.Author.Tests.{eqb-true, eqb-false, not-false}
@@ -13,8 +13,8 @@ use Rattle.paper.specs.Cache.{Numbers, Hashing, Box, noCounts}
 use Rattle.paper.specs.KeyedLaws.{All, by-test, clash}
 use Rattle.paper.specs.Engine.{Fixed, engine}
 use Rattle.paper.specs.Lent.{Lent, Ask, opening, calling, callOf, lentBlock, addressOf, wrongBuffers, wrongBlock, outside, counts, over, unfit, refusal, served, call, boxIn, lentOf, join, split, fresh, opened, blockAfter, partAfter}
-use Rattle.paper.specs.Machines.{plainNext, plainBlock, writtenBy, Read, Compared, seenIn, printedTrace, contentOf, OrphanLaw, TrueFingerprints, NoTwoShare}
-use Rattle.paper.specs.Demand3.{next, plainStep, Throughout, EachServed, ServedOr239, refusals, written, ShowsPlain, FlushesWhole, ifRead, readsOf, wordOf, seenAfter, NoWrite, Demand3}
+use Rattle.paper.specs.Machines.{plainNext, plainBlock, writtenBy, NoWrite, Compared, ifRead, seenIn, printedTrace, contentOf, OrphanLaw, TrueFingerprints, NoTwoShare}
+use Rattle.paper.specs.Demand3.{next, plainStep, Throughout, EachServed, ServedOr239, refusals, written, ShowsPlain, FlushesWhole, readsOf, wordOf, seenAfter, Demand3}
 use Rattle.paper.specs.Events as Events
 use Rattle.paper.specs.Events.{Event, boxBlocks, plainBlocks}
 use Rattle.paper.specs.Sound.{Sound, sound-fresh}
@@ -113,13 +113,14 @@ module _ (N : Numbers) where
 
   -- the blocks returned
   shows : (t : Lent) (plain : List (Fixed (N .B))) (q : Ask) → refusal N t (calling q) ≡ 0 → (outcome N t q) .block ≡ plainBlock (H .blank) plain (callOf (N .B) q) → ShowsPlain N t plain q
-  unfolding ShowsPlain callOf plainBlock served
+  unfolding ShowsPlain callOf served
   shows t plain (Ask.read a l) z e = ap (λ x. x .block) (served-is N t (Ask.read a l) z) ∙ ap (blockAfter (Ask.read a l)) e
-  shows t plain (Ask.look a) z e = ap (λ x. x .part) (served-is N t (Ask.look a) z) ∙ ap (partAfter (Ask.look a)) e
-  shows t plain (Ask.through a l) z e = tt
-  shows t plain (Ask.back a l) z e = tt
-  shows t plain (Ask.invalidate a l) z e = tt
-  shows t plain Ask.flush z e = tt
+  shows t plain (Ask.look a) z e =
+      ap {B = Option (List ℕ)} (λ x. some (x .part)) (served-is N t (Ask.look a) z) ∙ ap {B = Option (List ℕ)} (λ b. some (partAfter (Ask.look a) b)) e
+  shows t plain (Ask.through a l) z e = refl
+  shows t plain (Ask.back a l) z e = refl
+  shows t plain (Ask.invalidate a l) z e = refl
+  shows t plain Ask.flush z e = refl
 
   blocks-shown : (t : Lent) (plain : List (Fixed (N .B))) (qs : List Ask) → boxBlocks H N (boxIn N t) (eventsOf N t qs) ≡ plainBlocks (H .blank) plain (eventsOf N t qs) → EachServed N (ShowsPlain N) t plain qs
   unfolding EachServed boxBlocks plainBlocks eventsOf
@@ -141,21 +142,11 @@ module _ (N : Numbers) where
       )))
 
   -- the reads: what is seen after each, and what printed D-LRU is fed
-  if-read : {A : Type 0} (q : Ask) (f : ℕ → A) (l : List A) → ifRead q f l ≡ Quiet.ifRead (callOf (N .B) q) f l
-  unfolding callOf
-  if-read (Ask.read a l) f xs = refl
-  if-read (Ask.look a) f xs = refl
-  if-read (Ask.through a l) f xs = refl
-  if-read (Ask.back a l) f xs = refl
-  if-read (Ask.invalidate a l) f xs = refl
-  if-read Ask.flush f xs = refl
-
   same-reads : (t : Lent) (qs : List Ask) → readsOf N t qs ≡ Quiet.readsOf (eventsOf N t qs)
   unfolding readsOf eventsOf
   same-reads t [] = refl
   same-reads t (q ∷ qs) =
-      let f : ℕ → Read = λ a. record { address = a; refused = isRefused N t q } in
-      if-read q f (readsOf N (next N t q) qs) ∙ ap (Quiet.ifRead (callOf (N .B) q) f) (same-reads (next N t q) qs)
+      ap (ifRead (callOf (N .B) q) (λ a. record { address = a; refused = isRefused N t q })) (same-reads (next N t q) qs)
 
   word-is : (t : Lent) (q : Ask) → wordOf ((call N t q) .answer) ≡ cond (isRefused N t q) none (some ((outcome N t q) .word))
   unfolding served
@@ -171,23 +162,13 @@ module _ (N : Numbers) where
       let es = eventsOf N (next N t q) qs in
       let s = cond (isRefused N t q) (boxIn N t) ((outcome N t q) .box) in
       let w = cond (isRefused N t q) none (some ((outcome N t q) .word)) in
-      if-read q (λ a. seenIn (boxIn N (next N t q)) (wordOf ((call N t q) .answer))) (seenAfter N (next N t q) qs)
-      ∙ ap (Quiet.ifRead (callOf (N .B) q) (λ a. seenIn (boxIn N (next N t q)) (wordOf ((call N t q) .answer)))) (same-seen (next N t q) qs)
-      ∙ ap₂ {C = List (Compared (Fixed 32))} (λ b v. Quiet.ifRead (callOf (N .B) q) (λ a. seenIn b v) (traceOf H N b es)) (next-box t q) (word-is t q)
+      ap (ifRead (callOf (N .B) q) (λ a. seenIn (boxIn N (next N t q)) (wordOf ((call N t q) .answer)))) (same-seen (next N t q) qs)
+      ∙ ap₂ {C = List (Compared (Fixed 32))} (λ b v. ifRead (callOf (N .B) q) (λ a. seenIn b v) (traceOf H N b es)) (next-box t q) (word-is t q)
 
-  no-write : (q : Ask) → NoWrite q → Quiet.NoWrite (callOf (N .B) q)
-  unfolding callOf
-  no-write (Ask.read a l) w = tt
-  no-write (Ask.look a) w = tt
-  no-write (Ask.through a l) w = w
-  no-write (Ask.back a l) w = w
-  no-write (Ask.invalidate a l) w = w
-  no-write Ask.flush w = tt
-
-  no-writes : (t : Lent) (qs : List Ask) → All NoWrite qs → All (λ e. Quiet.NoWrite (e .call)) (eventsOf N t qs)
+  no-writes : (t : Lent) (qs : List Ask) → All (λ q. NoWrite (callOf (N .B) q)) qs → All (λ e. NoWrite (e .call)) (eventsOf N t qs)
   unfolding eventsOf
   no-writes t [] w = tt
-  no-writes t (q ∷ qs) w = (no-write q (w .0), no-writes (next N t q) qs (w .1))
+  no-writes t (q ∷ qs) w = (w .0, no-writes (next N t q) qs (w .1))
 
   -- "Fresh: n = 0, counters and address rows zero, block rows free with slots 0 to d − 1 in order; flash and disk keep their bytes."
   module _ (t : Lent) (opens : refusal N t opening ≡ 0) where
@@ -254,7 +235,7 @@ module _ (N : Numbers) where
           throughout (λ s plain. Sound H N s) (opened N t) first qs
           (from-fresh (λ b p. Events.Throughout H N (λ s plain. Sound H N s) b p es) (laws .sound))
 
-      printed-reads : All NoWrite qs
+      printed-reads : All (λ q. NoWrite (callOf (N .B) q)) qs
           → traceOf H N (Paper.fresh (N .d) flash disk) es ≡ printedTrace (H .same) (N .m) (N .d) (contentOf H disk) (record { addresses = []; fingerprints = [] }) (Quiet.readsOf es)
       unfolding es flash disk
       printed-reads w =

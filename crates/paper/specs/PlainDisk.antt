@@ -164,7 +164,7 @@ module _ {F X : Type 0} (H : Hashing F X) (In : X → Type 0) (only : (b c : X) 
 
   pub faithful-serve : (N : Numbers) (plain : List X) (s : Box F X) (c : Call X) → Sound H N s → Faithful H In (N .P) plain s → 1 ≤ N .m → 1 ≤ N .d → Within (N .P) c → WritesIn H In c
       → Faithful H In (N .P) (plainNext plain c) ((serve H N s c) .box) × ((serve H N s c) .block ≡ plainBlock (H .blank) plain c)
-  unfolding serve writeThrough writeBack answer plainNext plainBlock writtenBy flushed writeInvalidate
+  unfolding serve writeThrough writeBack answer flushed writeInvalidate
   faithful-serve N plain s (read a) h f m1 d1 w i = faithful-readAs N plain s a (rowWithBlock H s a) refl h f m1 d1 w
   faithful-serve N plain s (look a) h f m1 d1 w i = faithful-lookAs N plain s a (rowWithBlock H s a) refl h f
   faithful-serve N plain s (through a b) h f m1 d1 w i =

@@ -2,34 +2,17 @@
 use mathlib.Core.Path.{_≡_, refl, sym, ap, _∙_, subst}
 use mathlib.Core.Bool.{Bool, true, false, cond}
 use mathlib.Core.List.{List, [], _∷_}
-use mathlib.Core.Option.{Option, none, some}
+use mathlib.Core.Option.{Option, none, some, Option·some-ne-none}
 use mathlib.Core.Logic.{inl}
 use Prim.Native.Nat.{ℕ, _≤_, _<_}
 use lib.ListN.{length}
 use Rattle.paper.specs.Cache.{Numbers, Hashing, AddressRow, Box, Call, read, through, back, invalidate, look, flush, Within, serve, fresh, lookAs, flushed, rowWithBlock}
 use Rattle.paper.specs.KeyedLaws.{All, by-test}
-use Rattle.paper.specs.Machines.{contentOf, Read, Compared, seenIn, printedTrace}
+use Rattle.paper.specs.Machines.{contentOf, NoWrite, Read, Compared, ifRead, seenIn, printedTrace}
 use Rattle.paper.specs.Events.{Event, cacheTrace}
 use Rattle.paper.specs.Sound.{Sound, sound-serve, sound-fresh}
 use Rattle.paper.specs.PlainDisk.{ServedWithin}
 use Rattle.paper.specs.Printed.{ReadInv, read-printed, printed-law, cleaned-clean, copied-clean}
-
-abbrev pub NoWrite : {X : Type 0} → Call X → Type 0
-NoWrite (read a) = Unit {0}
-NoWrite (look a) = Unit {0}
-NoWrite flush = Unit {0}
-NoWrite (through a b) = ⊥
-NoWrite (back a b) = ⊥
-NoWrite (invalidate a b) = ⊥
-
--- what a read puts into a list, and no other call does
-abbrev pub ifRead : {X A : Type 0} → Call X → (ℕ → A) → List A → List A
-ifRead (read a) f l = f a ∷ l
-ifRead (look a) f l = l
-ifRead flush f l = l
-ifRead (through a b) f l = l
-ifRead (back a b) f l = l
-ifRead (invalidate a b) f l = l
 
 abbrev pub readsOf : {X : Type 0} → List (Event X) → List Read
 readsOf [] = []
@@ -74,9 +57,9 @@ module _ {F X : Type 0} (H : Hashing F X) where
         (ih ((serve H N s (read a)) .box) (sound-serve H N s (read a) h m1 d1 (w e)) ((read-printed H disk N s a h v m1 d1) .2))))
     quiet-call (look a) r es s n w h v ih = by-test r (λ e. rw e (ih s h v)) (λ e. rw e (subst (λ x. traceOf H N x es ≡ cacheTrace H N s (readsOf es)) (sym (look-same N s a)) (ih s h v)))
     quiet-call flush r es s n w h v ih = by-test r (λ e. rw e (ih s h v)) (λ e. rw e (subst (λ x. traceOf H N x es ≡ cacheTrace H N s (readsOf es)) (sym (flush-same N disk s v)) (ih s h v)))
-    quiet-call (through a b) r es s n w h v ih = absurd n
-    quiet-call (back a b) r es s n w h v ih = absurd n
-    quiet-call (invalidate a b) r es s n w h v ih = absurd n
+    quiet-call (through a b) r es s n w h v ih = absurd (Option·some-ne-none b n)
+    quiet-call (back a b) r es s n w h v ih = absurd (Option·some-ne-none b n)
+    quiet-call (invalidate a b) r es s n w h v ih = absurd (Option·some-ne-none b n)
 
     quiet : (es : List (Event X)) → All (λ e. NoWrite (e .call)) es → All (ServedWithin (N .P)) es → Same es
     unfolding traceOf cacheTrace

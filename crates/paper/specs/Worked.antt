@@ -9,7 +9,7 @@ use lib.Dec.{eqb}
 use lib.ListN.{replicate}
 use Rattle.tables.specs.Records.{slotsFrom}
 use Rattle.paper.specs.KeyedLaws.{eqb→≡, eqb-self}
-use Rattle.paper.specs.Cache.{Numbers, Hashing, AddressRow, Box, Outcome, newest, Call, read, through, back, invalidate, look, flush, Word, hit, miss, sameBlock, newBlock, fromCache, fromDisk, done, fresh, serve, Counters, noCounts, counted}
+use Rattle.paper.specs.Cache.{Numbers, Hashing, AddressRow, Box, Outcome, newest, Call, about, read, through, back, invalidate, look, flush, Word, hit, miss, sameBlock, newBlock, fromCache, fromDisk, done, fresh, serve, Counters, noCounts, counted}
 use Rattle.paper.specs.Cache.{step, step1, step3, step4, oldestOut, freed, oldestUnknown, victim, takenUsed, taken, stored, ifCached, answer, readAs, writeThrough, writeBack, dropped, writeInvalidate, lookAs, flushed}
 
 abbrev pub labels : Hashing ℕ ℕ
@@ -366,17 +366,9 @@ letter (through a b) = T
 letter (back a b) = B
 letter (invalidate a b) = I
 
-abbrev address : Call ℕ → Option ℕ
-address (read a) = some a
-address (look a) = some a
-address flush = none
-address (through a b) = some a
-address (back a b) = some a
-address (invalidate a b) = some a
-
 abbrev prints : ℕ → List Said → Counters → List Printed
 prints i [] k = counts (k .reads) (k .hits) (k .flashWrites) (k .primaryWrites) ∷ []
-prints i (x ∷ xs) k = line i (letter (x .call)) (address (x .call)) (x .word) (x .flashWrites) (x .primaryWrites) ∷ prints (suc i) xs k
+prints i (x ∷ xs) k = line i (letter (x .call)) (about (x .call) .address) (x .word) (x .flashWrites) (x .primaryWrites) ∷ prints (suc i) xs k
 
 abbrev output : State → List Printed
 output t = prints 1 (t .said) (t .counters)
