@@ -241,6 +241,11 @@ about (invalidate a b) = record { address = some a; written = some b; reads = fa
 about (look a) = record { address = some a; written = none; reads = false; returns = true; counts = false }
 about flush = record { address = none; written = none; reads = false; returns = false; counts = true }
 
+-- what is there, if anything, before a list
+abbrev pub before : {A : Type 0} → Option A → List A → List A
+before none xs = xs
+before (some x) xs = x ∷ xs
+
 -- its address, if it has one, is one of the disk's
 abbrev pub Below : ℕ → Option ℕ → Type 0
 Below P none = Unit {0}

@@ -12,7 +12,8 @@ use Rattle.tables.specs.Unsound.{elem}
 use Rattle.paper.specs.Cache.{Numbers, Box, About, about, Below, flushed, Outcome, Within, Counters, counted, serve, oneIf, isRead, isHit}
 use Rattle.paper.specs.KeyedLaws.{All, clash, by-test, or-false-left, or-false-right, and-left, and-right}
 use Rattle.paper.specs.Engine.{Fixed, fit, engine}
-use Rattle.paper.specs.Lent.{Lent, Ask, calling, callOf, aboutAsk, addressOf, lentBlock, between, unfit, wrongBuffers, wrongBlock, outside, over, counts, refusal, served, call, boxIn, lentOf}
+use Rattle.paper.specs.Lent.{Lent, Ask, calling, callOf, aboutAsk, addressOf, lentBlock, between, unfit, wrongBuffers, wrongBlock, outside, over, counts}
+use Rattle.paper.specs.Lent.{refusal, served, call, boxIn, lentOf}
 use Rattle.paper.specs.Sound.{Sound, all-cleaned, sound-serve}
 use Rattle.paper.specs.Quiet.{look-same}
 use Rattle.paper.specs.RowBytes.{Bytes}
@@ -230,7 +231,8 @@ look-keeps N t a bytesA bytesB =
     (λ y.
     let e = eqb-true (refusal N t (calling q)) 0 y in
     let p = (served-finds N t q e) .passes in
-    served-lent N t q e ∙ ap₂ {C = Lent} (lentOf N) (look-same (engine (N .B)) N (boxIn N t) a) (look-counted N t a) ∙ lent-forth N t (p .lengths) bytesA bytesB (p .addresses) (p .blocks))
+    served-lent N t q e ∙ ap₂ {C = Lent} (lentOf N) (look-same (engine (N .B)) N (boxIn N t) a) (look-counted N t a)
+    ∙ lent-forth N t (p .lengths) bytesA bytesB (p .addresses) (p .blocks))
     (λ y. keeps N t q (eqb-false (refusal N t (calling q)) 0 y) .lent)
 
 -- after a flush that is not refused no row is dirty

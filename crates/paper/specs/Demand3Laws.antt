@@ -12,9 +12,12 @@ use Rattle.paper.specs.Cache as Paper
 use Rattle.paper.specs.Cache.{Numbers, Hashing, Box, noCounts}
 use Rattle.paper.specs.KeyedLaws.{All, by-test, clash}
 use Rattle.paper.specs.Engine.{Fixed, engine}
-use Rattle.paper.specs.Lent.{Lent, Ask, opening, calling, callOf, lentBlock, addressOf, wrongBuffers, wrongBlock, outside, counts, over, unfit, refusal, served, call, boxIn, lentOf, join, split, fresh, opened, blockAfter, partAfter}
-use Rattle.paper.specs.Machines.{plainNext, plainBlock, writtenBy, NoWrite, Compared, ifRead, seenIn, printedTrace, contentOf, OrphanLaw, TrueFingerprints, NoTwoShare}
-use Rattle.paper.specs.Demand3.{next, plainStep, Throughout, EachServed, ServedOr239, refusals, written, ShowsPlain, FlushesWhole, readsOf, wordOf, seenAfter, Demand3}
+use Rattle.paper.specs.Lent.{Lent, Ask, opening, calling, callOf, lentBlock, addressOf, wrongBuffers, wrongBlock, outside, counts, over, unfit, refusal}
+use Rattle.paper.specs.Lent.{served, call, boxIn, lentOf, join, split, fresh, opened, blockAfter, partAfter}
+use Rattle.paper.specs.Machines.{plainNext, plainBlock, writtenBy, NoWrite, Compared, ifRead, seenIn, printedTrace, contentOf, OrphanLaw}
+use Rattle.paper.specs.Machines.{TrueFingerprints, NoTwoShare}
+use Rattle.paper.specs.Demand3.{next, plainStep, Throughout, EachServed, ServedOr239, refusals, written, ShowsPlain, FlushesWhole, readsOf, wordOf}
+use Rattle.paper.specs.Demand3.{seenAfter, Demand3}
 use Rattle.paper.specs.Events as Events
 use Rattle.paper.specs.Events.{Event, boxBlocks, plainBlocks}
 use Rattle.paper.specs.Sound.{Sound, sound-fresh}
@@ -77,8 +80,11 @@ module _ (N : Numbers) where
       → Events.Throughout H N Q (boxIn N t) plain (eventsOf N t qs) → Throughout N (λ x p. Q (boxIn N x) p) t plain qs
   unfolding Throughout Events.Throughout eventsOf
   throughout Q t plain [] h = h
-  throughout Q t plain (q ∷ qs) h =
-      (h .0, throughout Q (next N t q) (plainStep N t plain q) qs (subst₂ (λ b p. Events.Throughout H N Q b p (eventsOf N (next N t q) qs)) (sym (next-box t q)) (sym (next-plain t plain q)) (h .1)))
+  throughout Q t plain (q ∷ qs) h = (
+    h .0,
+    throughout Q (next N t q) (plainStep N t plain q) qs
+        (subst₂ (λ b p. Events.Throughout H N Q b p (eventsOf N (next N t q) qs)) (sym (next-box t q)) (sym (next-plain t plain q)) (h .1)),
+  )
 
   -- the blocks written
   same-written : (t : Lent) (qs : List Ask) → written N t qs ≡ Events.written (eventsOf N t qs)
@@ -103,12 +109,14 @@ module _ (N : Numbers) where
   numbers-are t (q ∷ qs) u p = (number-is t q u p, numbers-are (next N t q) qs u (next-passes t q p))
 
   -- the flushes
-  flushes-whole : (t : Lent) (plain : List (Fixed (N .B))) (qs : List Ask) → Events.FlushesWhole H N (boxIn N t) plain (eventsOf N t qs) → EachServed N (FlushesWhole N) t plain qs
+  flushes-whole : (t : Lent) (plain : List (Fixed (N .B))) (qs : List Ask) → Events.FlushesWhole H N (boxIn N t) plain (eventsOf N t qs)
+      → EachServed N (FlushesWhole N) t plain qs
   unfolding EachServed Events.FlushesWhole eventsOf callOf lentOf
   flushes-whole t plain [] h = tt
   flushes-whole t plain (q ∷ qs) h = (
     (λ z f. ap (λ x. x .disk) (served-lent N t q z) ∙ ap join (h .0 (rw z refl) (ap (callOf (N .B)) f))),
-    flushes-whole (next N t q) (plainStep N t plain q) qs (subst₂ (λ b p. Events.FlushesWhole H N b p (eventsOf N (next N t q) qs)) (sym (next-box t q)) (sym (next-plain t plain q)) (h .1)),
+    flushes-whole (next N t q) (plainStep N t plain q) qs
+        (subst₂ (λ b p. Events.FlushesWhole H N b p (eventsOf N (next N t q) qs)) (sym (next-box t q)) (sym (next-plain t plain q)) (h .1)),
   )
 
   -- the blocks returned
@@ -122,7 +130,8 @@ module _ (N : Numbers) where
   shows t plain (Ask.invalidate a l) z e = refl
   shows t plain Ask.flush z e = refl
 
-  blocks-shown : (t : Lent) (plain : List (Fixed (N .B))) (qs : List Ask) → boxBlocks H N (boxIn N t) (eventsOf N t qs) ≡ plainBlocks (H .blank) plain (eventsOf N t qs) → EachServed N (ShowsPlain N) t plain qs
+  blocks-shown : (t : Lent) (plain : List (Fixed (N .B))) (qs : List Ask)
+      → boxBlocks H N (boxIn N t) (eventsOf N t qs) ≡ plainBlocks (H .blank) plain (eventsOf N t qs) → EachServed N (ShowsPlain N) t plain qs
   unfolding EachServed boxBlocks plainBlocks eventsOf
   blocks-shown t plain [] = λ h. tt
   blocks-shown t plain (q ∷ qs) =
@@ -133,7 +142,9 @@ module _ (N : Numbers) where
       let e = eqb-true (refusal N t (calling q)) 0 y in (
         (λ z. shows t plain q z (head-≡ h)),
         blocks-shown (next N t q) (plainNext plain c) qs
-            (subst (λ b. boxBlocks H N b es ≡ plainBlocks (H .blank) (plainNext plain c) es) (sym (served-box N t q e)) (tail-≡ ((outcome N t q) .block) (plainBlock (H .blank) plain c) (boxBlocks H N ((outcome N t q) .box) es) (plainBlocks (H .blank) (plainNext plain c) es) h)),
+            (subst (λ b. boxBlocks H N b es ≡ plainBlocks (H .blank) (plainNext plain c) es) (sym (served-box N t q e))
+            (tail-≡ ((outcome N t q) .block) (plainBlock (H .blank) plain c) (boxBlocks H N ((outcome N t q) .box) es)
+            (plainBlocks (H .blank) (plainNext plain c) es) h)),
       )))
       (λ y. rw y (λ h. (
         (λ z. clash (ap (λ k. eqb k 0) z) y),
@@ -214,7 +225,8 @@ module _ (N : Numbers) where
       unfolding es flash disk
       laws =
           let f = fits N fits-numbers in
-          on-events H N flash disk es (f .m-least) (f .d-least) (length-split (N .B) (N .d) (t .flash)) (length-split (N .B) (N .P) (t .disk)) (events-within (opened N t) qs)
+          on-events H N flash disk es (f .m-least) (f .d-least) (length-split (N .B) (N .d) (t .flash)) (length-split (N .B) (N .P) (t .disk))
+          (events-within (opened N t) qs)
 
       first : List (Fixed (N .B))
       first = split (N .B) (N .P) ((opened N t) .disk)
@@ -236,22 +248,29 @@ module _ (N : Numbers) where
           (from-fresh (λ b p. Events.Throughout H N (λ s plain. Sound H N s) b p es) (laws .sound))
 
       printed-reads : All (λ q. NoWrite (callOf (N .B) q)) qs
-          → traceOf H N (Paper.fresh (N .d) flash disk) es ≡ printedTrace (H .same) (N .m) (N .d) (contentOf H disk) (record { addresses = []; fingerprints = [] }) (Quiet.readsOf es)
+          → traceOf H N (Paper.fresh (N .d) flash disk) es
+          ≡ printedTrace (H .same) (N .m) (N .d) (contentOf H disk) (record { addresses = []; fingerprints = [] }) (Quiet.readsOf es)
       unfolding es flash disk
       printed-reads w =
           let f = fits N fits-numbers in
-          printed-quiet H disk N (f .m-least) (f .d-least) flash es (length-split (N .B) (N .d) (t .flash)) (length-split (N .B) (N .P) (t .disk)) (no-writes (opened N t) qs w) (events-within (opened N t) qs)
+          printed-quiet H disk N (f .m-least) (f .d-least) flash es (length-split (N .B) (N .d) (t .flash)) (length-split (N .B) (N .P) (t .disk))
+          (no-writes (opened N t) qs w) (events-within (opened N t) qs)
 
       demand-3-from : Demand3 N (opened N t) qs
       unfolding es first
       demand-3-from =
           record {
             numbers = numbers-are (opened N t) qs fits-numbers fresh-passes;
-            orphans = throughout (λ s plain. OrphanLaw H s) (opened N t) first qs (from-fresh (λ b p. Events.Throughout H N (λ s plain. OrphanLaw H s) b p es) (laws .orphans));
-            fingerprints = λ only. throughout (TrueFingerprints H) (opened N t) first qs (from-fresh (λ b p. Events.Throughout H N (TrueFingerprints H) b p es) (laws .fingerprints (premise only)));
-            blocks = λ only. blocks-shown (opened N t) first qs (from-fresh (λ b p. boxBlocks H N b es ≡ plainBlocks (H .blank) p es) (laws .blocks (premise only)));
+            orphans = throughout (λ s plain. OrphanLaw H s) (opened N t) first qs
+                (from-fresh (λ b p. Events.Throughout H N (λ s plain. OrphanLaw H s) b p es) (laws .orphans));
+            fingerprints = λ only. throughout (TrueFingerprints H) (opened N t) first qs
+                (from-fresh (λ b p. Events.Throughout H N (TrueFingerprints H) b p es) (laws .fingerprints (premise only)));
+            blocks = λ only. blocks-shown (opened N t) first qs
+                (from-fresh (λ b p. boxBlocks H N b es ≡ plainBlocks (H .blank) p es) (laws .blocks (premise only)));
             flushes = λ only. flushes-whole (opened N t) first qs (from-fresh (λ b p. Events.FlushesWhole H N b p es) (laws .flushes (premise only)));
-            printed = λ w. same-seen (opened N t) qs ∙ from-fresh (λ b p. traceOf H N b es ≡ printedTrace (H .same) (N .m) (N .d) (contentOf H p) (record { addresses = []; fingerprints = [] }) (Quiet.readsOf es)) (printed-reads w)
+            printed = λ w. same-seen (opened N t) qs
+                ∙ from-fresh (λ b p. traceOf H N b es
+                ≡ printedTrace (H .same) (N .m) (N .d) (contentOf H p) (record { addresses = []; fingerprints = [] }) (Quiet.readsOf es)) (printed-reads w)
                 ∙ ap (printedTrace (H .same) (N .m) (N .d) (contentOf H first) (record { addresses = []; fingerprints = [] })) (sym (same-reads (opened N t) qs));
           }
 

@@ -4,7 +4,6 @@ use mathlib.Core.Path.{_≡_}
 use mathlib.Core.Bool.{Bool, false, cond}
 use mathlib.Core.List.{List, [], _∷_, _++_}
 use mathlib.Core.Option.{Option, none, some}
-use Prim.Native.Nat.{ℕ}
 use Rattle.paper.specs.Cache.{Numbers, Hashing, Box, Call, read, flush, serve}
 use Rattle.paper.specs.Machines.{plainNext, plainBlock, writtenBy, Read, Compared, seenIn}
 
@@ -45,4 +44,5 @@ cacheTrace H N s [] = []
 cacheTrace H N s (e ∷ es) =
     cond (e .refused)
     (seenIn s none ∷ cacheTrace H N s es)
-    (seenIn ((serve H N s (read (e .address))) .box) (some ((serve H N s (read (e .address))) .word)) ∷ cacheTrace H N ((serve H N s (read (e .address))) .box) es)
+    (seenIn ((serve H N s (read (e .address))) .box) (some ((serve H N s (read (e .address))) .word))
+    ∷ cacheTrace H N ((serve H N s (read (e .address))) .box) es)

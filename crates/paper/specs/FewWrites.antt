@@ -6,7 +6,9 @@ use mathlib.Core.Option.{Option, none, some}
 use Prim.Native.Nat.{ℕ, _≤_, _<_, _+_}
 use native.Mathlib.Omega.{arith}
 use lib.ListN.{length, getD}
-use Rattle.paper.specs.Cache.{Numbers, Hashing, AddressRow, Box, BlockRows, Stepped, Request, Outcome, Word, newest, copies, isLost, step, step1, step3, step4, stored, Call, read, through, back, invalidate, look, flush, onDisk, rowWithBlock, answer, readAs, writeThrough, writeBack, writeInvalidate, lookAs, flushed, serve, oneIf, isHit, sameOrNew, blockOf, hit, miss}
+use Rattle.paper.specs.Cache.{Numbers, Hashing, AddressRow, Box, BlockRows, Stepped, Request, Outcome, Word, newest, copies, isLost, step, step1, step3}
+use Rattle.paper.specs.Cache.{step4, stored, Call, read, through, back, invalidate, look, flush, onDisk, rowWithBlock, answer, readAs, writeThrough}
+use Rattle.paper.specs.Cache.{writeBack, writeInvalidate, lookAs, flushed, serve, oneIf, isHit, sameOrNew, blockOf, hit, miss}
 use Rattle.paper.specs.KeyedLaws.{by-test}
 use Rattle.paper.specs.Cases.{by-step1, by-step4}
 use Rattle.paper.specs.Sound.{Sound, sound-step1, sound-onDisk}
@@ -79,7 +81,8 @@ module _ {F X : Type 0} (H : Hashing F X) where
           answer-few miss (some b) 0 (N .m + 0) (N .m + 1) (step H (N .m) s q) (step-few N s q h m1) (omega arith)
   serve-few N s (through a b) h m1 =
       let q : Request F X = record { address = a; fingerprint = H .hash b; block = b; dirty = false } in
-      answer-few (sameOrNew H s b) none 1 (N .m + 0) (N .m + 1) (step H (N .m) (onDisk H s a b) q) (step-few N (onDisk H s a b) q (sound-onDisk H N s a b h) m1) (omega arith)
+      answer-few (sameOrNew H s b) none 1 (N .m + 0) (N .m + 1) (step H (N .m) (onDisk H s a b) q)
+      (step-few N (onDisk H s a b) q (sound-onDisk H N s a b h) m1) (omega arith)
   serve-few N s (back a b) h m1 =
       let q : Request F X = record { address = a; fingerprint = H .hash b; block = b; dirty = true } in
       answer-few (sameOrNew H s b) none 0 (N .m + 1) (N .m + 1) (step H (N .m) s q) (step-few N s q h m1) (omega arith)
@@ -92,7 +95,8 @@ module _ {F X : Type 0} (H : Hashing F X) where
   serve-few N s flush h m1 = let few = h .few in (omega arith, omega (arith, copies-le (λ f. true) (s .rows)))
 
   -- a look adds nothing
-  pub look-nothing : (N : Numbers) (s : Box F X) (a : ℕ) → let o = serve H N s (look a) in (isHit (o .word) ≡ false) × (o .flashWrites ≡ 0) × (o .primaryWrites ≡ 0)
+  pub look-nothing : (N : Numbers) (s : Box F X) (a : ℕ)
+      → let o = serve H N s (look a) in (isHit (o .word) ≡ false) × (o .flashWrites ≡ 0) × (o .primaryWrites ≡ 0)
   unfolding serve lookAs
   look-nothing N s a = go (rowWithBlock H s a)
     where

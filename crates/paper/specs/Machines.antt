@@ -9,7 +9,7 @@ use lib.Dec.{eqb}
 use lib.ListN.{length, getD, set, drop}
 use Rattle.paper.specs.Keyed.{has, without}
 use Rattle.paper.specs.KeyedLaws.{All}
-use Rattle.paper.specs.Cache.{Hashing, AddressRow, BlockRow, Box, Call, about, Word, hit, miss, someUncached, known}
+use Rattle.paper.specs.Cache.{Hashing, AddressRow, BlockRow, Box, Call, about, before, Word, hit, miss, someUncached, known}
 
 -- Plain disk: "Each write replaces block a by the block lent to it. A flush does nothing"
 abbrev pub replaced : {X : Type 0} → List X → Option ℕ → Option X → List X
@@ -45,10 +45,6 @@ unfoldable pub printedHit : {F : Type 0} (same : F → F → Bool) (content : �
 printedHit same content p a = has eqb (λ x. x) a (p .addresses) && has same (λ x. x) (content a) (p .fingerprints)
 
 -- "the blocks written are those lent to writes"
-abbrev pub before : {A : Type 0} → Option A → List A → List A
-before none xs = xs
-before (some x) xs = x ∷ xs
-
 abbrev pub writtenBy : {X : Type 0} → Call X → List X
 writtenBy c = before (about c .written) []
 

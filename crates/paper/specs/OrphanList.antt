@@ -7,7 +7,9 @@ use mathlib.Core.Option.{Option, none, some, Option·map, Option·none-ne-some, 
 use Prim.Native.Nat.{ℕ, _≤_}
 use lib.Dec.{eqb}
 use lib.ListN.{length, getD}
-use Rattle.paper.specs.Cache.{Numbers, Hashing, AddressRow, BlockRow, Box, BlockRows, rowOf, withoutAddress, known, cached, blockOf, cleaned, someUncached, Call, read, through, back, invalidate, look, flush, onDisk, rowWithBlock, answer, readAs, writeThrough, writeBack, dropped, writeInvalidate, lookAs, flushed, serve, fresh, freed}
+use Rattle.paper.specs.Cache.{Numbers, Hashing, AddressRow, BlockRow, Box, BlockRows, rowOf, withoutAddress, known, cached, blockOf, cleaned}
+use Rattle.paper.specs.Cache.{someUncached, Call, read, through, back, invalidate, look, flush, onDisk, rowWithBlock, answer, readAs, writeThrough}
+use Rattle.paper.specs.Cache.{writeBack, dropped, writeInvalidate, lookAs, flushed, serve, fresh, freed}
 use Rattle.paper.specs.KeyedLaws.{by-test, either, clash, or-left, or-right, or-both, eqb→≡, eqb-self, All, Distinct, has-without-other, has-without, has-without-self, lost-with}
 use Rattle.paper.specs.Machines.{someUnknown, OrphanLaw, plainNext}
 use Rattle.paper.specs.Events.{Event, Throughout}
@@ -61,7 +63,8 @@ module _ {F X : Type 0} (H : Hashing F X) where
   noWaste-flushed c rows used (inl l) = inl (λ f h. l f (sym (known-cleaned H c f rows) ∙ h))
   noWaste-flushed c rows used (inr l) = inr (λ f h. known-cleaned H c f rows ∙ l f h)
 
-  pub noWaste-serve : (N : Numbers) (s : Box F X) (c : Call X) → Distinct eqb (λ r. r .address) (s .rows) → NoWaste H (s .rows) (s .used) → NoWaste H ((serve H N s c) .box .rows) ((serve H N s c) .box .used)
+  pub noWaste-serve : (N : Numbers) (s : Box F X) (c : Call X) → Distinct eqb (λ r. r .address) (s .rows) → NoWaste H (s .rows) (s .used)
+      → NoWaste H ((serve H N s c) .box .rows) ((serve H N s c) .box .used)
   unfolding serve writeThrough writeBack answer flushed
   noWaste-serve N s (read a) d l = noWaste-readAs (N .m) s a (rowWithBlock H s a) d l
   noWaste-serve N s (look a) d l = noWaste-lookAs s a (rowWithBlock H s a) l

@@ -8,7 +8,9 @@ use Prim.Native.Nat.{ℕ, _≤_, _<_}
 use lib.Dec.{eqb}
 use lib.ListN.{set, length-set}
 use lib.Seq.{ext-getD}
-use Rattle.paper.specs.Cache.{Numbers, Hashing, AddressRow, BlockRow, Box, BlockRows, held, rowOf, withoutAddress, known, cached, blockOf, copied, Call, read, through, back, invalidate, look, flush, Within, onDisk, rowWithBlock, ifCached, answer, readAs, writeThrough, writeBack, dropped, writeInvalidate, lookAs, flushed, serve, freed}
+use Rattle.paper.specs.Cache.{Numbers, Hashing, AddressRow, BlockRow, Box, BlockRows, held, rowOf, withoutAddress, known, cached, blockOf, copied, Call}
+use Rattle.paper.specs.Cache.{read, through, back, invalidate, look, flush, Within, onDisk, rowWithBlock, ifCached, answer, readAs, writeThrough}
+use Rattle.paper.specs.Cache.{writeBack, dropped, writeInvalidate, lookAs, flushed, serve, freed}
 use Rattle.paper.specs.KeyedLaws.{by-test, either, clash, or-both, or-false-left, or-false-right, and-left, eqb→≡, eqb-swap, All, Distinct, all-left, all-right, all-map, all-without, all-both, find-some, find-none}
 use Rattle.paper.specs.Machines.{plainNext, plainBlock, writtenBy}
 use Rattle.paper.specs.Events.{Event, boxBlocks, plainBlocks, written, Throughout, FlushesWhole}
@@ -92,10 +94,13 @@ module _ {F X : Type 0} (H : Hashing F X) (In : X → Type 0) (only : (b c : X) 
       → blockOf H (r .fingerprint) (s .used) (s .flash) ≡ at H plain a
   hit-block N plain s a r h f e =
       let c = ifCached-some H (s .used) (rowOf a (s .rows)) r e in
-      let y = find-some eqb (λ r. r .address) (λ r. RowTrue H In plain r × (r .address < N .P)) a (s .rows) r (c .0) (all-both (RowTrue H In plain) (λ r. r .address < N .P) (s .rows) (f .rowsTrue) (h .below)) in
-      row-block H In only (N .P) plain (s .used) (s .flash) r (f .plainIn) (f .plainLength) (y .0 .1) (f .blocksTrue) (y .0 .0) (c .1) ∙ ap (at H plain) (sym (eqb→≡ a (r .address) (y .1)))
+      let y = find-some eqb (λ r. r .address) (λ r. RowTrue H In plain r × (r .address < N .P)) a (s .rows) r (c .0)
+      (all-both (RowTrue H In plain) (λ r. r .address < N .P) (s .rows) (f .rowsTrue) (h .below)) in
+      row-block H In only (N .P) plain (s .used) (s .flash) r (f .plainIn) (f .plainLength) (y .0 .1) (f .blocksTrue) (y .0 .0) (c .1)
+      ∙ ap (at H plain) (sym (eqb→≡ a (r .address) (y .1)))
 
-  faithful-readAs : (N : Numbers) (plain : List X) (s : Box F X) (a : ℕ) (o : Option (AddressRow F)) → rowWithBlock H s a ≡ o → Sound H N s → Faithful H In (N .P) plain s → 1 ≤ N .m → 1 ≤ N .d → a < N .P
+  faithful-readAs : (N : Numbers) (plain : List X) (s : Box F X) (a : ℕ) (o : Option (AddressRow F)) → rowWithBlock H s a ≡ o → Sound H N s
+      → Faithful H In (N .P) plain s → 1 ≤ N .m → 1 ≤ N .d → a < N .P
       → Faithful H In (N .P) plain ((readAs H (N .m) s a o) .box) × ((readAs H (N .m) s a o) .block ≡ some (at H plain a))
   unfolding readAs answer
   faithful-readAs N plain s a (some r) e h f m1 d1 w =
@@ -104,7 +109,8 @@ module _ {F X : Type 0} (H : Hashing F X) (In : X → Type 0) (only : (b c : X) 
       let c = ifCached-some H (s .used) (rowOf a (s .rows)) r e in
       let y = find-some eqb (λ r. r .address) (RowTrue H In plain) a (s .rows) r (c .0) (f .rowsTrue) in
       let pin : In (at H plain a) = all-at In plain a (H .blank) (f .plainIn) (subst (λ n. a < n) (sym (f .plainLength)) w) in (
-        faithful-step H In only N plain s (record { address = a; fingerprint = r .fingerprint; block = b; dirty = r .dirty }) h (but H In a (N .P) plain s f) m1 d1 w
+        faithful-step H In only N plain s (record { address = a; fingerprint = r .fingerprint; block = b; dirty = r .dirty }) h
+            (but H In a (N .P) plain s f) m1 d1 w
             (y .0 ∙ ap (H .hash) (ap (at H plain) (sym (eqb→≡ a (r .address) (y .1))) ∙ sym be)) (subst In (sym be) pin) be
             (λ k. f .current a (row-clean H a (s .rows) r (h .addresses) (c .0) k)),
         ap {B = Option X} some be,
@@ -113,11 +119,13 @@ module _ {F X : Type 0} (H : Hashing F X) (In : X → Type 0) (only : (b c : X) 
       let b = at H (s .disk) a in
       let be : b ≡ at H plain a = f .current a (miss-clean H N s a h e) in
       let pin : In (at H plain a) = all-at In plain a (H .blank) (f .plainIn) (subst (λ n. a < n) (sym (f .plainLength)) w) in (
-        faithful-step H In only N plain s (record { address = a; fingerprint = H .hash b; block = b; dirty = false }) h (but H In a (N .P) plain s f) m1 d1 w refl (subst In (sym be) pin) be (λ k. be),
+        faithful-step H In only N plain s (record { address = a; fingerprint = H .hash b; block = b; dirty = false }) h
+            (but H In a (N .P) plain s f) m1 d1 w refl (subst In (sym be) pin) be (λ k. be),
         ap {B = Option X} some be,
       )
 
-  faithful-lookAs : (N : Numbers) (plain : List X) (s : Box F X) (a : ℕ) (o : Option (AddressRow F)) → rowWithBlock H s a ≡ o → Sound H N s → Faithful H In (N .P) plain s
+  faithful-lookAs : (N : Numbers) (plain : List X) (s : Box F X) (a : ℕ) (o : Option (AddressRow F)) → rowWithBlock H s a ≡ o → Sound H N s
+      → Faithful H In (N .P) plain s
       → Faithful H In (N .P) plain ((lookAs H s a o) .box) × ((lookAs H s a o) .block ≡ some (at H plain a))
   unfolding lookAs
   faithful-lookAs N plain s a (some r) e h f = (f, ap {B = Option X} some (hit-block N plain s a r h f e))
@@ -131,7 +139,8 @@ module _ {F X : Type 0} (H : Hashing F X) (In : X → Type 0) (only : (b c : X) 
       (λ e. rw e (all-without (H .same) (λ u. u .fingerprint) (BlockTrue H In flash) (r .fingerprint) (b .used) h))
       (λ e. rw e h)
 
-  faithful-invalidate : (N : Numbers) (plain : List X) (s : Box F X) (a : ℕ) (b : X) → Sound H N s → Faithful H In (N .P) plain s → In b → a < N .P → Faithful H In (N .P) (set plain a b) ((writeInvalidate H s a b) .box)
+  faithful-invalidate : (N : Numbers) (plain : List X) (s : Box F X) (a : ℕ) (b : X) → Sound H N s → Faithful H In (N .P) plain s → In b → a < N .P
+      → Faithful H In (N .P) (set plain a b) ((writeInvalidate H s a b) .box)
   unfolding writeInvalidate
   faithful-invalidate N plain s a b h f bi w =
       record {
@@ -147,12 +156,18 @@ module _ {F X : Type 0} (H : Hashing F X) (In : X → Type 0) (only : (b c : X) 
             at-set-other H (s .disk) a x b n′ ∙ f .current x (dirty-without H a x (s .rows) n dy) ∙ sym (at-set-other H plain a x b n′));
       }
 
-  flushed-at : (N : Numbers) (plain : List X) (s : Box F X) → Sound H N s → Faithful H In (N .P) plain s → (x : ℕ) → at H (copied H any (s .rows) (s .used) (s .flash) (s .disk)) x ≡ at H plain x
+  flushed-at : (N : Numbers) (plain : List X) (s : Box F X) → Sound H N s → Faithful H In (N .P) plain s → (x : ℕ)
+      → at H (copied H any (s .rows) (s .used) (s .flash) (s .disk)) x ≡ at H plain x
   flushed-at N plain s h f x =
       copied-good H any (s .rows) (s .used) (s .flash) (s .disk) plain (N .P) x (h .diskLength)
       (all-map (λ r. (RowTrue H In plain r × (r .address < N .P)) × DirtyCached H (s .used) r) (CopyTrue H any (N .P) (s .used) (s .flash) plain)
-      (λ r y e. (row-block H In only (N .P) plain (s .used) (s .flash) r (f .plainIn) (f .plainLength) (y .0 .1) (f .blocksTrue) (y .0 .0) (y .1 (and-left (r .dirty) true e)), y .0 .1))
-      (s .rows) (all-both (λ r. RowTrue H In plain r × (r .address < N .P)) (DirtyCached H (s .used)) (s .rows) (all-both (RowTrue H In plain) (λ r. r .address < N .P) (s .rows) (f .rowsTrue) (h .below)) (h .dirtyCached)))
+      (λ r y e. (
+        row-block H In only (N .P) plain (s .used) (s .flash) r (f .plainIn) (f .plainLength) (y .0 .1) (f .blocksTrue) (y .0 .0)
+            (y .1 (and-left (r .dirty) true e)),
+        y .0 .1,
+      ))
+      (s .rows) (all-both (λ r. RowTrue H In plain r × (r .address < N .P)) (DirtyCached H (s .used)) (s .rows)
+      (all-both (RowTrue H In plain) (λ r. r .address < N .P) (s .rows) (f .rowsTrue) (h .below)) (h .dirtyCached)))
       (by-test (dirtyAt any x (s .rows)) (λ y. inr y) (λ y. inl (f .current x y)))
 
   -- after a flush the disk is the plain disk
@@ -160,9 +175,11 @@ module _ {F X : Type 0} (H : Hashing F X) (In : X → Type 0) (only : (b c : X) 
   unfolding serve flushed
   flush-whole N plain s h f =
       let l = length-copied H any (s .rows) (s .used) (s .flash) (s .disk) in
-      ext-getD (H .blank) (copied H any (s .rows) (s .used) (s .flash) (s .disk)) plain (l ∙ h .diskLength ∙ sym (f .plainLength)) (λ i k. flushed-at N plain s h f i)
+      ext-getD (H .blank) (copied H any (s .rows) (s .used) (s .flash) (s .disk)) plain (l ∙ h .diskLength ∙ sym (f .plainLength))
+      (λ i k. flushed-at N plain s h f i)
 
-  pub faithful-serve : (N : Numbers) (plain : List X) (s : Box F X) (c : Call X) → Sound H N s → Faithful H In (N .P) plain s → 1 ≤ N .m → 1 ≤ N .d → Within (N .P) c → WritesIn H In c
+  pub faithful-serve : (N : Numbers) (plain : List X) (s : Box F X) (c : Call X) → Sound H N s → Faithful H In (N .P) plain s → 1 ≤ N .m → 1 ≤ N .d
+      → Within (N .P) c → WritesIn H In c
       → Faithful H In (N .P) (plainNext plain c) ((serve H N s c) .box) × ((serve H N s c) .block ≡ plainBlock (H .blank) plain c)
   unfolding serve writeThrough writeBack answer flushed writeInvalidate
   faithful-serve N plain s (read a) h f m1 d1 w i = faithful-readAs N plain s a (rowWithBlock H s a) refl h f m1 d1 w
@@ -171,7 +188,8 @@ module _ {F X : Type 0} (H : Hashing F X) (In : X → Type 0) (only : (b c : X) 
       let dl = subst (λ n. a < n) (sym (h .diskLength)) w in
       let pl = subst (λ n. a < n) (sym (f .plainLength)) w in
       let bs = but-set H In a (N .P) b plain s f (i .0) in (
-        faithful-step H In only N (set plain a b) (onDisk H s a b) (record { address = a; fingerprint = H .hash b; block = b; dirty = false }) (sound-onDisk H N s a b h)
+        faithful-step H In only N (set plain a b) (onDisk H s a b) (record { address = a; fingerprint = H .hash b; block = b; dirty = false })
+            (sound-onDisk H N s a b h)
             (record {
               rowsTrue = bs .rowsTrue;
               blocksTrue = bs .blocksTrue;
@@ -184,7 +202,8 @@ module _ {F X : Type 0} (H : Hashing F X) (In : X → Type 0) (only : (b c : X) 
       )
   faithful-serve N plain s (back a b) h f m1 d1 w i =
       let pl = subst (λ n. a < n) (sym (f .plainLength)) w in (
-        faithful-step H In only N (set plain a b) s (record { address = a; fingerprint = H .hash b; block = b; dirty = true }) h (but-set H In a (N .P) b plain s f (i .0))
+        faithful-step H In only N (set plain a b) s (record { address = a; fingerprint = H .hash b; block = b; dirty = true }) h
+            (but-set H In a (N .P) b plain s f (i .0))
             m1 d1 w refl (i .0) (sym (at-set-same H plain a b pl)) (λ k. absurd (true≢false k)),
         refl,
       )
@@ -208,7 +227,8 @@ module _ {F X : Type 0} (H : Hashing F X) (In : X → Type 0) where
   abbrev pub Good : Numbers → Box F X → List X → Type 0
   Good N s plain = Sound H N s × Faithful H In (N .P) plain s
 
-module _ {F X : Type 0} (H : Hashing F X) (In : X → Type 0) (only : (b c : X) → In b → In c → H .hash b ≡ H .hash c → b ≡ c) (N : Numbers) (m1 : 1 ≤ N .m) (d1 : 1 ≤ N .d) where
+module _ {F X : Type 0} (H : Hashing F X) (In : X → Type 0) (only : (b c : X) → In b → In c → H .hash b ≡ H .hash c → b ≡ c) (N : Numbers) (m1 : 1 ≤ N .m)
+    (d1 : 1 ≤ N .d) where
   good-next : (s : Box F X) (plain : List X) (e : Event X) → Good H In N s plain → ServedWithin (N .P) e → All In (cond (e .refused) [] (writtenBy (e .call)))
       → Good H In N (cond (e .refused) s ((serve H N s (e .call)) .box)) (cond (e .refused) plain (plainNext plain (e .call)))
   good-next s plain e g w i =
@@ -216,7 +236,8 @@ module _ {F X : Type 0} (H : Hashing F X) (In : X → Type 0) (only : (b c : X) 
       (λ r. rw r g)
       (λ r. rw r (sound-serve H N s (e .call) (g .0) m1 d1 (w r), (faithful-serve H In only N plain s (e .call) (g .0) (g .1) m1 d1 (w r) (rw r at i)) .0))
 
-  pub throughout : (s : Box F X) (plain : List X) (es : List (Event X)) → Good H In N s plain → All (ServedWithin (N .P)) es → All In (written es) → Throughout H N (Good H In N) s plain es
+  pub throughout : (s : Box F X) (plain : List X) (es : List (Event X)) → Good H In N s plain → All (ServedWithin (N .P)) es → All In (written es)
+      → Throughout H N (Good H In N) s plain es
   unfolding Throughout written
   throughout s plain [] g w i = g
   throughout s plain (e ∷ es) g w i = (
@@ -226,7 +247,8 @@ module _ {F X : Type 0} (H : Hashing F X) (In : X → Type 0) (only : (b c : X) 
         (all-right In (cond (e .refused) [] (writtenBy (e .call))) (written es) i),
   )
 
-  pub same-blocks : (s : Box F X) (plain : List X) (es : List (Event X)) → Good H In N s plain → All (ServedWithin (N .P)) es → All In (written es) → boxBlocks H N s es ≡ plainBlocks (H .blank) plain es
+  pub same-blocks : (s : Box F X) (plain : List X) (es : List (Event X)) → Good H In N s plain → All (ServedWithin (N .P)) es → All In (written es)
+      → boxBlocks H N s es ≡ plainBlocks (H .blank) plain es
   unfolding boxBlocks plainBlocks written
   same-blocks s plain [] g w i = refl
   same-blocks s plain (e ∷ es) g w i =
@@ -239,7 +261,8 @@ module _ {F X : Type 0} (H : Hashing F X) (In : X → Type 0) (only : (b c : X) 
       ((faithful-serve H In only N plain s (e .call) (g .0) (g .1) m1 d1 (w .0 r) (rw r at i₀)) .1)
       (same-blocks ((serve H N s (e .call)) .box) (plainNext plain (e .call)) es (rw r at next) (w .1) i₁)))
 
-  pub flushes-whole : (s : Box F X) (plain : List X) (es : List (Event X)) → Good H In N s plain → All (ServedWithin (N .P)) es → All In (written es) → FlushesWhole H N s plain es
+  pub flushes-whole : (s : Box F X) (plain : List X) (es : List (Event X)) → Good H In N s plain → All (ServedWithin (N .P)) es → All In (written es)
+      → FlushesWhole H N s plain es
   unfolding FlushesWhole written
   flushes-whole s plain [] g w i = tt
   flushes-whole s plain (e ∷ es) g w i = (

@@ -42,7 +42,14 @@ opens = refl
 
 -- no call is refused
 pub all-served : refusals numbers (opened numbers memory) asked ≡ 0 ∷ 0 ∷ 0 ∷ []
-unfolding Ch Maj Σ0 Σ1 σ0 σ1 K H0 M next W T1 T2 round rounds sum8 compress blocks bytes32 bytes64 padded pad digest sha256 refusals written refusal opened fresh call split Lent.unfit Lent.wrongBuffers Lent.over Lent.served Lent.kept Lent.unopened Lent.boxIn Lent.lentOf Lent.freeSlots Lent.usedRows Lent.callOf fit Rows.rows Rows.flat Rows.zeros Records.addressBytes Records.blockBytes Records.readAddress Records.readBlock Records.addressTable Records.heldRows Records.blockTable Records.blockRows Records.freshAddresses Records.freshBlocks Find.any Find.all Find.same Unsound.elem Unsound.twice Unsound.count Unsound.addressesUnsound Unsound.freeAfterUsed Unsound.eachOnce Unsound.usedTwice Unsound.blocksUnsound Unsound.dirtyUncached Cache.oldestOut Cache.step1 Cache.freed Cache.step3 Cache.oldestUnknown Cache.victim Cache.takenUsed Cache.taken Cache.stored Cache.step4 Cache.step Cache.ifCached Cache.answer Cache.readAs Cache.writeThrough Cache.writeBack Cache.dropped Cache.writeInvalidate Cache.lookAs Cache.flushed Cache.serve Cache.counted
+unfolding Ch Maj Σ0 Σ1 σ0 σ1 K H0 M next W T1 T2 round rounds sum8 compress blocks bytes32 bytes64 padded pad digest sha256 refusals written refusal
+    opened fresh call split Lent.unfit Lent.wrongBuffers Lent.over Lent.served Lent.kept Lent.unopened Lent.boxIn Lent.lentOf Lent.freeSlots
+    Lent.usedRows Lent.callOf fit Rows.rows Rows.flat Rows.zeros Records.addressBytes Records.blockBytes Records.readAddress Records.readBlock
+    Records.addressTable Records.heldRows Records.blockTable Records.blockRows Records.freshAddresses Records.freshBlocks Find.any Find.all Find.same
+    Unsound.elem Unsound.twice Unsound.count Unsound.addressesUnsound Unsound.freeAfterUsed Unsound.eachOnce Unsound.usedTwice Unsound.blocksUnsound
+    Unsound.dirtyUncached Cache.oldestOut Cache.step1 Cache.freed Cache.step3 Cache.oldestUnknown Cache.victim Cache.takenUsed Cache.taken
+    Cache.stored Cache.step4 Cache.step Cache.ifCached Cache.answer Cache.readAs Cache.writeThrough Cache.writeBack Cache.dropped
+    Cache.writeInvalidate Cache.lookAs Cache.flushed Cache.serve Cache.counted
 all-served = refl
 
 -- the blocks that the premise is about: the one on disk, and the one written

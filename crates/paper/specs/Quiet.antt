@@ -2,11 +2,13 @@
 use mathlib.Core.Path.{_≡_, refl, sym, ap, _∙_, subst}
 use mathlib.Core.Bool.{Bool, true, false, cond}
 use mathlib.Core.List.{List, [], _∷_}
-use mathlib.Core.Option.{Option, none, some, Option·some-ne-none}
+use mathlib.Core.Option.{Option, none, some, Option·map, Option·some-ne-none}
 use mathlib.Core.Logic.{inl}
 use Prim.Native.Nat.{ℕ, _≤_, _<_}
 use lib.ListN.{length}
-use Rattle.paper.specs.Cache.{Numbers, Hashing, AddressRow, Box, Call, read, through, back, invalidate, look, flush, Within, serve, fresh, lookAs, flushed, rowWithBlock}
+use Rattle.paper.specs.Cache.{Numbers, Hashing, AddressRow, Box, Call, read, through, back, invalidate, look, flush, about, before, Below, Within, serve}
+use Rattle.paper.specs.Cache.{fresh}
+use Rattle.paper.specs.Cache.{lookAs, flushed, rowWithBlock}
 use Rattle.paper.specs.KeyedLaws.{All, by-test}
 use Rattle.paper.specs.Machines.{contentOf, NoWrite, Read, Compared, ifRead, seenIn, printedTrace}
 use Rattle.paper.specs.Events.{Event, cacheTrace}
@@ -46,17 +48,21 @@ module _ {F X : Type 0} (H : Hashing F X) where
     abbrev Same : List (Event X) → Type 0
     Same es = (s : Box F X) → Sound H N s → ReadInv H (contentOf H disk) disk s → traceOf H N s es ≡ cacheTrace H N s (readsOf es)
 
-    quiet-call : (c : Call X) (r : Bool) (es : List (Event X)) (s : Box F X) → NoWrite c → (r ≡ false → Within (N .P) c) → Sound H N s → ReadInv H (contentOf H disk) disk s → Same es
+    quiet-call : (c : Call X) (r : Bool) (es : List (Event X)) (s : Box F X) → NoWrite c → (r ≡ false → Within (N .P) c) → Sound H N s
+        → ReadInv H (contentOf H disk) disk s → Same es
         → let s′ = cond r s ((serve H N s c) .box) in
-        ifRead c (λ a. seenIn s′ (cond r none (some ((serve H N s c) .word)))) (traceOf H N s′ es) ≡ cacheTrace H N s (ifRead c (λ a. record { address = a; refused = r }) (readsOf es))
+        ifRead c (λ a. seenIn s′ (cond r none (some ((serve H N s c) .word)))) (traceOf H N s′ es)
+        ≡ cacheTrace H N s (ifRead c (λ a. record { address = a; refused = r }) (readsOf es))
     unfolding cacheTrace
     quiet-call (read a) r es s n w h v ih =
         by-test r
         (λ e. rw e (ap {B = List (Compared F)} (λ l. seenIn s none ∷ l) (ih s h v)))
         (λ e. rw e (ap {B = List (Compared F)} (λ l. seenIn ((serve H N s (read a)) .box) (some ((serve H N s (read a)) .word)) ∷ l)
         (ih ((serve H N s (read a)) .box) (sound-serve H N s (read a) h m1 d1 (w e)) ((read-printed H disk N s a h v m1 d1) .2))))
-    quiet-call (look a) r es s n w h v ih = by-test r (λ e. rw e (ih s h v)) (λ e. rw e (subst (λ x. traceOf H N x es ≡ cacheTrace H N s (readsOf es)) (sym (look-same N s a)) (ih s h v)))
-    quiet-call flush r es s n w h v ih = by-test r (λ e. rw e (ih s h v)) (λ e. rw e (subst (λ x. traceOf H N x es ≡ cacheTrace H N s (readsOf es)) (sym (flush-same N disk s v)) (ih s h v)))
+    quiet-call (look a) r es s n w h v ih
+        = by-test r (λ e. rw e (ih s h v)) (λ e. rw e (subst (λ x. traceOf H N x es ≡ cacheTrace H N s (readsOf es)) (sym (look-same N s a)) (ih s h v)))
+    quiet-call flush r es s n w h v ih
+        = by-test r (λ e. rw e (ih s h v)) (λ e. rw e (subst (λ x. traceOf H N x es ≡ cacheTrace H N s (readsOf es)) (sym (flush-same N disk s v)) (ih s h v)))
     quiet-call (through a b) r es s n w h v ih = absurd (Option·some-ne-none b n)
     quiet-call (back a b) r es s n w h v ih = absurd (Option·some-ne-none b n)
     quiet-call (invalidate a b) r es s n w h v ih = absurd (Option·some-ne-none b n)
@@ -67,20 +73,21 @@ module _ {F X : Type 0} (H : Hashing F X) where
     quiet (e ∷ es) n w s h v = quiet-call (e .call) (e .refused) es s (n .0) (w .0) h v (quiet es (n .1) (w .1))
 
     -- for every list with no write, from a fresh box
-    pub printed-quiet : (flash : List X) (es : List (Event X)) → length flash ≡ N .d → length disk ≡ N .P → All (λ e. NoWrite (e .call)) es → All (ServedWithin (N .P)) es
-        → traceOf H N (fresh (N .d) flash disk) es ≡ printedTrace (H .same) (N .m) (N .d) (contentOf H disk) (record { addresses = []; fingerprints = [] }) (readsOf es)
+    pub printed-quiet : (flash : List X) (es : List (Event X)) → length flash ≡ N .d → length disk ≡ N .P → All (λ e. NoWrite (e .call)) es
+        → All (ServedWithin (N .P)) es
+        → traceOf H N (fresh (N .d) flash disk) es
+        ≡ printedTrace (H .same) (N .m) (N .d) (contentOf H disk) (record { addresses = []; fingerprints = [] }) (readsOf es)
     printed-quiet flash es fl dl n w =
-        quiet es n w (fresh (N .d) flash disk) (sound-fresh H N flash disk fl dl) (record { clean = tt; contents = tt; sameDisk = refl; nested = inl ([], refl) })
+        quiet es n w (fresh (N .d) flash disk) (sound-fresh H N flash disk fl dl)
+        (record { clean = tt; contents = tt; sameDisk = refl; nested = inl ([], refl) })
         ∙ printed-law H N flash disk (readsOf es) m1 d1 fl dl (reads-within es w)
       where
-        one : (c : Call X) (r : Bool) (l : List Read) → (r ≡ false → Within (N .P) c) → All (λ e. e .refused ≡ false → e .address < N .P) l → All (λ e. e .refused ≡ false → e .address < N .P) (ifRead c (λ a. record { address = a; refused = r }) l)
-        one (read a) r l w h = (w, h)
-        one (look a) r l w h = h
-        one flush r l w h = h
-        one (through a b) r l w h = h
-        one (back a b) r l w h = h
-        one (invalidate a b) r l w h = h
+        one : (reads : Bool) (a : Option ℕ) (r : Bool) (l : List Read) → (r ≡ false → Below (N .P) a) → All (λ e. e .refused ≡ false → e .address < N .P) l
+            → All (λ e. e .refused ≡ false → e .address < N .P) (cond reads (before (Option·map (λ a. record { address = a; refused = r }) a) l) l)
+        one false a r l w h = h
+        one true none r l w h = h
+        one true (some a) r l w h = (w, h)
 
         reads-within : (es : List (Event X)) → All (ServedWithin (N .P)) es → All (λ e. e .refused ≡ false → e .address < N .P) (readsOf es)
         reads-within [] w = tt
-        reads-within (e ∷ es) w = one (e .call) (e .refused) (readsOf es) (w .0) (reads-within es (w .1))
+        reads-within (e ∷ es) w = one (about (e .call) .reads) (about (e .call) .address) (e .refused) (readsOf es) (w .0) (reads-within es (w .1))

@@ -11,7 +11,10 @@ use lib.ListN.{length, set, getD, length-set, length-append}
 use borrow.Author.Tests.{not-true, eqb-false}
 use Rattle.tables.specs.Records.{slotsFrom}
 use Rattle.paper.specs.Keyed.{has, without}
-use Rattle.paper.specs.Cache.{Numbers, Hashing, AddressRow, BlockRow, Box, RowOut, BlockRows, Request, newest, blockRow, held, rowOf, withoutAddress, known, cached, withoutBlock, slotOf, blockOf, cleaned, copied, isLost, step, step1, step3, step4, freed, oldestUnknown, stored, Call, read, through, back, invalidate, look, flush, Within, onDisk, rowWithBlock, answer, readAs, writeThrough, writeBack, dropped, writeInvalidate, lookAs, flushed, serve, fresh}
+use Rattle.paper.specs.Cache.{Numbers, Hashing, AddressRow, BlockRow, Box, RowOut, BlockRows, Request, newest, blockRow, held, rowOf, withoutAddress}
+use Rattle.paper.specs.Cache.{known, cached, withoutBlock, slotOf, blockOf, cleaned, copied, isLost, step, step1, step3, step4, freed, oldestUnknown}
+use Rattle.paper.specs.Cache.{stored, Call, read, through, back, invalidate, look, flush, Within, onDisk, rowWithBlock, answer, readAs, writeThrough}
+use Rattle.paper.specs.Cache.{writeBack, dropped, writeInvalidate, lookAs, flushed, serve, fresh}
 use Rattle.paper.specs.KeyedLaws.{by-test, either, clash, or-left, or-right, or-false-right, and-left, and-right, eqb→≡, eqb-self, All, Distinct, all-append, all-map, all-without, all-both, has-without-other, has-without, has-without-self, without-absent, distinct-without, distinct-snoc}
 use Rattle.paper.specs.Cases.{by-step1, by-step3, by-step4, Chosen}
 use Rattle.paper.specs.Orphans.{apart, cached-in, cached-add, cached-self, oldestUnknown-some}
@@ -191,7 +194,8 @@ module _ {F X : Type 0} (H : Hashing F X) where
       (List·Permᴰ·trans (Permᴰ·append-left free (Permᴰ·symm (perm-snoc k (map (λ u. u .slot) used)))) (Permᴰ·middle k free (map (λ u. u .slot) used)))
 
   pub sound-step4 : (N : Numbers) (rows : List (AddressRow F)) (free : List ℕ) (used : List (BlockRow F)) (flash disk : List X) (g : F) (b : X) (w : ℕ)
-      → Distinct eqb (λ r. r .address) rows → All (λ r. r .address < N .P) rows → length rows ≤ N .m → Blocks (N .d) g rows (record { free = free; used = used })
+      → Distinct eqb (λ r. r .address) rows → All (λ r. r .address < N .P) rows → length rows ≤ N .m
+      → Blocks (N .d) g rows (record { free = free; used = used })
       → length flash ≡ N .d → length disk ≡ N .P → 1 ≤ N .d
       → Sound H N ((step4 H rows (record { free = free; used = used }) flash disk g b w) .box)
   unfolding stored
@@ -235,7 +239,8 @@ module _ {F X : Type 0} (H : Hashing F X) where
         fingerprints = distinct-snoc (H .same) (λ u. u .fingerprint) (H .same→≡) (H .same-refl) (blockRow g (u .slot)) (withoutBlock H v used) (distinct-without (H .same) (λ u. u .fingerprint) v used (h .fingerprints))
             (by-test (cached H g (withoutBlock H v used)) (λ t. clash (has-without-other (H .same) (λ u. u .fingerprint) (H .same) (λ u. u .fingerprint) g v used t) c) (λ f. f));
         slots = List·Permᴰ·trans (slots-newest [] (withoutBlock H v used) g (u .slot))
-            (List·Permᴰ·trans (rw (cs .0) at (Permᴰ·symm (perm-take H v used (h .fingerprints) (cs .1)))) (subst (λ l. List·Permᴰ (l ++ map (λ u. u .slot) used) (slotsFrom 0 (N .d))) p (h .slots)));
+            (List·Permᴰ·trans (rw (cs .0) at (Permᴰ·symm (perm-take H v used (h .fingerprints) (cs .1))))
+            (subst (λ l. List·Permᴰ (l ++ map (λ u. u .slot) used) (slotsFrom 0 (N .d))) p (h .slots)));
         dirtyCached = all-cleaned H (isLost H (some v)) (λ r. r .dirty ≡ true → (cached H (r .fingerprint) used ≡ true) ⊎ (r .fingerprint ≡ g)) (DirtyCached H (withoutBlock H v used ++ (blockRow g (u .slot) ∷ [])))
             (λ r y e. either (y (and-left (r .dirty) (not (H .same v (r .fingerprint))) e))
             (λ t. cached-in H v (r .fingerprint) g (u .slot) used t (not-true (H .same v (r .fingerprint)) (and-right (r .dirty) (not (H .same v (r .fingerprint))) e)))
@@ -282,10 +287,15 @@ module _ {F X : Type 0} (H : Hashing F X) where
         diskLength = length-set (s .disk) a b ∙ h .diskLength;
       }
 
-  sound-readAs : (N : Numbers) (s : Box F X) (a : ℕ) (o : Option (AddressRow F)) → Sound H N s → 1 ≤ N .m → 1 ≤ N .d → a < N .P → Sound H N ((readAs H (N .m) s a o) .box)
+  sound-readAs : (N : Numbers) (s : Box F X) (a : ℕ) (o : Option (AddressRow F)) → Sound H N s → 1 ≤ N .m → 1 ≤ N .d → a < N .P
+      → Sound H N ((readAs H (N .m) s a o) .box)
   unfolding readAs answer
-  sound-readAs N s a (some r) h m1 d1 ap = sound-step N s (record { address = a; fingerprint = r .fingerprint; block = blockOf H (r .fingerprint) (s .used) (s .flash); dirty = r .dirty }) h m1 d1 ap
-  sound-readAs N s a none h m1 d1 ap = sound-step N s (record { address = a; fingerprint = H .hash (getD (s .disk) a (H .blank)); block = getD (s .disk) a (H .blank); dirty = false }) h m1 d1 ap
+  sound-readAs N s a (some r) h m1 d1 ap
+      = sound-step N s (record { address = a; fingerprint = r .fingerprint; block = blockOf H (r .fingerprint) (s .used) (s .flash); dirty = r .dirty })
+      h m1 d1 ap
+  sound-readAs N s a none h m1 d1 ap
+      = sound-step N s (record { address = a; fingerprint = H .hash (getD (s .disk) a (H .blank)); block = getD (s .disk) a (H .blank); dirty = false })
+      h m1 d1 ap
 
   sound-lookAs : (N : Numbers) (s : Box F X) (a : ℕ) (o : Option (AddressRow F)) → Sound H N s → Sound H N ((lookAs H s a o) .box)
   unfolding lookAs
@@ -316,7 +326,8 @@ module _ {F X : Type 0} (H : Hashing F X) where
   unfolding writeInvalidate
   sound-invalidate N s a b h =
       let rows = withoutAddress a (s .rows) in
-      let t = sound-dropped (N .d) rows (s .free) (s .used) (rowOf a (s .rows)) (h .fingerprints) (h .slots) (all-without eqb (λ r. r .address) (DirtyCached H (s .used)) a (s .rows) (h .dirtyCached)) in
+      let t = sound-dropped (N .d) rows (s .free) (s .used) (rowOf a (s .rows)) (h .fingerprints) (h .slots)
+      (all-without eqb (λ r. r .address) (DirtyCached H (s .used)) a (s .rows) (h .dirtyCached)) in
       let few = h .few in
       record {
         addresses = distinct-without eqb (λ r. r .address) a (s .rows) (h .addresses);
@@ -346,7 +357,8 @@ module _ {F X : Type 0} (H : Hashing F X) where
   pub sound-serve : (N : Numbers) (s : Box F X) (c : Call X) → Sound H N s → 1 ≤ N .m → 1 ≤ N .d → Within (N .P) c → Sound H N ((serve H N s c) .box)
   unfolding serve writeThrough writeBack answer
   sound-serve N s (read a) h m1 d1 w = sound-readAs N s a (rowWithBlock H s a) h m1 d1 w
-  sound-serve N s (through a b) h m1 d1 w = sound-step N (onDisk H s a b) (record { address = a; fingerprint = H .hash b; block = b; dirty = false }) (sound-onDisk N s a b h) m1 d1 w
+  sound-serve N s (through a b) h m1 d1 w
+      = sound-step N (onDisk H s a b) (record { address = a; fingerprint = H .hash b; block = b; dirty = false }) (sound-onDisk N s a b h) m1 d1 w
   sound-serve N s (back a b) h m1 d1 w = sound-step N s (record { address = a; fingerprint = H .hash b; block = b; dirty = true }) h m1 d1 w
   sound-serve N s (invalidate a b) h m1 d1 w = sound-invalidate N s a b h
   sound-serve N s (look a) h m1 d1 w = sound-lookAs N s a (rowWithBlock H s a) h

@@ -9,7 +9,9 @@ use lib.Dec.{eqb}
 use lib.ListN.{replicate}
 use Rattle.tables.specs.Records.{slotsFrom}
 use Rattle.paper.specs.KeyedLaws.{eqb→≡, eqb-self}
-use Rattle.paper.specs.Cache.{Numbers, Hashing, AddressRow, Box, Outcome, newest, Call, about, read, through, back, invalidate, look, flush, Word, hit, miss, sameBlock, newBlock, fromCache, fromDisk, done, fresh, serve, Counters, noCounts, counted}
+use Rattle.paper.specs.Cache.{Numbers, Hashing, AddressRow, Box, Outcome, newest, Call, about, before, read, through, back, invalidate, look, flush, Word}
+use Rattle.paper.specs.Cache.{hit}
+use Rattle.paper.specs.Cache.{miss, sameBlock, newBlock, fromCache, fromDisk, done, fresh, serve, Counters, noCounts, counted}
 use Rattle.paper.specs.Cache.{step, step1, step3, step4, oldestOut, freed, oldestUnknown, victim, takenUsed, taken, stored, ifCached, answer, readAs, writeThrough, writeBack, dropped, writeInvalidate, lookAs, flushed}
 
 abbrev pub labels : Hashing ℕ ℕ
@@ -62,11 +64,6 @@ pub record Example : Type 0 where
 
 abbrev example : (m d : ℕ) → State → Example
 example m d s = record { numbers = boxOf m d; seen = s }
-
--- the block that a call returns, if any, before those of later calls
-abbrev before : Option ℕ → List ℕ → List ℕ
-before none ks = ks
-before (some k) ks = k ∷ ks
 
 abbrev after : Call ℕ → Outcome ℕ ℕ → State → State
 after c o t = record { said = says c (o .word) (o .flashWrites) (o .primaryWrites) ∷ t .said; returned = before (o .block) (t .returned); rows = t .rows; blocks = t .blocks; flash = t .flash; disk = t .disk; counters = t .counters }
