@@ -100,7 +100,7 @@ callWith f flush = Call.flush
 unfoldable pub callOf : (B : ℕ) → Ask → Call (Fixed B)
 callOf B q = callWith (fit B) q
 
--- what it is about, of any bytes and length
+-- what is asked, the block being the bytes as they are lent
 abbrev pub aboutAsk : Ask → About (List ℕ)
 aboutAsk q = about (callWith (λ l. l) q)
 
