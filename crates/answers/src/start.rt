@@ -7,7 +7,8 @@ ghost use mathlib.Core.Bool.{false};
 ghost use Prim.Native.Nat.{_*_, _≤_};
 ghost use lib.ListN.{length, replicate};
 ghost use Rattle.paper.specs.Lent.{unfit};
-ghost use Rattle.refusals.specs.Given.{numbersOf, countersOf, lent};
+ghost use Rattle.parts.specs.Rep.{numbersOf};
+ghost use Rattle.refusals.specs.Given.{countersOf, lent};
 ghost use Rattle.answers.specs.Replay.{startDisk, started};
 ghost use Rattle.tables.specs.Rows.{tableBytes};
 

@@ -8,7 +8,8 @@ use tables::SourceAddress;
 ghost use mathlib.Core.Path.{_≡_};
 ghost use Rattle.paper.specs.Cache.{Counters};
 ghost use Rattle.paper.specs.Lent.{Ask, calling, refusal, call};
-ghost use Rattle.refusals.specs.Given.{numbersOf, lent};
+ghost use Rattle.parts.specs.Rep.{numbersOf};
+ghost use Rattle.refusals.specs.Given.{lent};
 ghost use Rattle.policy.specs.Contract.{answerOf};
 ghost use Rattle.look.specs.Look.{whereIs};
 

@@ -2,10 +2,11 @@
 -- Assumes nothing.
 use mathlib.Core.List.{List}
 use Prim.Native.Nat.{ℕ}
-use Rattle.paper.specs.Cache.{Counters}
-use Rattle.paper.specs.Lent.{Numbers, Lent, opening, refusal, opened}
+use Rattle.paper.specs.Cache.{Numbers, Counters}
+use Rattle.paper.specs.Lent.{Lent, opening, refusal, opened}
 use Rattle.parts.specs.declared.BoxRecord.{BoxRecord}
-use Rattle.refusals.specs.Given.{numbersOf, countersOf, lent}
+use Rattle.parts.specs.Rep.{numbersOf}
+use Rattle.refusals.specs.Given.{countersOf, lent}
 use Rattle.open.specs.declared.Opening.{Opening}
 use Rattle.open.specs.declared.Opening.the-variants.{Refused, Open}
 use Rattle.open.specs.declared.Begun.{Begun}

@@ -13,10 +13,10 @@ use Rattle.tables.specs.Records.{AddressRow, BlockRow, addressRow, blockRow, fr
 use Rattle.tables.specs.Find as Find
 use Rattle.tables.specs.Unsound as Unsound
 use Rattle.paper.specs.Cache as Cache
-use Rattle.paper.specs.Cache.{hit, fromCache, fromDisk, done, Counters, noCounts}
+use Rattle.paper.specs.Cache.{Numbers, hit, fromCache, fromDisk, done, Counters, noCounts}
 use Rattle.paper.specs.Engine as Engine
 use Rattle.paper.specs.Lent as Lent
-use Rattle.paper.specs.Lent.{Numbers, Lent, Ask, Asked, opening, calling, Answer, refused, answered, After, unfit, refusal, call, opened}
+use Rattle.paper.specs.Lent.{Lent, Ask, Asked, opening, calling, Answer, refused, answered, After, unfit, refusal, call, opened}
 
 abbrev numbers : ℕ → ℕ → ℕ → ℕ → Numbers
 numbers B P m d = record { B = B; P = P; m = m; d = d }

@@ -6,11 +6,15 @@ use Prim.Native.Nat.{ℕ, _≤_}
 use lib.ListN.{length, getD, set, take, drop}
 use Rattle.tables.specs.Rows.{tableBytes}
 use Rattle.parts.specs.declared.BoxRecord.{BoxRecord}
-use Rattle.paper.specs.Cache.{AddressRow, Box, newest, slotOf, blockOf, copied, copies, cleaned}
+use Rattle.paper.specs.Cache.{Numbers, AddressRow, Box, newest, slotOf, blockOf, copied, copies, cleaned}
 use Rattle.paper.specs.Engine.{Fixed, fit}
 use Rattle.paper.specs.Lent.{join}
 use Rattle.paper.specs.Layout.{Addrs, Blocks, Parts, addressesOf}
 use Rattle.paper.specs.Engine.{engine}
+
+-- the four numbers of a box record
+abbrev pub numbersOf : BoxRecord → Numbers
+numbersOf b = record { B = b .size; P = b .blocks; m = b .rows; d = b .slots }
 
 -- the tables have the lengths of the box, and the rows held are in it
 abbrev pub Sized : BoxRecord → (addrs blocks : List ℕ) → Type 0

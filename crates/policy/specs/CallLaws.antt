@@ -11,9 +11,9 @@ use borrow.Author.Tests.{ltb-false, leb-false, eqb-true, not-false}
 use Rattle.counters.specs.declared.Counters as Code
 use Rattle.counters.specs.Added.{added}
 use Rattle.paper.specs.KeyedLaws.{or-false-left, or-false-right}
-use Rattle.paper.specs.Cache.{AddressRow, Box, Call, Outcome, Word, hit, miss, sameBlock, newBlock, Counters, counted, oneIf, isRead, isHit, answer, cached, serve, readAs, rowWithBlock, writeThrough, writeBack, writeInvalidate}
+use Rattle.paper.specs.Cache.{Numbers, AddressRow, Box, Call, Outcome, Word, hit, miss, sameBlock, newBlock, Counters, counted, oneIf, isRead, isHit, answer, cached, serve, readAs, rowWithBlock, writeThrough, writeBack, writeInvalidate}
 use Rattle.paper.specs.Engine.{Fixed, fit, engine}
-use Rattle.paper.specs.Lent.{Numbers, Lent, Ask, calling, refusal, callOf, boxIn, lentOf, served, answered, blockAfter, partAfter, wrongBuffers, wrongBlock, lentBlock, outside, addressOf, counts, over}
+use Rattle.paper.specs.Lent.{Lent, Ask, calling, refusal, callOf, boxIn, lentOf, served, answered, blockAfter, partAfter, wrongBuffers, wrongBlock, lentBlock, outside, addressOf, counts, over}
 use Rattle.paper.specs.RowBytes.{Bytes}
 use Rattle.paper.specs.LentLaws.{passes-sound, fit-whole}
 use Rattle.paper.specs.RefusalLaws.{exactly, served-is, refused-keeps}
@@ -22,13 +22,13 @@ use Rattle.paper.specs.Layout.{addressesOf, blocksOf, passes-addrs, passes-bloc
 use Rattle.parts.specs.declared.BoxRecord.{BoxRecord}
 use Rattle.policy.specs.declared.Word as CodeWord
 use Rattle.policy.specs.declared.Answer.the-variants.{Refused, Answered}
-use Rattle.parts.specs.Rep.{Sized, Rep, withHeld}
+use Rattle.parts.specs.Rep.{numbersOf, Sized, Rep, withHeld}
 use Rattle.step.specs.Steps.{Out4, out4, Sure}
 use Rattle.serve.specs.declared.Served as CodeServed
 use Rattle.serve.specs.declared.Write.{Write}
 use Rattle.serve.specs.declared.Write.the-variants.{Through, Back, Invalidate}
 use Rattle.serve.specs.Calls.{Access, LentSound, Leaves, left, leaves, writing, isYes, returned}
-use Rattle.refusals.specs.Given.{numbersOf, countersOf, lent}
+use Rattle.refusals.specs.Given.{countersOf, lent}
 use Rattle.policy.specs.Contract.{wordOf, Told, told, called, askOf}
 use Rattle.tables.specs.Rows.{tableBytes}
 
@@ -168,22 +168,22 @@ or-new : (b : Bool) → _≡_ {A = Word} (cond b sameBlock newBlock) (cond (isYe
 or-new true = refl
 or-new false = refl
 
-module _ (B m : ℕ) (s : Box (Fixed 32) (Fixed B)) (a : ℕ) where
+module _ (N : Numbers) (s : Box (Fixed 32) (Fixed (N .B))) (a : ℕ) where
   -- a read's word is hit or miss
-  pub read-says : (serve (engine B) m s (Call.read a)) .word ≡ cond (isYes ((serve (engine B) m s (Call.read a)) .word)) hit miss
+  pub read-says : (serve (engine (N .B)) N s (Call.read a)) .word ≡ cond (isYes ((serve (engine (N .B)) N s (Call.read a)) .word)) hit miss
   unfolding serve readAs answer
-  read-says = go (rowWithBlock (engine B) s a)
+  read-says = go (rowWithBlock (engine (N .B)) s a)
     where
-      go : (o : Option (AddressRow (Fixed 32))) → (readAs (engine B) m s a o) .word ≡ cond (isYes ((readAs (engine B) m s a o) .word)) hit miss
+      go : (o : Option (AddressRow (Fixed 32))) → (readAs (engine (N .B)) (N .m) s a o) .word ≡ cond (isYes ((readAs (engine (N .B)) (N .m) s a o) .word)) hit miss
       go (some r) = refl
       go none = refl
 
   -- a write's word is same or new
-  pub write-says : (kind : Write) (x : Fixed B) → (serve (engine B) m s (writing kind a x)) .word ≡ cond (isYes ((serve (engine B) m s (writing kind a x)) .word)) sameBlock newBlock
+  pub write-says : (kind : Write) (x : Fixed (N .B)) → (serve (engine (N .B)) N s (writing kind a x)) .word ≡ cond (isYes ((serve (engine (N .B)) N s (writing kind a x)) .word)) sameBlock newBlock
   unfolding serve writeThrough writeBack writeInvalidate answer
-  write-says Through x = or-new (cached (engine B) (engine B .hash x) (s .used))
-  write-says Back x = or-new (cached (engine B) (engine B .hash x) (s .used))
-  write-says Invalidate x = or-new (cached (engine B) (engine B .hash x) (s .used))
+  write-says Through x = or-new (cached (engine (N .B)) (engine (N .B) .hash x) (s .used))
+  write-says Back x = or-new (cached (engine (N .B)) (engine (N .B) .hash x) (s .used))
+  write-says Invalidate x = or-new (cached (engine (N .B)) (engine (N .B) .hash x) (s .used))
 
 -- a word that is one of two, from what the code says of it
 pub said-is : (w u v : Word) (said : Bool) → w ≡ cond (isYes w) u v → said ≡ isYes w → cond said u v ≡ w
@@ -243,7 +243,7 @@ asks-write Invalidate B a l = record { call = refl; refusal-is = λ N t. refl; a
 -- a write, from what its steps leave
 module _ (b : BoxRecord) (disk flash addrs blocks : List ℕ) (c : Code.Counters) (kind : Write) (a : ℕ) (l : List ℕ) (e : refusal (numbersOf b) (lent b disk flash addrs blocks (countersOf c)) (calling (askOf kind a l)) ≡ 0) where
   pub written : (w : CodeWord.Word) (r : CodeServed.Served) (disk′ flash′ addrs′ blocks′ : List ℕ)
-      → left r disk′ flash′ addrs′ blocks′ l ≡ leaves b l (serve (engine (b .size)) (b .rows) (boxIn (numbersOf b) (lent b disk flash addrs blocks (countersOf c))) (writing kind a (fit (b .size) l)))
+      → left r disk′ flash′ addrs′ blocks′ l ≡ leaves b l (serve (engine (b .size)) (numbersOf b) (boxIn (numbersOf b) (lent b disk flash addrs blocks (countersOf c))) (writing kind a (fit (b .size) l)))
       → wordOf w ≡ cond (r .yes) sameBlock newBlock
       → told (record { answer = Answered w (r .flashed) (r .primary); box_record = withHeld b (r .held); counters = added c 0 0 (r .flashed) (r .primary) }) disk′ flash′ addrs′ blocks′ (some l)
       ≡ called b (lent b disk flash addrs blocks (countersOf c)) (askOf kind a l)
@@ -252,9 +252,9 @@ module _ (b : BoxRecord) (disk flash addrs blocks : List ℕ) (c : Code.Counters
       let k = countersOf c in
       let o = outcome (numbersOf b) (lent b disk flash addrs blocks k) q in
       let f = asks-write kind (b .size) a l in
-      let on : Call (Fixed (b .size)) → Outcome (Fixed 32) (Fixed (b .size)) = serve (engine (b .size)) (b .rows) (boxIn (numbersOf b) (lent b disk flash addrs blocks k)) in
+      let on : Call (Fixed (b .size)) → Outcome (Fixed 32) (Fixed (b .size)) = serve (engine (b .size)) (numbersOf b) (boxIn (numbersOf b) (lent b disk flash addrs blocks k)) in
       let says : o .word ≡ cond (isYes (o .word)) sameBlock newBlock
-      = subst (λ (z : Call (Fixed (b .size))). (on z) .word ≡ cond (isYes ((on z) .word)) sameBlock newBlock) (sym (f .call)) (write-says (b .size) (b .rows) (boxIn (numbersOf b) (lent b disk flash addrs blocks k)) a kind (fit (b .size) l)) in
+      = subst (λ (z : Call (Fixed (b .size))). (on z) .word ≡ cond (isYes ((on z) .word)) sameBlock newBlock) (sym (f .call)) (write-says (numbersOf b) (boxIn (numbersOf b) (lent b disk flash addrs blocks k)) a kind (fit (b .size) l)) in
       let y : left r disk′ flash′ addrs′ blocks′ l ≡ leaves b l o = x ∙ ap (λ (z : Call (Fixed (b .size))). leaves b l (on z)) (sym (f .call)) in
       finish b disk flash addrs blocks k q e w (r .yes) (r .held) (r .flashed) (r .primary) 0 0 c l disk′ flash′ addrs′ blocks′ l (some l) refl y
       (ew ∙ said-is (o .word) sameBlock newBlock (r .yes) says (yes-of b l o y)) (sym (ap oneIf (f .no-read))) (no-hit (o .word) says) (f .block-kept (o .block)) (f .no-part (o .block))

@@ -4,7 +4,8 @@ use mathlib.Core.List.{List, []}
 use mathlib.Core.Option.{Option}
 use Prim.Native.Nat.{ℕ}
 use Rattle.parts.specs.declared.BoxRecord.{BoxRecord}
-use Rattle.refusals.specs.Given.{numbersOf, countersOf, lent}
+use Rattle.parts.specs.Rep.{numbersOf}
+use Rattle.refusals.specs.Given.{countersOf, lent}
 use Rattle.policy.specs.declared.Word as CodeWord
 use Rattle.policy.specs.declared.Word.the-variants.{Hit, Miss, Same, New, Cache, Disk, Done}
 use Rattle.policy.specs.declared.Answer as CodeAnswer
@@ -12,8 +13,8 @@ use Rattle.policy.specs.declared.Answer.the-variants.{Refused, Answered}
 use Rattle.policy.specs.declared.calls.Outcome.{Outcome}
 use Rattle.serve.specs.declared.Write.{Write}
 use Rattle.serve.specs.declared.Write.the-variants.{Through, Back, Invalidate}
-use Rattle.paper.specs.Cache.{Word, hit, miss, sameBlock, newBlock, fromCache, fromDisk, done}
-use Rattle.paper.specs.Lent.{Numbers, Lent, Ask, Answer, refused, answered, After, call}
+use Rattle.paper.specs.Cache.{Numbers, Word, hit, miss, sameBlock, newBlock, fromCache, fromDisk, done}
+use Rattle.paper.specs.Lent.{Lent, Ask, Answer, refused, answered, After, call}
 
 -- "Where an answer is an enum, the promises use a definition. That definition gives this paper's number and values for each of the enum's cases."
 abbrev pub wordOf : CodeWord.Word → Word

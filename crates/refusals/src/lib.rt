@@ -11,7 +11,8 @@ ghost use Rattle.tables.specs.Unsound.{elem};
 ghost use Rattle.paper.specs.Cache.{Counters};
 ghost use Rattle.paper.specs.Lent.{Ask, opening, calling, between, unfit, over, refusal};
 ghost use Rattle.tables.specs.Index.{headsLength, Blank, Indexed};
-ghost use Rattle.refusals.specs.Given.{numbersOf, countersOf, lent};
+ghost use Rattle.parts.specs.Rep.{numbersOf};
+ghost use Rattle.refusals.specs.Given.{countersOf, lent};
 ghost use Rattle.refusals.specs.Checks.{sizes, wrongLengths, tablesRefusal, stateRefusal};
 ghost use Rattle.tables.specs.Rows.{tableBytes};
 

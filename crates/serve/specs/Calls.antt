@@ -16,7 +16,7 @@ use Prim.Native.Nat.{_+_, _<_, _≤_}
 use lib.Dec.{eqb}
 use lib.ListN.{getD}
 use Rattle.paper.specs.Index.{indexWhere}
-use Rattle.parts.specs.Rep.{Sized, Rep, noRow}
+use Rattle.parts.specs.Rep.{numbersOf, Sized, Rep, noRow}
 use Rattle.step.specs.Steps.{Out4, out4, Sure}
 
 -- the first of an answer's two words: hit, same, cache
@@ -66,7 +66,7 @@ leaves b lent o = record { yes = isYes (o .word); held = length (o .box .rows); 
 abbrev pub Wrote : Write → (b : BoxRecord) → (a : ℕ) → (disk flash addrs blocks block : List ℕ) → Leaves → Type 0
 Wrote kind b a disk flash addrs blocks block l =
     (s : Box (Fixed 32) (Fixed (b .size))) (x : Fixed (b .size)) → Rep b disk flash addrs blocks s → Sure b s → x .0 ≡ block
-    → l ≡ leaves b block (serve (engine (b .size)) (b .rows) s (writing kind a x))
+    → l ≡ leaves b block (serve (engine (b .size)) (numbersOf b) s (writing kind a x))
 
 -- a is held in row i, and its fingerprint has the block row at j
 pub record HitAt (b : BoxRecord) (s : Box (Fixed 32) (Fixed (b .size))) (a i j : ℕ) : Type 0 where

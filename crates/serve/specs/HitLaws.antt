@@ -19,7 +19,7 @@ use Rattle.paper.specs.Engine.{Fixed, engine}
 use Rattle.paper.specs.Lent.{bit, join}
 use Rattle.paper.specs.Index.{indexWhere, index-holds, has-yes, find-yes, without-yes, slotOf-yes}
 use Rattle.paper.specs.Layout.{Addrs, addressesOf, blocksOf}
-use Rattle.parts.specs.Rep.{Rep, noRow}
+use Rattle.parts.specs.Rep.{numbersOf, Rep, noRow}
 use Rattle.parts.specs.Asked.{noBlock}
 use Rattle.parts.specs.MoveLaws.{removed, pushed, renewed}
 use Rattle.step.specs.Steps.{After, after, out4, asks, Sure}
@@ -79,7 +79,7 @@ module _ (b : BoxRecord) (disk flash addrs blocks : List ℕ) (s : Box (Fixed 32
       record {
         count = n ∙ ap (λ (k : ℕ). k - 1) (h .rows-are .count);
         few = omega (arith, h .rows-are .few);
-        below = subst (All (λ (r : AddressRow (Fixed 32)). r .address < b .blocks)) rows-left (sound-step1 (engine (b .size)) (b .rows) (b .slots) (b .blocks) s a sd m1 .below);
+        below = subst (All (λ (r : AddressRow (Fixed 32)). r .address < b .blocks)) rows-left (sound-step1 (engine (b .size)) (numbersOf b) s a sd m1 .below);
         small = h .rows-are .small;
         is = refl;
       }

@@ -11,7 +11,7 @@ ghost use lib.ListN.{length};
 ghost use mathlib.Core.Option.{Option};
 ghost use Rattle.paper.specs.Cache.{Box, Call, serve, rowWithBlock};
 ghost use Rattle.paper.specs.Engine.{Fixed, engine};
-ghost use Rattle.parts.specs.Rep.{Sized, Rep, Lent};
+ghost use Rattle.parts.specs.Rep.{numbersOf, Sized, Rep, Lent};
 ghost use Rattle.tables.specs.Index.{Indexed};
 ghost use Rattle.step.specs.Steps.{Sure};
 ghost use Rattle.serve.specs.declared.Write.the-variants.{Through, Back, Invalidate};
@@ -77,7 +77,7 @@ pub fn serve_flush(
     ensures { λ r. ⌜ ((s : Box (Fixed 32) (Fixed (b .size))) (lent : List ℕ)
         → Rep b (now (disk .entry)) (now (flash .entry)) (now (addrs .entry)) (now (blocks .entry)) s
         → left r (now (disk .exit)) (now (flash .entry)) (now (addrs .exit)) (now (blocks .entry)) lent
-        ≡ leaves b lent (serve (engine (b .size)) (b .rows) s Call.flush)) ⌝ }
+        ≡ leaves b lent (serve (engine (b .size)) (numbersOf b) s Call.flush)) ⌝ }
 {
     let count = copy::flush_rows(b, disk, flash, addrs, blocks, heads);
     Served {
@@ -189,7 +189,7 @@ fn read_hit(
     ensures { λ r. ⌜ ((disk : List ℕ) (s : Box (Fixed 32) (Fixed (b .size))) (lent : List ℕ)
         → Rep b disk (now (flash .entry)) (now (addrs .entry)) (now (blocks .entry)) s → Sure b s → HitAt b s (a .0) i j
         → left r disk (now (flash .entry)) (now (addrs .exit)) (now (blocks .exit)) (now (block .exit))
-        ≡ leaves b lent (serve (engine (b .size)) (b .rows) s (Call.read (a .0)))) ⌝ }
+        ≡ leaves b lent (serve (engine (b .size)) (numbersOf b) s (Call.read (a .0)))) ⌝ }
 {
     let g = rows::fp_at(addrs, i);
     let dirty = rows::dirty_at(addrs, i);
@@ -222,7 +222,7 @@ fn read_miss(
     ensures { λ r. ⌜ ((s : Box (Fixed 32) (Fixed (b .size))) (lent : List ℕ)
         → Rep b (now (disk .entry)) (now (flash .entry)) (now (addrs .entry)) (now (blocks .entry)) s → Sure b s → rowWithBlock (engine (b .size)) s (a .0) ≡ Option.none
         → left r (now (disk .exit)) (now (flash .exit)) (now (addrs .exit)) (now (blocks .exit)) (now (block .exit))
-        ≡ leaves b lent (serve (engine (b .size)) (b .rows) s (Call.read (a .0)))) ⌝ }
+        ≡ leaves b lent (serve (engine (b .size)) (numbersOf b) s (Call.read (a .0)))) ⌝ }
 {
     block::copy_all(block::at_address(disk, a, b.size), block);
     let g = hash::sha256(block);
@@ -253,7 +253,7 @@ pub fn serve_read(
     ensures { λ r. ⌜ ((s : Box (Fixed 32) (Fixed (b .size))) (lent : List ℕ)
         → Rep b (now (disk .entry)) (now (flash .entry)) (now (addrs .entry)) (now (blocks .entry)) s → Sure b s
         → left r (now (disk .exit)) (now (flash .exit)) (now (addrs .exit)) (now (blocks .exit)) (now (block .exit))
-        ≡ leaves b lent (serve (engine (b .size)) (b .rows) s (Call.read (a .0)))) ⌝ }
+        ≡ leaves b lent (serve (engine (b .size)) (numbersOf b) s (Call.read (a .0)))) ⌝ }
 {
     let i = rows::row_of(addrs, b.held, a);
     let j = rows::place_of_row(b, i, addrs, blocks);

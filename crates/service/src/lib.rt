@@ -6,7 +6,7 @@ ghost use mathlib.Core.Path.{_≡_};
 ghost use mathlib.Core.Option.{Option};
 ghost use mathlib.Core.Bool.{true};
 ghost use Rattle.paper.specs.Lent.{Ask, call};
-ghost use Rattle.refusals.specs.Given.{numbersOf};
+ghost use Rattle.parts.specs.Rep.{numbersOf};
 ghost use Rattle.policy.specs.Contract.{askOf};
 ghost use Rattle.fields.specs.Fields.{recordIn, fitting};
 ghost use Rattle.service.specs.Left.{lentIn, leaves, leavesOpen, leavesLook, Shows};

@@ -4,7 +4,8 @@ use mathlib.Core.List.{List, [], _∷_, _++_}
 use Prim.Native.Nat.{ℕ}
 use lib.Dec.{eqb, ltb}
 use lib.ListN.{length}
-use Rattle.paper.specs.Lent.{Numbers, Lent, refused}
+use Rattle.paper.specs.Cache.{Numbers}
+use Rattle.paper.specs.Lent.{Lent, refused}
 use Rattle.lines.specs.Lines.{parsed}
 use Rattle.lines.specs.declared.Command.{Command}
 use Rattle.print.specs.Texts.{answerText, countersText}

@@ -8,7 +8,8 @@ use lib.ListN.{length, take}
 use Rattle.block.specs.Blocks.{splice}
 use Rattle.counters.specs.declared.Counters as Code
 use Rattle.parts.specs.declared.BoxRecord.{BoxRecord}
-use Rattle.refusals.specs.Given.{numbersOf, countersOf, lent}
+use Rattle.parts.specs.Rep.{numbersOf}
+use Rattle.refusals.specs.Given.{countersOf, lent}
 use Rattle.paper.specs.Cache.{Counters}
 use Rattle.paper.specs.Lent.{Lent}
 use Rattle.answers.specs.Done.{recordOf}

@@ -18,7 +18,7 @@ use Rattle.paper.specs.Faithful.{slots-below-0}
 use Rattle.paper.specs.Engine.{Fixed, engine}
 use Rattle.paper.specs.Lent.{bit}
 use Rattle.paper.specs.Layout.{Addrs, Blocks, blocksOf}
-use Rattle.parts.specs.Rep.{Rep, withHeld}
+use Rattle.parts.specs.Rep.{numbersOf, Rep, withHeld}
 use Rattle.step.specs.Steps.{placeOf, Out1, out1, blockBytes, Out4, out4, After, after, asks, Sure}
 use Rattle.parts.specs.MoveLaws.{pushed}
 use Rattle.tables.specs.Operations.{rowAdded}
@@ -56,8 +56,8 @@ module _ (b : BoxRecord) (disk flash addrs blocks : List ℕ) (s : Box (Fixed 32
   abbrev o : RowOut (Fixed 32) (Fixed (b .size))
   o = step1 (engine (b .size)) (b .rows) s a
 
-  out : Out (engine (b .size)) (b .rows) (b .slots) (b .blocks) a s (step1 (engine (b .size)) (b .rows) s a)
-  out = sound-step1 (engine (b .size)) (b .rows) (b .slots) (b .blocks) s a sd m1
+  out : Out (engine (b .size)) (numbersOf b) a s (step1 (engine (b .size)) (b .rows) s a)
+  out = sound-step1 (engine (b .size)) (numbersOf b) s a sd m1
 
   n-is : n ≡ length (step1 (engine (b .size)) (b .rows) s a .rows)
   unfolding out1

@@ -6,6 +6,7 @@ use mathlib.Core.Option.{Option, none, some}
 use Prim.Native.Nat.{ℕ, suc, _+_, _<_}
 use lib.ListN.{length, getD, take, drop}
 use Rattle.parts.specs.declared.BoxRecord.{BoxRecord}
+use Rattle.parts.specs.Rep.{numbersOf}
 use Rattle.paper.specs.Sound.{Sound}
 use Rattle.paper.specs.Cache.{Request, BlockRow, BlockRows, Box, RowOut, Taken, Stepped}
 use Rattle.paper.specs.Engine.{Fixed}
@@ -71,4 +72,4 @@ asks a f x w = record { address = a; fingerprint = f; block = x; dirty = w }
 
 -- lent bytes of a sound box
 abbrev pub Sure : (b : BoxRecord) → Box (Fixed 32) (Fixed (b .size)) → Type 0
-Sure b s = Sound (engine (b .size)) (b .rows) (b .slots) (b .blocks) s
+Sure b s = Sound (engine (b .size)) (numbersOf b) s

@@ -3,7 +3,8 @@ use native.Mathlib.Omega.{arith}
 use Rattle.paper.specs.Cache.{noCounts}
 use Rattle.paper.specs.Lent.{Ask, boxIn}
 use Rattle.paper.specs.RowBytes.{Bytes}
-use Rattle.refusals.specs.Given.{numbersOf, lent}
+use Rattle.parts.specs.Rep.{numbersOf}
+use Rattle.refusals.specs.Given.{lent}
 use Rattle.policy.specs.CallLaws.{all-bytes, rep, sized}
 use Rattle.look.specs.LookLaws.{found-flash, found-disk}
 use Rattle.look.proofs.found.Statement.{statement}

@@ -2,7 +2,8 @@
 use mathlib.Core.Path.{sym, _∙_}
 use borrow.Author.Needs.{needs}
 use Rattle.paper.specs.Lent.{Ask}
-use Rattle.refusals.specs.Given.{numbersOf, countersOf, lent}
+use Rattle.parts.specs.Rep.{numbersOf}
+use Rattle.refusals.specs.Given.{countersOf, lent}
 use Rattle.refusals.specs.Sizes.{Opens, opens-with}
 use Rattle.refusals.proofs.Refusing.{refused-first, flush-rest}
 use Rattle.refusals.proofs.of_flush.Statement.{statement}

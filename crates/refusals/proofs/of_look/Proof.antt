@@ -6,7 +6,8 @@ use borrow.Author.Needs.{needs}
 use Rattle.tables.specs.SoundLaws.{filled-with}
 use Rattle.paper.specs.Cache.{Counters, noCounts}
 use Rattle.paper.specs.Lent.{Ask}
-use Rattle.refusals.specs.Given.{numbersOf, lent}
+use Rattle.parts.specs.Rep.{numbersOf}
+use Rattle.refusals.specs.Given.{lent}
 use Rattle.refusals.specs.Sizes.{Opens, opens-with}
 use Rattle.refusals.proofs.Refusing.{refused-first, look-3, look-rest}
 use Rattle.refusals.proofs.of_look.Statement.{statement}

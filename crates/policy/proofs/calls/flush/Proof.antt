@@ -11,7 +11,8 @@ use Rattle.paper.specs.Cache.{serve, flushed}
 use Rattle.paper.specs.Lent.{Ask, calling, refusal, callOf}
 use Rattle.paper.specs.CallLaws.{served-finds}
 use Rattle.policy.specs.declared.Word.the-variants.{Done}
-use Rattle.refusals.specs.Given.{numbersOf, countersOf, lent}
+use Rattle.parts.specs.Rep.{numbersOf}
+use Rattle.refusals.specs.Given.{countersOf, lent}
 use Rattle.policy.specs.Contract.{told}
 use Rattle.policy.specs.CallLaws.{all-bytes, sized, sound, finish, keep, fitting}
 use Rattle.policy.proofs.calls.flush.Statement.{statement}

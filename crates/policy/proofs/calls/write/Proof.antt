@@ -9,7 +9,8 @@ use Rattle.tables.specs.SoundLaws.{filled-with}
 use Rattle.paper.specs.Engine.{fit}
 use Rattle.paper.specs.Lent.{calling, refusal}
 use Rattle.paper.specs.CallLaws.{served-finds}
-use Rattle.refusals.specs.Given.{numbersOf, countersOf, lent}
+use Rattle.parts.specs.Rep.{numbersOf}
+use Rattle.refusals.specs.Given.{countersOf, lent}
 use Rattle.policy.specs.Contract.{told, askOf}
 use Rattle.policy.specs.CallLaws.{all-bytes, fit-is, access, sound, disk-fits, keep, fitting, asks-write, written}
 use Rattle.policy.proofs.calls.write.Statement.{statement}
