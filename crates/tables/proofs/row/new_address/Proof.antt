@@ -7,8 +7,8 @@ use mathlib.Core.List.{List, [], _∷_, _++_}
 use native.Mathlib.Omega.{arith}
 use lib.ListN.{length, set}
 use borrow.Author.Needs.{needs}
-use Rattle.tables.proofs.put.address_row.Statement.{statement}
-use Rattle.tables.proofs.put.address_row.Tie as tie
+use Rattle.tables.proofs.row.new_address.Statement.{statement}
+use Rattle.tables.proofs.row.new_address.Tie as tie
 
 returns : tie.Need-returns
 unfolding addressBytes
@@ -20,8 +20,8 @@ returns c =
     ap (λ (x : List ℕ). set x 36 (a .dirty)) (c .before .write .ensures)
     ∙ addr-made row w (a .g .now) (a .dirty) refl lg refl refl
 
-pub address-row-spec : {M : Type 1} → statement M
-address-row-spec =
+pub new-address-spec : {M : Type 1} → statement M
+new-address-spec =
     tie.close
     (tie.spec
     (λ c. search needs)

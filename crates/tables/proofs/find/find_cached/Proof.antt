@@ -1,8 +1,8 @@
 -- Each turn leaves what is found as it was, by the turn's own law. Assumes nothing.
 use Prim.Native.Nat.{_-_}
 use Rattle.tables.specs.RowLaws.{turn-hit, turn-miss, turn-end}
-use Rattle.tables.proofs.find.next_cached.Statement.{statement}
-use Rattle.tables.proofs.find.next_cached.Tie as tie
+use Rattle.tables.proofs.find.find_cached.Statement.{statement}
+use Rattle.tables.proofs.find.find_cached.Tie as tie
 use Rattle.tables.specs.Find.{findFrom, caches}
 use Rattle.tables.specs.Rows.{rows}
 use borrow.Author.Needs.{needs}
@@ -10,10 +10,10 @@ use lib.ListN.{drop}
 use mathlib.Core.Path.{_≡_, refl, sym, _∙_}
 
 abbrev Inv-loop : tie.InvT-loop
-Inv-loop t n from g k₀ k = findFrom (caches g) from (drop from (rows n t)) ≡ findFrom (caches g) k (drop k (rows n t))
+Inv-loop t n g k₀ k = findFrom (caches g) 0 (rows n t) ≡ findFrom (caches g) k (drop k (rows n t))
 
 abbrev μ-loop : tie.MeasureT-loop
-μ-loop t n from g k₀ k = n - k
+μ-loop t n g k₀ k = n - k
 
 returns : tie.Need-returns Inv-loop μ-loop
 returns c =
@@ -33,8 +33,8 @@ returns-2 c =
     let a = l .before .before .before .args in
     sym (l .loop .inv ∙ turn-end (caches (a .g .now)) (a .n) (a .t .now) (l .loop .k) (c .loop-test .left))
 
-pub next-cached-spec : {M : Type 1} → statement M
-next-cached-spec =
+pub find-cached-spec : {M : Type 1} → statement M
+find-cached-spec =
     tie.close
     (tie.spec
     Inv-loop

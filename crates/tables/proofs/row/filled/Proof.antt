@@ -9,29 +9,20 @@ use native.Mathlib.Omega.{arith}
 use lib.ListN.{length, set}
 use lib.Seq.{paste}
 use borrow.Author.Needs.{needs}
-use Rattle.tables.proofs.put.filled_row.Statement.{statement}
-use Rattle.tables.proofs.put.filled_row.Tie as tie
+use Rattle.tables.proofs.row.filled.Statement.{statement}
+use Rattle.tables.proofs.row.filled.Tie as tie
 
 returns : tie.Need-returns
 returns c =
-    let w = c .before .before .before .before in
+    let k = c .before in
+    let w = k .before .before .before in
     let r = w .before .before in
     let a = r .before .before .before .args in
     let g = a .g .now in
     ap (λ (x : List ℕ). set x 36 1)
-    (c .before .clear .ensures
-    ∙ ap (λ (x : List ℕ). paste x 36 (zeros 4) 4) (w .write .ensures ∙ ap (λ (x : List ℕ). paste x 0 g (length g)) (r .row-at .ensures)))
+    (k .clear .ensures
+    ∙ ap (λ (x : List ℕ). paste x 36 (zeros 4) 4) (w .write .ensures ∙ ap (λ (x : List ℕ). paste x 0 g (length g)) (r .copy .ensures)))
     ∙ fill-made (rowAt (a .t .now) (a .k)) g (length-part (a .t .now) (a .k * 40) 40 (omega arith)) (omega arith)
 
-pub filled-row-spec : {M : Type 1} → statement M
-filled-row-spec =
-    tie.close
-    (tie.spec
-    (λ c. search needs)
-    (λ c κs. search needs)
-    (λ c. search needs)
-    (λ c κs. search needs)
-    (λ c. search needs)
-    (λ c κs. search needs)
-    (λ c. search needs)
-    returns)
+pub filled-spec : {M : Type 1} → statement M
+filled-spec = tie.close (tie.spec (λ c κs. search needs) (λ c. search needs) (λ c κs. search needs) (λ c. search needs) (λ c κs. search needs) (λ c. search needs) returns)

@@ -2,8 +2,8 @@
 use mathlib.Core.Path.{refl}
 use native.Mathlib.Omega.{arith}
 use borrow.Author.Needs.{needs}
-use Rattle.tables.proofs.find.byte64.Statement.{statement}
-use Rattle.tables.proofs.find.byte64.Tie as tie
+use Rattle.tables.proofs.row.byte64.Statement.{statement}
+use Rattle.tables.proofs.row.byte64.Tie as tie
 
 cast-result : tie.Need-cast-result
 cast-result c = omega (arith, c .shared-slice-known .given (c .before .args .at))

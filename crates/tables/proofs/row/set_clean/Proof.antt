@@ -2,8 +2,8 @@
 use mathlib.Core.Path.{refl}
 use borrow.Author.Needs.{needs}
 use Rattle.tables.specs.Operations.{rowCleaned}
-use Rattle.tables.proofs.put.set_clean.Statement.{statement}
-use Rattle.tables.proofs.put.set_clean.Tie as tie
+use Rattle.tables.proofs.row.set_clean.Statement.{statement}
+use Rattle.tables.proofs.row.set_clean.Tie as tie
 
 returns : tie.Need-returns
 unfolding rowCleaned
