@@ -1,20 +1,20 @@
 -- The tests for 6 and 7 in the positive, row by row, are those of `Unsound`. Assumes nothing.
 use mathlib.Core.Path.{_≡_, refl, sym, ap, ap₂, _∙_}
 use mathlib.Core.Bool.{Bool, true, false, not, cond, _&&_, _||_}
-use mathlib.Core.List.{List, [], _∷_, map}
-use Prim.Native.Nat.{ℕ, zero, suc, _+_, _*_, _≤_, _<_}
+use mathlib.Core.List.{List, [], _∷_, _++_, map}
+use Prim.Native.Nat.{ℕ, zero, suc, _+_, _-_, _*_, _≤_, _<_}
 use native.Mathlib.Omega.{arith}
 use lib.Dec.{eqb, leb, ltb}
-use lib.ListN.{length, drop, getD, length-map}
+use lib.ListN.{length, take, drop, getD, length-drop, length-map, take-append-drop}
 use borrow.Author.Tests.{eq-eqb, eqb-true, eqb-false, ltb-true, ltb-false, leb-true, leb-false, lt-ltb, le-ltb, le-leb, lt-leb, not-true, not-false}
 use Rattle.tables.specs.Rows.{rows}
 use Rattle.tables.specs.Records.{readAddress, readBlock, slotsFrom}
 use Rattle.tables.specs.Find.{all, any, every, findFrom, pick, absent, caches, isUsed, isDirty}
 use Rattle.tables.specs.declared.Found.the-variants.{At}
 use Rattle.tables.specs.Unsound.{elem, twice, count, nonzero, nonzeroPadding, addressesUnsound, freeAfterUsed, freeWithFingerprint, eachOnce, usedTwice, blocksUnsound, dirtyUncached}
-use Rattle.tables.specs.Sound.{distinct, tailOk, addressOk, isZero, soundAddresses, addressesFit, blocksFit, rowAddress, rowSlot}
+use Rattle.tables.specs.Sound.{distinct, tailOk, addressOk, isZero, zeroRow, soundAddresses, addressesFit, blocksFit, rowAddress, rowSlot}
 use Rattle.tables.specs.Index.{unique, rowOk, dirtyOk}
-use Rattle.tables.specs.RowLaws.{rows-length}
+use Rattle.tables.specs.RowLaws.{rows-length, drop-rows}
 use Rattle.tables.specs.SoundLaws.{and-left, and-right, or-left, or-right, not-true-false}
 use Rattle.tables.specs.SoundSplit.{and-swap, every-and, every-same}
 
@@ -98,6 +98,27 @@ addresses-checked P m n t =
     let each : all (addressOk P) rs ≡ all (λ r. ltb (rowAddress r) P) rs && (all (λ r. leb (getD r 36 0) 1) rs && all padOk rs) =
     all-and (λ r. ltb (rowAddress r) P) tailOk rs ∙ ap (λ b. all (λ r. ltb (rowAddress r) P) rs && b) (all-and (λ r. leb (getD r 36 0) 1) padOk rs) in
     rw (above m n, a, w, f, z, r, each) (six-tests (leb n m) (all (λ r. ltb (rowAddress r) P) rs) (distinct (map rowAddress rs)) (all (λ r. leb (getD r 36 0) 1) rs) (all padOk rs) (all isZero (drop (n * 40) t)))
+
+-- the bytes from row n on are zero where the rows are
+all-both : {A : Type 0} (p : A → Bool) (xs ys : List A) → all p (xs ++ ys) ≡ all p xs && all p ys
+unfolding all
+all-both p [] ys = refl
+all-both p (x ∷ xs) ys = ap (λ b. p x && b) (all-both p xs ys) ∙ outer (p x) (all p xs) (all p ys)
+  where
+    outer : (a b c : Bool) → a && (b && c) ≡ (a && b) && c
+    outer true b c = refl
+    outer false b c = refl
+
+all-rows-zero : (j : ℕ) (t : List ℕ) → length t ≡ j * 40 → all zeroRow (rows j t) ≡ all isZero t
+unfolding rows all
+all-rows-zero zero [] l = refl
+all-rows-zero zero (x ∷ t) l = absurd (omega arith)
+all-rows-zero (suc j) t l =
+    let h : length (drop 40 t) ≡ j * 40 = simp length-drop (omega arith) in
+    ap (λ b. zeroRow (take 40 t) && b) (all-rows-zero j (drop 40 t) h) ∙ sym (all-both isZero (take 40 t) (drop 40 t)) ∙ ap (all isZero) (take-append-drop 40 t)
+
+pub rows-zero : (m n : ℕ) (t : List ℕ) → n ≤ m → length t ≡ m * 40 → all zeroRow (drop n (rows m t)) ≡ all isZero (drop (n * 40) t)
+rows-zero m n t h l = ap (all zeroRow) (drop-rows n m t h) ∙ all-rows-zero (m - n) (drop (n * 40) t) (simp length-drop (omega arith))
 
 -- ---- refusal 7
 

@@ -38,6 +38,10 @@ addressOk P r = ltb (rowAddress r) P && tailOk r
 abbrev pub isZero : ℕ → Bool
 isZero x = eqb x 0
 
+-- a row of zeros
+abbrev pub zeroRow : List ℕ → Bool
+zeroRow r = all isZero r
+
 -- an address table of m rows, n of them held, over P disk blocks
 unfoldable pub soundAddresses : ℕ → ℕ → ℕ → List ℕ → Bool
 soundAddresses P m n t = leb n m && (all (addressOk P) (rows n t) && (distinct (map rowAddress (rows n t)) && all isZero (drop (tableBytes n) t)))

@@ -23,15 +23,15 @@ pub tail-rowAt : (t : List ℕ) (k : ℕ)
 unfolding tailOk
 tail-rowAt t k = rw (getD-rowAt t k 36 (omega arith), getD-rowAt t k 37 (omega arith), getD-rowAt t k 38 (omega arith), getD-rowAt t k 39 (omega arith))
 
--- a turn on row k of a check of all rows
-module _ (p : List ℕ → Bool) (n : ℕ) (t : List ℕ) (k : ℕ) (i : all p (rows n t) ≡ all p (drop k (rows n t))) where
-  pub rows-all-more : k < n → p (rowAt t k) ≡ true → all p (rows n t) ≡ all p (drop (k + 1) (rows n t))
+-- a turn on row k of a check of all rows, or of those from some row on: b is what it finds
+module _ {b : Bool} (p : List ℕ → Bool) (n : ℕ) (t : List ℕ) (k : ℕ) (i : b ≡ all p (drop k (rows n t))) where
+  pub rows-all-more : k < n → p (rowAt t k) ≡ true → b ≡ all p (drop (k + 1) (rows n t))
   rows-all-more h e = i ∙ all-hit p (rows n t) k [] (rw rows-length h) (rw (rows-at n t k h) e)
 
-  pub rows-all-fails : k < n → p (rowAt t k) ≡ false → false ≡ all p (rows n t)
+  pub rows-all-fails : k < n → p (rowAt t k) ≡ false → false ≡ b
   rows-all-fails h e = sym (i ∙ all-miss p (rows n t) k [] (rw rows-length h) (rw (rows-at n t k h) e))
 
-  pub rows-all-holds : n ≤ k → true ≡ all p (rows n t)
+  pub rows-all-holds : n ≤ k → true ≡ b
   rows-all-holds h = sym (i ∙ all-end p (rows n t) k [] (rw rows-length h))
 
 pub and-left : (a b : Bool) → a && b ≡ true → a ≡ true

@@ -11,7 +11,7 @@ ghost use Rattle.tables.specs.Rows.{rowAt, rowBytes, le4, le8, tableByte
 ghost use Rattle.tables.specs.Find.{all, isDirty, isUsed};
 ghost use Rattle.tables.specs.Records.{readAddress, readBlock, addressBytes, addressRow, blockBytes, freeRow};
 ghost use Rattle.tables.specs.Operations.{filled, freed, rowCleaned};
-ghost use Rattle.tables.specs.Sound.{isZero, numberOf, tailOk};
+ghost use Rattle.tables.specs.Sound.{isZero, numberOf, tailOk, zeroRow};
 
 // The bytes of a row, and of a fingerprint.
 pub const BYTES: usize = 40;
@@ -172,7 +172,7 @@ pub(crate) fn words_are(s: &[u8], z: u64) -> bool
 // into bytes by the compiler, one that is compared with another is not.)
 pub fn is_zero(t: &[u8], k: usize) -> bool
     requires { ⌜ tableBytes (k + 1) ≤ length (now t) ⌝ }
-    ensures { λ r. ⌜ r ≡ all isZero (rowAt (now (t .entry)) k) ⌝ }
+    ensures { λ r. ⌜ r ≡ zeroRow (rowAt (now (t .entry)) k) ⌝ }
 {
     let s = part(t, k);
     let z = word8(s, 32);
