@@ -2,9 +2,9 @@
 use crate::moves;
 use crate::row;
 ghost use mathlib.Core.Path.{_≡_};
-ghost use mathlib.Core.List.{[], _∷_, _++_};
+ghost use mathlib.Core.List.{_++_};
 ghost use Prim.Native.Nat.{_+_, _<_, _≤_};
-ghost use lib.ListN.{length};
+ghost use lib.ListN.{length, drop};
 ghost use Rattle.tables.specs.Rows.{rowBytes, tableBytes, rows, flat, removeAt};
 ghost use Rattle.tables.specs.Operations.{rowOut, rowAdded, rowNewest, rowFreed};
 
@@ -13,10 +13,8 @@ pub fn remove_row(t: &mut [u8], n: usize, i: usize)
     requires { ⌜ (i < n) × (tableBytes n ≤ length (now t)) ⌝ }
     ensures { λ _. ⌜ now (t .exit) ≡ rowOut n i (now (t .entry)) ⌝ }
 {
-    let at = i * row::BYTES;
-    let last = n * row::BYTES - row::BYTES;
-    moves::move_down(t, at, at + row::BYTES, last - at);
-    moves::clear(t, last, row::BYTES);
+    let none = [0u8; row::BYTES];
+    replace(t, n, i, &none);
 }
 
 // Writes `row` as row `n`, behind the first `n`.
@@ -27,13 +25,14 @@ pub(crate) fn push_row(t: &mut [u8], n: usize, row: &[u8])
     moves::write(t, n * row::BYTES, row);
 }
 
-// Takes row `i` of `d` out: the later ones move down by a row, and `row` becomes the last.
-pub(crate) fn replace(t: &mut [u8], d: usize, i: usize, row: &[u8])
-    requires { ⌜ (i < d) × ((length (now t) ≡ tableBytes d) × (length (now row) ≡ rowBytes)) ⌝ }
-    ensures { λ _. ⌜ now (t .exit) ≡ flat (removeAt (rows d (now (t .entry))) i ++ (now (row .entry) ∷ [])) ⌝ }
+// Takes row `i` out of the first `n`: the later ones move down by a row, and `row` becomes the last of them.
+pub(crate) fn replace(t: &mut [u8], n: usize, i: usize, row: &[u8])
+    requires { ⌜ (i < n) × ((tableBytes n ≤ length (now t)) × (length (now row) ≡ rowBytes)) ⌝ }
+    ensures { λ _. ⌜ now (t .exit)
+    ≡ flat (removeAt (rows n (now (t .entry))) i) ++ (now (row .entry) ++ drop (tableBytes n) (now (t .entry))) ⌝ }
 {
     let at = i * row::BYTES;
-    let last = d * row::BYTES - row::BYTES;
+    let last = n * row::BYTES - row::BYTES;
     moves::move_down(t, at, at + row::BYTES, last - at);
     moves::write(t, last, row);
 }

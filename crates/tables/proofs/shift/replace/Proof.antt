@@ -18,8 +18,8 @@ returns c =
     let l = s .pre .1 .1 in
     w .write .ensures
     ∙ rw l
-    (ap (λ (x : List ℕ). paste x (a .d * 40 - 40) (a .row .now) 40) (m .move-down .ensures)
-    ∙ replaced (a .t .now) (a .row .now) (a .d) (a .i) (omega arith) (omega arith) l)
+    (ap (λ (x : List ℕ). paste x (a .n * 40 - 40) (a .row .now) 40) (m .move-down .ensures)
+    ∙ replaced (a .t .now) (a .row .now) (a .n) (a .i) (omega arith) (omega arith) l)
 
 pub replace-spec : {M : Type 1} → statement M
 replace-spec = tie.close (tie.spec (λ c. search needs) (λ c. search needs) (λ c. search needs) (λ c. search needs) (λ c. search needs) (λ c κs. search needs) (λ c κs. search needs) (λ c. search needs) returns)
