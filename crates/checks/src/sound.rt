@@ -6,9 +6,9 @@ use tables::row;
 ghost use mathlib.Core.Path.{_≡_};
 ghost use mathlib.Core.Bool.{true, false, not, cond, _&&_, _||_};
 ghost use mathlib.Core.List.{map};
-ghost use Prim.Native.Nat.{ℕ, suc, _+_, _<_, _≤_};
+ghost use Prim.Native.Nat.{ℕ, suc, _<_, _≤_};
 ghost use lib.ListN.{length, take, drop, getD};
-ghost use Rattle.tables.specs.Rows.{rows, rowAt, tableBytes};
+ghost use Rattle.tables.specs.Rows.{rows, rowAt, tableBytes, HasRow, HasRows};
 ghost use Rattle.tables.specs.Find.{all, every, isUsed};
 ghost use Rattle.tables.specs.Unsound.{addressesUnsound, blocksUnsound, dirtyUncached};
 ghost use Rattle.tables.specs.Sound.{addressOk, distinct, rowAddress, zeroRow, soundAddresses, addressesFit, blocksFit};
@@ -16,7 +16,7 @@ ghost use Rattle.tables.specs.Index.{Linked, Places, rowOk};
 
 // Whether row `k` is a held address row's, with an address below `p`.
 pub(crate) fn address_ok(t: &[u8], k: usize, p: u32) -> bool
-    requires { ⌜ tableBytes (k + 1) ≤ length (now t) ⌝ }
+    requires { ⌜ HasRow (now t) k ⌝ }
     ensures { λ r. ⌜ r ≡ addressOk p (rowAt (now (t .entry)) k) ⌝ }
 {
     let a = row::address_at(t, k);
@@ -43,7 +43,7 @@ pub(crate) fn addresses_ok(t: &[u8], n: usize, p: u32) -> bool
 
 // Whether the rows from row `n` on, of `m`, are zero.
 pub(crate) fn rows_zero(t: &[u8], n: usize, m: usize) -> bool
-    requires { ⌜ tableBytes m ≤ length (now t) ⌝ }
+    requires { ⌜ HasRows (now t) m ⌝ }
     ensures { λ r. ⌜ r ≡ all zeroRow (drop n (rows m (now (t .entry)))) ⌝ }
 {
     let mut k = n;
@@ -58,7 +58,7 @@ pub(crate) fn rows_zero(t: &[u8], n: usize, m: usize) -> bool
 
 // Whether the addresses of the first `n` rows, each below `p`, are all different.
 pub(crate) fn distinct_below(t: &[u8], n: usize, p: u32) -> bool
-    requires { ⌜ (tableBytes n ≤ length (now t)) × (p ≤ 65536) ⌝ }
+    requires { ⌜ HasRows (now t) n × (p ≤ 65536) ⌝ }
     requires { ⌜ ((k : ℕ) → k < n → rowAddress (rowAt (now t) k) < p) ⌝ }
     ensures { λ r. ⌜ r ≡ distinct (map rowAddress (rows n (now (t .entry)))) ⌝ }
 {
@@ -87,7 +87,7 @@ pub(crate) fn addresses_sound(t: &[u8], m: usize, n: usize, p: u32) -> bool
 
 // Whether row `k` and the rows behind it, of which `used` tells, are all used.
 pub(crate) fn used_from(t: &[u8], k: usize, used: bool) -> bool
-    requires { ⌜ tableBytes (k + 1) ≤ length (now t) ⌝ }
+    requires { ⌜ HasRow (now t) k ⌝ }
     ensures { λ r. ⌜ r ≡ isUsed (rowAt (now (t .entry)) k) && used ⌝ }
 {
     if row::is_used(t, k) {

@@ -41,7 +41,10 @@ First k rs x v = (v ≤ 256) × ((k ≤ 256 - v) × (256 - v < length rs → buc
 
 -- behind row j, a search for a fingerprint of its bucket goes on at row o
 abbrev pub Goes : List (List ℕ) → ℕ → ℕ → Type 0
-Goes rs j o = (j < o) × ((o < length rs → bucketAt rs o ≡ bucketAt rs j) × ((g : List ℕ) → bucket g ≡ bucketAt rs j → findFrom (caches g) (j + 1) (drop (j + 1) rs) ≡ findFrom (caches g) o (drop o rs)))
+Goes rs j o =
+    (j < o)
+    × ((o < length rs → bucketAt rs o ≡ bucketAt rs j)
+    × ((g : List ℕ) → bucket g ≡ bucketAt rs j → findFrom (caches g) (j + 1) (drop (j + 1) rs) ≡ findFrom (caches g) o (drop o rs)))
 
 -- the entries of the buckets, and of the rows from k on
 pub record Linked (k : ℕ) (heads : List ℕ) (rs : List (List ℕ)) : Type 0 where

@@ -4,10 +4,10 @@ use crate::row::Number;
 ghost use mathlib.Core.Path.{_≡_};
 ghost use mathlib.Core.Bool.{true, cond};
 ghost use mathlib.Core.List.{map};
-ghost use Prim.Native.Nat.{ℕ, _+_, _*_, _<_, _≤_};
+ghost use Prim.Native.Nat.{ℕ, _*_, _<_};
 ghost use lib.Dec.{eqb};
 ghost use lib.ListN.{length};
-ghost use Rattle.tables.specs.Rows.{rows, rowAt, tableBytes};
+ghost use Rattle.tables.specs.Rows.{rows, rowAt, HasRows};
 ghost use Rattle.tables.specs.Bits.{bitAt};
 ghost use Rattle.tables.specs.Sound.{distinct, numberOf, rowAddress, rowSlot};
 
@@ -30,7 +30,7 @@ pub(crate) fn set_bit(seen: &mut [u8], x: usize) -> bool
 
 // Whether the addresses, or the slots, of the first `n` rows are all different. `seen` has a bit, clear at first, for each number that can occur.
 pub(crate) fn numbers_distinct(t: &[u8], n: usize, which: Number, seen: &mut [u8]) -> bool
-    requires { ⌜ tableBytes n ≤ length (now t) ⌝ }
+    requires { ⌜ HasRows (now t) n ⌝ }
     requires { ⌜ ((k : ℕ) → k < n → numberOf which (rowAt (now t) k) < length (now seen) * 8) ⌝ }
     requires { ⌜ ((x : ℕ) → x < length (now seen) * 8 → bitAt (now seen) x ≡ 0) ⌝ }
     ensures { λ r. ⌜ r ≡ distinct (map (numberOf which) (rows n (now (t .entry)))) ⌝ }
@@ -49,7 +49,7 @@ pub(crate) fn numbers_distinct(t: &[u8], n: usize, which: Number, seen: &mut [u8
 
 // Whether the addresses of the first `n` rows are all different.
 pub fn addresses_distinct(t: &[u8], n: usize) -> bool
-    requires { ⌜ tableBytes n ≤ length (now t) ⌝ }
+    requires { ⌜ HasRows (now t) n ⌝ }
     requires { ⌜ ((k : ℕ) → k < n → rowAddress (rowAt (now t) k) < 65536) ⌝ }
     ensures { λ r. ⌜ r ≡ distinct (map rowAddress (rows n (now (t .entry)))) ⌝ }
 {
@@ -59,7 +59,7 @@ pub fn addresses_distinct(t: &[u8], n: usize) -> bool
 
 // The same where the addresses are below 4,096: with fewer bytes to clear.
 pub fn few_distinct(t: &[u8], n: usize) -> bool
-    requires { ⌜ tableBytes n ≤ length (now t) ⌝ }
+    requires { ⌜ HasRows (now t) n ⌝ }
     requires { ⌜ ((k : ℕ) → k < n → rowAddress (rowAt (now t) k) < 4096) ⌝ }
     ensures { λ r. ⌜ r ≡ distinct (map rowAddress (rows n (now (t .entry)))) ⌝ }
 {
@@ -69,7 +69,7 @@ pub fn few_distinct(t: &[u8], n: usize) -> bool
 
 // Whether the slots of the first `d` rows are all different.
 pub fn slots_distinct(t: &[u8], d: usize) -> bool
-    requires { ⌜ tableBytes d ≤ length (now t) ⌝ }
+    requires { ⌜ HasRows (now t) d ⌝ }
     requires { ⌜ ((k : ℕ) → k < d → rowSlot (rowAt (now t) k) < 256) ⌝ }
     ensures { λ r. ⌜ r ≡ distinct (map rowSlot (rows d (now (t .entry)))) ⌝ }
 {

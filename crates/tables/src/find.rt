@@ -3,14 +3,12 @@ use crate::Found;
 use crate::SourceAddress;
 use crate::row;
 ghost use mathlib.Core.Path.{_≡_};
-ghost use Prim.Native.Nat.{_+_, _≤_};
-ghost use lib.ListN.{length};
-ghost use Rattle.tables.specs.Rows.{rows, rowAt, tableBytes};
+ghost use Rattle.tables.specs.Rows.{rows, rowAt, HasRow, HasRows, IsPrint};
 ghost use Rattle.tables.specs.Find.{findFrom, hasAddress, hasFingerprint, caches, same};
 
 // Whether the fingerprints `f` and `g` are the same, by their four words.
 pub(crate) fn same_words(f: &[u8], g: &[u8]) -> bool
-    requires { ⌜ (length (now f) ≡ 32) × (length (now g) ≡ 32) ⌝ }
+    requires { ⌜ IsPrint (now f) × IsPrint (now g) ⌝ }
     ensures { λ r. ⌜ r ≡ same (now (f .entry)) (now (g .entry)) ⌝ }
 {
     let mut k = 0;
@@ -25,7 +23,7 @@ pub(crate) fn same_words(f: &[u8], g: &[u8]) -> bool
 
 // The same, with the first words compared where the call stands: different fingerprints nearly always differ there already.
 pub(crate) fn same_fingerprint(f: &[u8], g: &[u8]) -> bool
-    requires { ⌜ (length (now f) ≡ 32) × (length (now g) ≡ 32) ⌝ }
+    requires { ⌜ IsPrint (now f) × IsPrint (now g) ⌝ }
     ensures { λ r. ⌜ r ≡ same (now (f .entry)) (now (g .entry)) ⌝ }
 {
     if row::word8(f, 0) != row::word8(g, 0) {
@@ -36,7 +34,7 @@ pub(crate) fn same_fingerprint(f: &[u8], g: &[u8]) -> bool
 
 // Whether row `k` of an address table has the address `a`.
 pub(crate) fn address_is(t: &[u8], k: usize, a: SourceAddress) -> bool
-    requires { ⌜ tableBytes (k + 1) ≤ length (now t) ⌝ }
+    requires { ⌜ HasRow (now t) k ⌝ }
     ensures { λ r. ⌜ r ≡ hasAddress (a .0) (rowAt (now (t .entry)) k) ⌝ }
 {
     let b = row::address_at(t, k);
@@ -45,7 +43,7 @@ pub(crate) fn address_is(t: &[u8], k: usize, a: SourceAddress) -> bool
 
 // Whether row `k` of an address table has the fingerprint `g`.
 pub fn fingerprint_is(t: &[u8], k: usize, g: &[u8]) -> bool
-    requires { ⌜ (tableBytes (k + 1) ≤ length (now t)) × (length (now g) ≡ 32) ⌝ }
+    requires { ⌜ HasRow (now t) k × IsPrint (now g) ⌝ }
     ensures { λ r. ⌜ r ≡ hasFingerprint (now (g .entry)) (rowAt (now (t .entry)) k) ⌝ }
 {
     same_fingerprint(row::address_fingerprint(t, k), g)
@@ -53,7 +51,7 @@ pub fn fingerprint_is(t: &[u8], k: usize, g: &[u8]) -> bool
 
 // Whether row `k` of a block table is used and has the fingerprint `g`.
 pub fn caches_fingerprint(t: &[u8], k: usize, g: &[u8]) -> bool
-    requires { ⌜ (tableBytes (k + 1) ≤ length (now t)) × (length (now g) ≡ 32) ⌝ }
+    requires { ⌜ HasRow (now t) k × IsPrint (now g) ⌝ }
     ensures { λ r. ⌜ r ≡ caches (now (g .entry)) (rowAt (now (t .entry)) k) ⌝ }
 {
     if !row::is_used(t, k) {
@@ -64,7 +62,7 @@ pub fn caches_fingerprint(t: &[u8], k: usize, g: &[u8]) -> bool
 
 // The index of the first of `n` address rows that has the address `a`.
 pub fn find_address(t: &[u8], n: usize, a: SourceAddress) -> Found
-    requires { ⌜ tableBytes n ≤ length (now t) ⌝ }
+    requires { ⌜ HasRows (now t) n ⌝ }
     ensures { λ r. ⌜ r ≡ findFrom (hasAddress (a .0)) 0 (rows n (now (t .entry))) ⌝ }
 {
     let mut k = 0;
@@ -79,7 +77,7 @@ pub fn find_address(t: &[u8], n: usize, a: SourceAddress) -> Found
 
 // The index of the first of `n` address rows that has the fingerprint `g`.
 pub fn find_fingerprint(t: &[u8], n: usize, g: &[u8]) -> Found
-    requires { ⌜ (tableBytes n ≤ length (now t)) × (length (now g) ≡ 32) ⌝ }
+    requires { ⌜ HasRows (now t) n × IsPrint (now g) ⌝ }
     ensures { λ r. ⌜ r ≡ findFrom (hasFingerprint (now (g .entry))) 0 (rows n (now (t .entry))) ⌝ }
 {
     let mut k = 0;
@@ -94,7 +92,7 @@ pub fn find_fingerprint(t: &[u8], n: usize, g: &[u8]) -> Found
 
 // The index of the first of `n` block rows that is used and has the fingerprint `g`.
 pub fn find_cached(t: &[u8], n: usize, g: &[u8]) -> Found
-    requires { ⌜ (tableBytes n ≤ length (now t)) × (length (now g) ≡ 32) ⌝ }
+    requires { ⌜ HasRows (now t) n × IsPrint (now g) ⌝ }
     ensures { λ r. ⌜ r ≡ findFrom (caches (now (g .entry))) 0 (rows n (now (t .entry))) ⌝ }
 {
     let mut k = 0;

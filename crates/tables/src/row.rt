@@ -7,7 +7,7 @@ ghost use mathlib.Core.Bool.{_&&_};
 ghost use Prim.Native.Nat.{_+_, _<_, _≤_};
 ghost use lib.Dec.{eqb};
 ghost use lib.ListN.{length, getD};
-ghost use Rattle.tables.specs.Rows.{rowAt, rowBytes, le4, le8, tableBytes};
+ghost use Rattle.tables.specs.Rows.{rowAt, rowBytes, le4, le8, HasRow, IsPrint};
 ghost use Rattle.tables.specs.Find.{all, isDirty, isUsed};
 ghost use Rattle.tables.specs.Records.{readAddress, readBlock, addressBytes, addressRow, blockBytes, freeRow};
 ghost use Rattle.tables.specs.Operations.{filled, freed, rowCleaned};
@@ -74,7 +74,7 @@ pub(crate) fn word8(t: &[u8], at: usize) -> u64
 
 // Row `k`, as a part of the table.
 pub(crate) fn part<'a>(t: &'a [u8], k: usize) -> &'a [u8]
-    requires { ⌜ tableBytes (k + 1) ≤ length (now t) ⌝ }
+    requires { ⌜ HasRow (now t) k ⌝ }
     ensures { λ r. ⌜ (now r ≡ rowAt (now (t .entry)) k) × (length (now r) ≡ rowBytes) ⌝ }
 {
     let at = k * BYTES;
@@ -84,7 +84,7 @@ pub(crate) fn part<'a>(t: &'a [u8], k: usize) -> &'a [u8]
 
 // The address in row `k` of an address table.
 pub fn address_at(t: &[u8], k: usize) -> SourceAddress
-    requires { ⌜ tableBytes (k + 1) ≤ length (now t) ⌝ }
+    requires { ⌜ HasRow (now t) k ⌝ }
     ensures { λ r. ⌜ r .0 ≡ readAddress (rowAt (now (t .entry)) k) .address ⌝ }
 {
     SourceAddress(word_at(t, k * BYTES))
@@ -92,8 +92,8 @@ pub fn address_at(t: &[u8], k: usize) -> SourceAddress
 
 // The fingerprint in row `k` of an address table, as a part of it.
 pub fn address_fingerprint<'a>(t: &'a [u8], k: usize) -> &'a [u8]
-    requires { ⌜ tableBytes (k + 1) ≤ length (now t) ⌝ }
-    ensures { λ r. ⌜ (now r ≡ readAddress (rowAt (now (t .entry)) k) .fingerprint) × (length (now r) ≡ 32) ⌝ }
+    requires { ⌜ HasRow (now t) k ⌝ }
+    ensures { λ r. ⌜ (now r ≡ readAddress (rowAt (now (t .entry)) k) .fingerprint) × IsPrint (now r) ⌝ }
 {
     let at = k * BYTES + ADDRESS_PRINT;
     let end = at + PRINT;
@@ -102,7 +102,7 @@ pub fn address_fingerprint<'a>(t: &'a [u8], k: usize) -> &'a [u8]
 
 // Whether row `k` of an address table is dirty.
 pub fn is_dirty(t: &[u8], k: usize) -> bool
-    requires { ⌜ tableBytes (k + 1) ≤ length (now t) ⌝ }
+    requires { ⌜ HasRow (now t) k ⌝ }
     ensures { λ r. ⌜ r ≡ isDirty (rowAt (now (t .entry)) k) ⌝ }
 {
     t[k * BYTES + FLAG] == 1
@@ -110,8 +110,8 @@ pub fn is_dirty(t: &[u8], k: usize) -> bool
 
 // The fingerprint in row `k` of a block table, as a part of it.
 pub fn block_fingerprint<'a>(t: &'a [u8], k: usize) -> &'a [u8]
-    requires { ⌜ tableBytes (k + 1) ≤ length (now t) ⌝ }
-    ensures { λ r. ⌜ (now r ≡ readBlock (rowAt (now (t .entry)) k) .fingerprint) × (length (now r) ≡ 32) ⌝ }
+    requires { ⌜ HasRow (now t) k ⌝ }
+    ensures { λ r. ⌜ (now r ≡ readBlock (rowAt (now (t .entry)) k) .fingerprint) × IsPrint (now r) ⌝ }
 {
     let at = k * BYTES;
     let end = at + PRINT;
@@ -120,7 +120,7 @@ pub fn block_fingerprint<'a>(t: &'a [u8], k: usize) -> &'a [u8]
 
 // The slot in row `k` of a block table.
 pub fn slot_at(t: &[u8], k: usize) -> FlashSlot
-    requires { ⌜ tableBytes (k + 1) ≤ length (now t) ⌝ }
+    requires { ⌜ HasRow (now t) k ⌝ }
     ensures { λ r. ⌜ r .0 ≡ readBlock (rowAt (now (t .entry)) k) .slot ⌝ }
 {
     FlashSlot(word_at(t, k * BYTES + SLOT))
@@ -128,7 +128,7 @@ pub fn slot_at(t: &[u8], k: usize) -> FlashSlot
 
 // Whether row `k` of a block table is used.
 pub fn is_used(t: &[u8], k: usize) -> bool
-    requires { ⌜ tableBytes (k + 1) ≤ length (now t) ⌝ }
+    requires { ⌜ HasRow (now t) k ⌝ }
     ensures { λ r. ⌜ r ≡ isUsed (rowAt (now (t .entry)) k) ⌝ }
 {
     t[k * BYTES + FLAG] == 1
@@ -136,7 +136,7 @@ pub fn is_used(t: &[u8], k: usize) -> bool
 
 // The address, or the slot, in row `k`.
 pub(crate) fn number_at(t: &[u8], k: usize, which: Number) -> u32
-    requires { ⌜ tableBytes (k + 1) ≤ length (now t) ⌝ }
+    requires { ⌜ HasRow (now t) k ⌝ }
     ensures { λ r. ⌜ r ≡ numberOf which (rowAt (now (t .entry)) k) ⌝ }
 {
     match which {
@@ -153,7 +153,7 @@ pub(crate) fn number_at(t: &[u8], k: usize, which: Number) -> u32
 
 // Whether the last four bytes of row `k` are a byte that is 0 or 1 and three zeros: as a number, at most 1.
 pub fn tail_ok(t: &[u8], k: usize) -> bool
-    requires { ⌜ tableBytes (k + 1) ≤ length (now t) ⌝ }
+    requires { ⌜ HasRow (now t) k ⌝ }
     ensures { λ r. ⌜ r ≡ tailOk (rowAt (now (t .entry)) k) ⌝ }
 {
     word_at(t, k * BYTES + FLAG) <= 1
@@ -171,7 +171,7 @@ pub(crate) fn words_are(s: &[u8], z: u64) -> bool
 // Whether all bytes of row `k` are zero: its words are the same, and the last is zero. (A word that is compared with 0 is taken apart
 // into bytes by the compiler, one that is compared with another is not.)
 pub fn is_zero(t: &[u8], k: usize) -> bool
-    requires { ⌜ tableBytes (k + 1) ≤ length (now t) ⌝ }
+    requires { ⌜ HasRow (now t) k ⌝ }
     ensures { λ r. ⌜ r ≡ zeroRow (rowAt (now (t .entry)) k) ⌝ }
 {
     let s = part(t, k);
@@ -181,7 +181,7 @@ pub fn is_zero(t: &[u8], k: usize) -> bool
 
 // Whether row `k` of a block table has a fingerprint of zeros.
 pub fn no_fingerprint(t: &[u8], k: usize) -> bool
-    requires { ⌜ tableBytes (k + 1) ≤ length (now t) ⌝ }
+    requires { ⌜ HasRow (now t) k ⌝ }
     ensures { λ r. ⌜ r ≡ all isZero (readBlock (rowAt (now (t .entry)) k) .fingerprint) ⌝ }
 {
     let g = block_fingerprint(t, k);
@@ -191,7 +191,7 @@ pub fn no_fingerprint(t: &[u8], k: usize) -> bool
 
 // A copy of row `k`.
 pub(crate) fn copy(t: &[u8], k: usize) -> [u8; BYTES]
-    requires { ⌜ tableBytes (k + 1) ≤ length (now t) ⌝ }
+    requires { ⌜ HasRow (now t) k ⌝ }
     ensures { λ r. ⌜ r ≡ rowAt (now (t .entry)) k ⌝ }
 {
     let mut row = [0u8; BYTES];
@@ -201,7 +201,7 @@ pub(crate) fn copy(t: &[u8], k: usize) -> [u8; BYTES]
 
 // The address row of `a`, `g` and `dirty`.
 pub(crate) fn new_address(a: SourceAddress, g: &[u8], dirty: u8) -> [u8; BYTES]
-    requires { ⌜ length (now g) ≡ 32 ⌝ }
+    requires { ⌜ IsPrint (now g) ⌝ }
     ensures { λ r. ⌜ r ≡ addressBytes (addressRow (a .0) (now (g .entry)) dirty) ⌝ }
 {
     let x = a.0;
@@ -230,7 +230,7 @@ pub(crate) fn free(s: FlashSlot) -> [u8; BYTES]
 
 // Row `k` of a block table, filled with the fingerprint `g`.
 pub(crate) fn filled(t: &[u8], k: usize, g: &[u8]) -> [u8; BYTES]
-    requires { ⌜ (tableBytes (k + 1) ≤ length (now t)) × (length (now g) ≡ 32) ⌝ }
+    requires { ⌜ HasRow (now t) k × IsPrint (now g) ⌝ }
     ensures { λ r. ⌜ r ≡ filled (now (g .entry)) (rowAt (now (t .entry)) k) ⌝ }
 {
     let mut row = copy(t, k);
@@ -242,7 +242,7 @@ pub(crate) fn filled(t: &[u8], k: usize, g: &[u8]) -> [u8; BYTES]
 
 // Row `k` of a block table, freed: used 0 and no fingerprint, with its slot.
 pub(crate) fn freed(t: &[u8], k: usize) -> [u8; BYTES]
-    requires { ⌜ tableBytes (k + 1) ≤ length (now t) ⌝ }
+    requires { ⌜ HasRow (now t) k ⌝ }
     ensures { λ r. ⌜ r ≡ freed (rowAt (now (t .entry)) k) ⌝ }
 {
     let mut row = copy(t, k);
@@ -253,7 +253,7 @@ pub(crate) fn freed(t: &[u8], k: usize) -> [u8; BYTES]
 
 // Makes row `k` of an address table clean.
 pub fn set_clean(t: &mut [u8], k: usize)
-    requires { ⌜ tableBytes (k + 1) ≤ length (now t) ⌝ }
+    requires { ⌜ HasRow (now t) k ⌝ }
     ensures { λ _. ⌜ now (t .exit) ≡ rowCleaned k (now (t .entry)) ⌝ }
 {
     t[k * BYTES + FLAG] = 0;

@@ -3,14 +3,14 @@ use crate::moves;
 use crate::row;
 ghost use mathlib.Core.Path.{_≡_};
 ghost use mathlib.Core.List.{_++_};
-ghost use Prim.Native.Nat.{_+_, _<_, _≤_};
+ghost use Prim.Native.Nat.{_<_};
 ghost use lib.ListN.{length, drop};
-ghost use Rattle.tables.specs.Rows.{rowBytes, tableBytes, rows, flat, removeAt};
+ghost use Rattle.tables.specs.Rows.{rowBytes, tableBytes, rows, flat, removeAt, HasRow, HasRows};
 ghost use Rattle.tables.specs.Operations.{rowOut, rowAdded, rowNewest, rowFreed};
 
 // Takes row `i` out of the first `n`: the later ones move down by a row, and the last becomes zero.
 pub fn remove_row(t: &mut [u8], n: usize, i: usize)
-    requires { ⌜ (i < n) × (tableBytes n ≤ length (now t)) ⌝ }
+    requires { ⌜ (i < n) × HasRows (now t) n ⌝ }
     ensures { λ _. ⌜ now (t .exit) ≡ rowOut n i (now (t .entry)) ⌝ }
 {
     let none = [0u8; row::BYTES];
@@ -19,7 +19,7 @@ pub fn remove_row(t: &mut [u8], n: usize, i: usize)
 
 // Writes `row` as row `n`, behind the first `n`.
 pub(crate) fn push_row(t: &mut [u8], n: usize, row: &[u8])
-    requires { ⌜ (tableBytes (n + 1) ≤ length (now t)) × (length (now row) ≡ rowBytes) ⌝ }
+    requires { ⌜ HasRow (now t) n × (length (now row) ≡ rowBytes) ⌝ }
     ensures { λ _. ⌜ now (t .exit) ≡ rowAdded n (now (row .entry)) (now (t .entry)) ⌝ }
 {
     moves::write(t, n * row::BYTES, row);
@@ -27,7 +27,7 @@ pub(crate) fn push_row(t: &mut [u8], n: usize, row: &[u8])
 
 // Takes row `i` out of the first `n`: the later ones move down by a row, and `row` becomes the last of them.
 pub(crate) fn replace(t: &mut [u8], n: usize, i: usize, row: &[u8])
-    requires { ⌜ (i < n) × ((tableBytes n ≤ length (now t)) × (length (now row) ≡ rowBytes)) ⌝ }
+    requires { ⌜ (i < n) × (HasRows (now t) n × (length (now row) ≡ rowBytes)) ⌝ }
     ensures { λ _. ⌜ now (t .exit)
     ≡ flat (removeAt (rows n (now (t .entry))) i) ++ (now (row .entry) ++ drop (tableBytes n) (now (t .entry))) ⌝ }
 {
