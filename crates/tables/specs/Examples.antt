@@ -6,13 +6,16 @@ use mathlib.Core.List.{List, [], _∷_, _++_}
 use Prim.Native.Nat.{ℕ}
 use lib.ListN.{replicate}
 use Rattle.tables.specs.Rows.{rows, flat, zeros}
-use Rattle.tables.specs.Records.{addressRow, addressBytes, readAddress, blockRow, blockBytes, readBlock, freeRow, addressTable, heldRows, blockTable, blockRows, freshAddresses, freshBlocks}
+use Rattle.tables.specs.Records.{addressRow, addressBytes, readAddress, blockRow, blockBytes, readBlock, freeRow}
+use Rattle.tables.specs.Records.{addressTable, heldRows, blockTable, blockRows, freshAddresses, freshBlocks}
 use Rattle.tables.specs.Find.{any, all, same}
 use Rattle.tables.specs.Unsound.{elem, twice, count, addressesUnsound, freeAfterUsed, eachOnce, usedTwice, blocksUnsound, dirtyUncached}
 
 -- the fingerprint 1, 2, .., 32
 abbrev sample : List ℕ
-sample = 1 ∷ 2 ∷ 3 ∷ 4 ∷ 5 ∷ 6 ∷ 7 ∷ 8 ∷ 9 ∷ 10 ∷ 11 ∷ 12 ∷ 13 ∷ 14 ∷ 15 ∷ 16 ∷ 17 ∷ 18 ∷ 19 ∷ 20 ∷ 21 ∷ 22 ∷ 23 ∷ 24 ∷ 25 ∷ 26 ∷ 27 ∷ 28 ∷ 29 ∷ 30 ∷ 31 ∷ 32 ∷ []
+sample =
+    1 ∷ 2 ∷ 3 ∷ 4 ∷ 5 ∷ 6 ∷ 7 ∷ 8 ∷ 9 ∷ 10 ∷ 11 ∷ 12 ∷ 13 ∷ 14 ∷ 15 ∷ 16
+    ∷ 17 ∷ 18 ∷ 19 ∷ 20 ∷ 21 ∷ 22 ∷ 23 ∷ 24 ∷ 25 ∷ 26 ∷ 27 ∷ 28 ∷ 29 ∷ 30 ∷ 31 ∷ 32 ∷ []
 
 -- a dirty row of the address 0x01020304
 abbrev dirtyRow : List ℕ

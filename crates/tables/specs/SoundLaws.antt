@@ -219,14 +219,14 @@ tail-small a b c d true e =
 tail-small a b c d false e =
     sym (not-true-false (leb a 1 && (eqb b 0 && (eqb c 0 && eqb d 0)))
     (λ o.
-      (let h = leb-false (a + 256 * b + 65536 * c + 16777216 * d) 1 e in
-      let ha = leb-true a 1 (and-left (leb a 1) (eqb b 0 && (eqb c 0 && eqb d 0)) o) in
-      let o1 = and-right (leb a 1) (eqb b 0 && (eqb c 0 && eqb d 0)) o in
-      let hb = eqb-true b 0 (and-left (eqb b 0) (eqb c 0 && eqb d 0) o1) in
-      let o2 = and-right (eqb b 0) (eqb c 0 && eqb d 0) o1 in
-      let hc = eqb-true c 0 (and-left (eqb c 0) (eqb d 0) o2) in
-      let hd = eqb-true d 0 (and-right (eqb c 0) (eqb d 0) o2) in
-      absurd (omega arith))))
+    (let h = leb-false (a + 256 * b + 65536 * c + 16777216 * d) 1 e in
+    let ha = leb-true a 1 (and-left (leb a 1) (eqb b 0 && (eqb c 0 && eqb d 0)) o) in
+    let o1 = and-right (leb a 1) (eqb b 0 && (eqb c 0 && eqb d 0)) o in
+    let hb = eqb-true b 0 (and-left (eqb b 0) (eqb c 0 && eqb d 0) o1) in
+    let o2 = and-right (eqb b 0) (eqb c 0 && eqb d 0) o1 in
+    let hc = eqb-true c 0 (and-left (eqb c 0) (eqb d 0) o2) in
+    let hd = eqb-true d 0 (and-right (eqb c 0) (eqb d 0) o2) in
+    absurd (omega arith))))
 
 pub tail-number : (t : List ℕ) (k : ℕ) → leb (le4 t (k * 40 + 36)) 1 ≡ tailOk (rowAt t k)
 tail-number t k =

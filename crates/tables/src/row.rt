@@ -13,15 +13,22 @@ ghost use Rattle.tables.specs.Records.{readAddress, readBlock, addressBy
 ghost use Rattle.tables.specs.Operations.{filled, freed, rowCleaned};
 ghost use Rattle.tables.specs.Sound.{isZero, numberOf, tailOk, zeroRow};
 
-// The bytes of a row, and of a fingerprint.
+// The bytes of a row.
 pub const BYTES: usize = 40;
+
+// The bytes of a fingerprint. A block row begins with its own.
 const PRINT: usize = 32;
 
-// An address row begins with its address, and its fingerprint stands here. A block row begins with its fingerprint, and its slot
-// stands here. The byte that says dirty or used ends either, but for the zero bytes behind it.
+// Where an address row has its fingerprint: behind its address.
 const ADDRESS_PRINT: usize = 4;
+
+// Where a block row has its slot: behind its fingerprint.
 const SLOT: usize = 32;
+
+// Where a row has the byte that says dirty or used.
 const FLAG: usize = 36;
+
+// The bytes of a row from there on: that byte, and three zero bytes.
 const TAIL: usize = 4;
 
 // Which number of a row: an address row's address, or a block row's slot.
@@ -163,7 +170,7 @@ pub fn tail_ok(t: &[u8], k: usize) -> bool
 pub(crate) fn words_are(s: &[u8], z: u64) -> bool
     requires { ⌜ 32 ≤ length (now s) ⌝ }
     ensures { λ r. ⌜ r ≡ ((eqb (le8 (now (s .entry)) 0) z && eqb (le8 (now (s .entry)) 8) z) && eqb (le8 (now (s .entry)) 16) z)
-    && eqb (le8 (now (s .entry)) 24) z ⌝ }
+        && eqb (le8 (now (s .entry)) 24) z ⌝ }
 {
     (word8(s, 0) == z) & (word8(s, 8) == z) & (word8(s, 16) == z) & (word8(s, 24) == z)
 }

@@ -29,7 +29,7 @@ pub(crate) fn push_row(t: &mut [u8], n: usize, row: &[u8])
 pub(crate) fn replace(t: &mut [u8], n: usize, i: usize, row: &[u8])
     requires { ⌜ (i < n) × (HasRows (now t) n × (length (now row) ≡ rowBytes)) ⌝ }
     ensures { λ _. ⌜ now (t .exit)
-    ≡ flat (removeAt (rows n (now (t .entry))) i) ++ (now (row .entry) ++ drop (tableBytes n) (now (t .entry))) ⌝ }
+        ≡ flat (removeAt (rows n (now (t .entry))) i) ++ (now (row .entry) ++ drop (tableBytes n) (now (t .entry))) ⌝ }
 {
     let at = i * row::BYTES;
     let last = n * row::BYTES - row::BYTES;

@@ -1,9 +1,5 @@
 -- All of a row of zeros is written over: `pasted-whole`. Assumes nothing.
-use mathlib.Core.Path.{refl, ap, _∙_}
-use mathlib.Core.List.{List}
-use Prim.Native.Nat.{ℕ}
-use lib.ListN.{length}
-use lib.Seq.{paste}
+use mathlib.Core.Path.{refl, _∙_}
 use Rattle.tables.specs.Rows.{zeros}
 use Rattle.tables.specs.ShiftLaws.{pasted-whole}
 use borrow.Author.Needs.{needs}

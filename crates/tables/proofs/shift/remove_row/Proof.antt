@@ -1,5 +1,4 @@
 -- The row that becomes the last is zero. Assumes nothing.
-use mathlib.Core.Path.{refl}
 use borrow.Author.Needs.{needs}
 use Rattle.tables.specs.Rows.{zeros}
 use Rattle.tables.specs.Operations.{rowOut}
