@@ -17,7 +17,7 @@ use Rattle.tables.specs.Sound.{mark}
 use Rattle.tables.specs.Index.{code, placeIn, Places, cachedIn, unknownIn, unique}
 use Rattle.tables.specs.declared.Found.{Found}
 use Rattle.tables.specs.declared.Found.the-variants.{At, Nothing}
-use Rattle.tables.specs.PlaceLaws.{place-at}
+use Rattle.table_laws.specs.PlaceLaws.{place-at}
 use Rattle.tables.specs.FindLaws.{found-at, same-refl}
 use Rattle.tables.specs.RowLaws.{rows-length, rows-at, rows-append, drop-take}
 use Rattle.tables.specs.SoundLaws.{Marks, same-true, not-true-false, and-left, and-right}

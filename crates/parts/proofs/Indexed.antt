@@ -7,7 +7,7 @@ use lib.Dec.{eqb}
 use lib.ListN.{take}
 use Rattle.tables.specs.Rows.{rows}
 use Rattle.tables.specs.RowLaws.{take-rows}
-use Rattle.tables.specs.PlaceLaws.{map-take}
+use Rattle.table_laws.specs.PlaceLaws.{map-take}
 use Rattle.tables.specs.Find.{all, findFrom, absent, caches, hasFingerprint}
 use Rattle.tables.specs.Index.{cachedIn, unknownIn}
 use Rattle.tables.specs.declared.Found.{Found}

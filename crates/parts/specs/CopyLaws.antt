@@ -13,7 +13,7 @@ use Rattle.block.specs.Blocks.{part, splice}
 use Rattle.parts.specs.declared.BoxRecord.{BoxRecord}
 use Rattle.tables.specs.Rows.{rows, rowAt}
 use Rattle.tables.specs.Index.{code, placeIn}
-use Rattle.tables.specs.PlaceLaws.{place-at}
+use Rattle.table_laws.specs.PlaceLaws.{place-at}
 use Rattle.tables.specs.declared.Found.{Found}
 use Rattle.tables.specs.declared.Found.the-variants.{At, Nothing}
 use Rattle.paper.specs.KeyedLaws.{All, by-test}

@@ -12,7 +12,7 @@ use Rattle.tables.specs.Records as R
 use Rattle.tables.specs.Find.{findFrom, caches}
 use Rattle.tables.specs.Index.{code, placeIn, Places}
 use Rattle.tables.specs.OperationLaws.{map-++, map-removeAt}
-use Rattle.tables.specs.PlaceLaws.{places-removed, places-pushed}
+use Rattle.table_laws.specs.PlaceLaws.{places-removed, places-pushed}
 use Rattle.paper.specs.KeyedLaws.{Distinct}
 use Rattle.paper.specs.Cache.{AddressRow, Box, held, newest, step1}
 use Rattle.paper.specs.Engine.{Fixed, engine}

@@ -1,6 +1,6 @@
 -- The tests in turn; what the second lets pass is below p. Assumes nothing.
 use Rattle.tables.specs.SoundLaws.{addrs-below}
-use Rattle.tables.specs.Checked.{rows-zero}
+use Rattle.table_laws.specs.Checked.{rows-zero}
 use Rattle.tables.specs.Sound.{soundAddresses}
 use borrow.Author.Tests.{le-leb, lt-leb, not-true, not-false}
 use mathlib.Core.Path.{sym, _∙_}

@@ -4,10 +4,10 @@ use Prim.Native.Nat.{_-_}
 use native.Mathlib.Omega.{arith}
 use lib.ListN.{take}
 use Rattle.tables.specs.Rows.{rows}
-use Rattle.tables.specs.PlaceLaws.{places-first}
+use Rattle.table_laws.specs.PlaceLaws.{places-first}
 use Rattle.paper.specs.KeyedLaws.{clash}
 use Rattle.parts.specs.Asked.{full}
-use Rattle.tables.specs.Written.{front-free}
+use Rattle.table_laws.specs.Written.{front-free}
 use Rattle.step.proofs.Stepping.{gone-out, gone-known, gone-cached, gone-freed}
 use borrow.Author.Needs.{needs}
 use Rattle.step.proofs.steps.step3.Statement.{statement}

@@ -3,8 +3,8 @@ use mathlib.Core.Path.{_≡_, sym, _∙_}
 use native.Mathlib.Omega.{arith}
 use borrow.Author.Tests.{eq-eqb, ne-eqb, lt-ltb, le-ltb}
 use Rattle.tables.specs.Rows.{rows}
-use Rattle.tables.specs.Promises.{Passed, passed}
-use Rattle.tables.specs.PlaceLaws.{place-at}
+use Rattle.table_laws.specs.Promises.{Passed, passed}
+use Rattle.table_laws.specs.PlaceLaws.{place-at}
 use Rattle.tables_probe.specs.Probe.{refused, ifSound}
 use borrow.Author.Needs.{needs}
 use Rattle.tables_probe.proofs.asked.tables_probe_place.Statement.{statement}

@@ -5,8 +5,8 @@ use native.Mathlib.Omega.{arith}
 use borrow.Author.Tests.{eq-eqb, ne-eqb}
 use Rattle.tables.specs.Rows.{rows}
 use Rattle.tables.specs.Find.{all}
-use Rattle.tables.specs.Promises.{Passed, passed}
-use Rattle.tables.specs.PlaceLaws.{places-first}
+use Rattle.table_laws.specs.Promises.{Passed, passed}
+use Rattle.table_laws.specs.PlaceLaws.{places-first}
 use Rattle.tables_probe.specs.Probe.{refused, ifSound}
 use borrow.Author.Needs.{needs}
 use Rattle.tables_probe.proofs.asked.tables_probe_some_uncached.Statement.{statement}

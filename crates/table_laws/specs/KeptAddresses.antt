@@ -8,19 +8,19 @@ use lib.Dec.{eqb, leb, ltb}
 use lib.ListN.{length, getD, set, drop, length-append}
 use lib.Seq.{drop-drop, getD-set-same, getD-set-other, map-set-same}
 use borrow.Author.Tests.{eqb-true, leb-true, le-leb, lt-ltb}
 use Rattle.tables.specs.Rows.{rows, flat, zeros, rowAt, removeAt}
 use Rattle.tables.specs.Find.{all, findFrom, pick, hasAddress}
 use Rattle.tables.specs.declared.Found.{Found}
 use Rattle.tables.specs.declared.Found.the-variants.{At, Nothing}
 use Rattle.tables.specs.Unsound.{elem}
 use Rattle.tables.specs.Sound.{distinct, tailOk, addressOk, isZero, soundAddresses, rowAddress}
 use Rattle.tables.specs.Records.{addressBytes, addressRow, addressTable, freshAddresses, readAddress}
 use Rattle.tables.specs.RowLaws.{rows-length, rows-at, length-part}
 use Rattle.tables.specs.SoundLaws.{and-left, and-right, or-left, or-right, all-at, values-at, values-length}
 use Rattle.tables.specs.FindLaws.{found-at}
 use Rattle.tables.specs.OperationLaws.{off, le4-bytes4, rows-removed, rest-removed, rows-pushed, rest-pushed, map-removeAt, map-++, rows-set, rest-clean}
-use Rattle.tables.specs.KeptLists.{both, neither, eqb-sym, all-append, all-removeAt, all-drop, all-set, zeros-zero, elem-removeAt, elem-out, distinct-removeAt, distinct-snoc}
+use Rattle.table_laws.specs.KeptLists.{both, neither, eqb-sym, all-append, all-removeAt, all-drop, all-set, zeros-zero, elem-removeAt, elem-out, distinct-removeAt, distinct-snoc}
 use Rattle.tables.specs.Operations.{rowOut, rowAdded, rowCleaned}
 
 -- the four parts of an address table's soundness
 pub record Addrs (P m n : ℕ) (t : List ℕ) : Type 0 where

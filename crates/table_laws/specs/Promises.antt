@@ -7,20 +7,20 @@ use Prim.Native.Nat.{ℕ, _+_, _-_, _*_, _^_, _≤_, _<_}
 use native.Mathlib.Omega.{arith}
 use lib.ListN.{length, getD}
 use borrow.Author.Tests.{not-false}
 use Rattle.tables.specs.Rows.{rows, rowAt}
 use Rattle.tables.specs.Records.{addressBytes, addressRow, addressTable, heldRows, blockTable, blockRows, freshAddresses, freshBlocks}
 use Rattle.tables.specs.Find.{every, findFrom, hasAddress, caches, isUsed}
 use Rattle.tables.specs.declared.Found.the-variants.{Nothing}
 use Rattle.tables.specs.Unsound.{addressesUnsound, blocksUnsound, dirtyUncached, tablesRefused}
 use Rattle.tables.specs.Sound.{distinct, soundAddresses, soundBlocks, blockOk, addressesFit, blocksFit, rowSlot}
 use Rattle.tables.specs.Index.{unique, rowOk}
 use Rattle.tables.specs.RecordLaws.{addressTable-held, blockTable-blocks}
-use Rattle.tables.specs.SoundSplit.{sound-split}
-use Rattle.tables.specs.Checked.{addresses-checked, blocks-checked, fit-addresses, fit-blocks}
+use Rattle.table_laws.specs.SoundSplit.{sound-split}
+use Rattle.table_laws.specs.Checked.{addresses-checked, blocks-checked, fit-addresses, fit-blocks}
 use Rattle.tables.specs.SoundLaws.{and-left, and-right, or-right}
-use Rattle.tables.specs.KeptAddresses.{Addrs, addrs-parts, parts-addrs, addrs-removed, addrs-pushed, addrs-clean, addrs-fresh, addressOk-of, length-ofAddr, le4-ofAddr}
-use Rattle.tables.specs.KeptBlocks.{Blocks, blocks-parts, parts-blocks, kept-newest, kept-front, kept-put, kept-fresh}
+use Rattle.table_laws.specs.KeptAddresses.{Addrs, addrs-parts, parts-addrs, addrs-removed, addrs-pushed, addrs-clean, addrs-fresh, addressOk-of, length-ofAddr, le4-ofAddr}
+use Rattle.table_laws.specs.KeptBlocks.{Blocks, blocks-parts, parts-blocks, kept-newest, kept-front, kept-put, kept-fresh}
 use Rattle.tables.specs.Operations.{rowOut, rowAdded, rowCleaned, rowNewest, rowFreed, rowFilled}
 
 -- ---- the address table
 

@@ -7,16 +7,16 @@ use native.Mathlib.Omega.{arith}
 use lib.Dec.{eqb, leb, ltb}
 use lib.ListN.{length, take, drop, getD, length-drop, length-map, take-append-drop}
 use borrow.Author.Tests.{eq-eqb, eqb-true, eqb-false, ltb-true, ltb-false, leb-true, leb-false, lt-ltb, le-ltb, le-leb, lt-leb, not-true, not-false}
 use Rattle.tables.specs.Rows.{rows}
 use Rattle.tables.specs.Records.{readAddress, readBlock, slotsFrom}
 use Rattle.tables.specs.Find.{all, any, every, findFrom, pick, absent, caches, isUsed, isDirty}
 use Rattle.tables.specs.declared.Found.the-variants.{At}
 use Rattle.tables.specs.Unsound.{elem, twice, count, nonzero, nonzeroPadding, addressesUnsound, freeAfterUsed, freeWithFingerprint, eachOnce, usedTwice, blocksUnsound, dirtyUncached}
 use Rattle.tables.specs.Sound.{distinct, tailOk, addressOk, isZero, zeroRow, soundAddresses, addressesFit, blocksFit, rowAddress, rowSlot}
 use Rattle.tables.specs.Index.{unique, rowOk, dirtyOk}
 use Rattle.tables.specs.RowLaws.{rows-length, drop-rows}
 use Rattle.tables.specs.SoundLaws.{and-left, and-right, or-left, or-right, not-true-false}
-use Rattle.tables.specs.SoundSplit.{and-swap, every-and, every-same}
+use Rattle.table_laws.specs.SoundSplit.{and-swap, every-and, every-same}
 
 -- ---- tests of all and of some
 

@@ -9,18 +9,18 @@ use lib.Dec.{eqb, leb, ltb}
 use lib.ListN.{length, take, drop, getD, set, length-append, length-map, length-set, replicate-append-replicate}
 use lib.Seq.{take-at, drop-at, getD-at, set-at, drop-drop, length-take-le}
 use borrow.Author.Tests.{leb-true, lt-ltb}
 use Rattle.tables.specs.Rows.{rows, flat, zeros, rowAt, removeAt, rowBytes, tableBytes}
 use Rattle.tables.specs.Records.{AddressRow, BlockRow, addressRow, blockRow, freeRow, addressBytes, blockBytes, readAddress, readBlock, bytes4, addressTable, blockTable, slotsFrom, freshAddresses, freshBlocks}
 use Rattle.tables.specs.Find.{all, isUsed}
 use Rattle.tables.specs.Operations.{freed, filled, rowOut, rowAdded, rowCleaned, rowNewest, rowFreed, rowFilled}
 use Rattle.tables.specs.Sound.{isZero, tailOk}
 use Rattle.tables.specs.Index.{rowOk}
 use Rattle.tables.specs.RowLaws.{rows-at, length-part}
 use Rattle.tables.specs.SoundLaws.{and-left, map-at}
 use Rattle.tables.specs.ShiftLaws.{length-zeros, length-freed}
 use Rattle.tables.specs.OperationLaws.{Wide, rows-flat, length-flat, drop-flat, rows-whole, map-++, map-removeAt, map-set, length-removeAt, le4-bytes4, off, clean-rows, block-freed}
-use Rattle.tables.specs.KeptLists.{both}
-use Rattle.tables.specs.KeptBlocks.{zeros-four, zeros-three, free-wide, free-count}
+use Rattle.table_laws.specs.KeptLists.{both}
+use Rattle.table_laws.specs.KeptBlocks.{zeros-four, zeros-three, free-wide, free-count}
 
 -- ---- a row
 

@@ -9,18 +9,18 @@ use lib.Dec.{eqb, ltb}
 use lib.ListN.{length, getD, take, drop, length-append}
 use lib.Seq.{take-at}
 use borrow.Author.Tests.{eq-eqb, lt-ltb, not-true}
 use Rattle.tables.specs.Rows.{rows, flat, zeros, rowAt, removeAt}
 use Rattle.tables.specs.Find.{all, every, findFrom, caches, absent, same, isUsed}
 use Rattle.tables.specs.declared.Found.the-variants.{Nothing}
 use Rattle.tables.specs.Sound.{distinct, tailOk, isZero, soundBlocks, usedOk, blockOk, rowSlot}
 use Rattle.tables.specs.Records.{blockBytes, freeRow, slotsFrom, blockTable, freshBlocks, readBlock}
 use Rattle.tables.specs.RowLaws.{rows-length, rows-at, length-part}
 use Rattle.tables.specs.SoundLaws.{and-left, and-right, not-true-false, same-true, all-at, every-at, values-at, values-length}
 use Rattle.tables.specs.ShiftLaws.{length-zeros, length-freed, length-filled}
 use Rattle.tables.specs.FindLaws.{same-refl}
 use Rattle.tables.specs.OperationLaws.{map-removeAt, map-++, rows-whole, Wide, wide-rows, wide-append, wide-removeAt, length-removeAt, slot-parts, tail-parts, flag-parts, le4-bytes4, free-length}
-use Rattle.tables.specs.KeptLists.{both, all-append, all-removeAt, all-mono, zeros-zero, absent-all, every-removeAt, every-snoc, distinct-last, distinct-first, slots-distinct}
+use Rattle.table_laws.specs.KeptLists.{both, all-append, all-removeAt, all-mono, zeros-zero, absent-all, every-removeAt, every-snoc, distinct-last, distinct-first, slots-distinct}
 use Rattle.tables.specs.Operations.{rowNewest, rowFreed, rowFilled, freed, filled}
 
 -- a block row's test looks at the rows behind it only where the row is used
 swap-used : (a b c z u v : Bool) → (c ≡ true → u ≡ true → v ≡ true) → a && (b && cond c u z) ≡ true → a && (b && cond c v z) ≡ true

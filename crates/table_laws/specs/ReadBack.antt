@@ -4,13 +4,13 @@ use mathlib.Core.List.{List, [], _∷_, _++_, map}
 use Prim.Native.Nat.{ℕ, _+_, _-_, _*_, _^_, _≤_, _<_}
 use native.Mathlib.Omega.{arith}
 use lib.ListN.{length, set, drop}
 use Rattle.tables.specs.Rows.{rows, zeros, rowAt, removeAt, rowBytes, tableBytes}
 use Rattle.tables.specs.Records.{AddressRow, BlockRow, blockRow, freeRow, addressBytes, readAddress, readBlock, heldRows, blockRows}
 use Rattle.tables.specs.Operations.{freed, filled, rowOut, rowAdded, rowCleaned, rowNewest, rowFreed, rowFilled}
 use Rattle.tables.specs.RowLaws.{rows-at, length-part}
 use Rattle.tables.specs.ShiftLaws.{length-freed, length-filled}
 use Rattle.tables.specs.OperationLaws.{map-++, map-removeAt, map-set, rows-removed, rows-pushed, rows-set, addr-forth, address-clean, block-freed, block-filled, blocks-last, blocks-first}
-use Rattle.tables.specs.Written.{cleanRow, address-wide}
+use Rattle.table_laws.specs.Written.{cleanRow, address-wide}
 
 -- ---- the n held rows of an address table
 module _ (n : ℕ) (t : List ℕ) (g : tableBytes n ≤ length t) where
