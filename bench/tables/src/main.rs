@@ -26,8 +26,6 @@ peers! {
     (tables_probe_find_address, c_find_address_clang, c_find_address_gcc)(t: P, length: usize, n: usize, a: u32) -> usize;
     (tables_probe_find_fingerprint, c_find_fingerprint_clang, c_find_fingerprint_gcc)(t: P, length: usize, n: usize, g: P, glength: usize) -> usize;
     (tables_probe_find_cached, c_find_cached_clang, c_find_cached_gcc)(t: P, length: usize, d: usize, g: P, glength: usize) -> usize;
-    (tables_probe_next_dirty, c_next_dirty_clang, c_next_dirty_gcc)(t: P, length: usize, n: usize, from: usize) -> usize;
-    (tables_probe_next_dirty_of, c_next_dirty_of_clang, c_next_dirty_of_gcc)(t: P, length: usize, n: usize, from: usize, g: P, glength: usize) -> usize;
     (tables_probe_remove_row, c_remove_row_clang, c_remove_row_gcc)(t: M, length: usize, n: usize, i: usize);
     (tables_probe_push_address, c_push_address_clang, c_push_address_gcc)(t: M, length: usize, n: usize, a: u32, g: P, glength: usize, dirty: u8);
     (tables_probe_set_clean, c_set_clean_clang, c_set_clean_gcc)(t: M, length: usize, n: usize, i: usize);
@@ -108,7 +106,7 @@ macro_rules! no_result {
 
 const PEERS: usize = 3;
 
-const OPERATIONS: [(&str, [Operation; PEERS]); 16] = [
+const OPERATIONS: [(&str, [Operation; PEERS]); 14] = [
     operation!("check for 6", [tables_probe_addresses_unsound, c_six_clang, c_six_gcc], |s, f| f(s.a.as_ptr(), s.a.len(), s.m, s.m, 65_536)),
     operation!("check for 7", [tables_probe_blocks_unsound, c_seven_clang, c_seven_gcc], |s, f| f(s.b.as_ptr(), s.b.len(), s.d)),
     operation!("checks for 6, 7 and 8", [tables_probe_refused, c_refused_clang, c_refused_gcc], |s, f| f(s.a.as_ptr(), s.a.len(), s.m, s.m, 65_536, s.b.as_ptr(), s.b.len(), s.d)),
@@ -117,8 +115,6 @@ const OPERATIONS: [(&str, [Operation; PEERS]); 16] = [
     operation!("find an address, the last", [tables_probe_find_address, c_find_address_clang, c_find_address_gcc], |s, f| f(s.a.as_ptr(), s.a.len(), s.m, ((s.m - 1) * 37 % 65_536) as u32)),
     operation!("find a fingerprint, none", [tables_probe_find_fingerprint, c_find_fingerprint_clang, c_find_fingerprint_gcc], |s, f| f(s.a.as_ptr(), s.a.len(), s.m, s.g.as_ptr(), 32)),
     operation!("find a cached fingerprint, none", [tables_probe_find_cached, c_find_cached_clang, c_find_cached_gcc], |s, f| f(s.b.as_ptr(), s.b.len(), s.d, s.g.as_ptr(), 32)),
-    operation!("next dirty row of a fingerprint, none", [tables_probe_next_dirty_of, c_next_dirty_of_clang, c_next_dirty_of_gcc], |s, f| f(s.a.as_ptr(), s.a.len(), s.m, 0, s.g.as_ptr(), 32)),
-    operation!("next dirty row, 7 rows on", [tables_probe_next_dirty, c_next_dirty_clang, c_next_dirty_gcc], |s, f| f(s.a.as_ptr(), s.a.len(), s.m, s.m - 8)),
     operation!("take out the oldest row", [tables_probe_remove_row, c_remove_row_clang, c_remove_row_gcc], |s, f| no_result!(f(s.a.as_mut_ptr(), s.a.len(), s.m, 0))),
     operation!("add a newest row", [tables_probe_push_address, c_push_address_clang, c_push_address_gcc], |s, f| no_result!(f(s.a.as_mut_ptr(), s.a.len(), s.m - 1, 77, s.g.as_ptr(), 32, 1))),
     operation!("make a row clean", [tables_probe_set_clean, c_set_clean_clang, c_set_clean_gcc], |s, f| no_result!(f(s.a.as_mut_ptr(), s.a.len(), s.m, s.m / 2))),

@@ -1,4 +1,3 @@
 -- The laws that the proofs share. Assumes nothing.
 pub mod Indexes
 pub mod Knowns
-pub mod Zeros

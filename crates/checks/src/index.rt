@@ -117,7 +117,7 @@ pub(crate) fn less_crowded(t: &[u8], d: usize, c: u16) -> u16
 }
 
 // Which bytes are to give the buckets of `d` rows: the first two, or others where too many rows would be of one bucket by them.
-// Any choice is right; who chooses contents so that these eight bytes agree has to try 2^48 of them for each.
+// Every choice is right, and decides only how long the searches take.
 pub(crate) fn choose(t: &[u8], d: usize) -> u16
     requires { ⌜ tableBytes d ≤ length (now t) ⌝ }
     ensures { λ r. ⌜ r + 2 ≤ 32 ⌝ }
@@ -126,7 +126,7 @@ pub(crate) fn choose(t: &[u8], d: usize) -> u16
         return 0;
     }
     let mut c = 0;
-    while c < 6 {
+    while c < 29 {
         let next = less_crowded(t, d, c);
         if next == c {
             return c;

@@ -2,22 +2,21 @@
 use crate::index;
 use crate::known;
 use tables::distinct;
-use tables::find;
 use tables::row;
 ghost use mathlib.Core.Path.{_≡_};
 ghost use mathlib.Core.Bool.{true, false, not, cond, _&&_, _||_};
 ghost use mathlib.Core.List.{map};
-ghost use Prim.Native.Nat.{ℕ, suc, _+_, _<_, _≤_};
+ghost use Prim.Native.Nat.{ℕ, suc, _<_, _≤_};
 ghost use lib.ListN.{length, drop};
-ghost use Rattle.tables.specs.Rows.{rows, rowAt, tableBytes};
+ghost use Rattle.tables.specs.Rows.{rows, rowAt, tableBytes, HasRow, HasRows};
 ghost use Rattle.tables.specs.Find.{all, every, isUsed};
 ghost use Rattle.tables.specs.Unsound.{addressesUnsound, blocksUnsound, dirtyUncached};
-ghost use Rattle.tables.specs.Sound.{addressOk, distinct, isZero, rowAddress, soundAddresses, addressesFit, blocksFit};
+ghost use Rattle.tables.specs.Sound.{addressOk, distinct, rowAddress, zeroRow, soundAddresses, addressesFit, blocksFit};
 ghost use Rattle.tables.specs.Index.{headsLength, Blank, Linked, Indexed, rowOk};
 
 // Whether row `k` is a held address row's, with an address below `p`.
 pub(crate) fn address_ok(t: &[u8], k: usize, p: u32) -> bool
-    requires { ⌜ tableBytes (k + 1) ≤ length (now t) ⌝ }
+    requires { ⌜ HasRow (now t) k ⌝ }
     ensures { λ r. ⌜ r ≡ addressOk p (rowAt (now (t .entry)) k) ⌝ }
 {
     let a = row::address_at(t, k);
@@ -42,14 +41,14 @@ pub(crate) fn addresses_ok(t: &[u8], n: usize, p: u32) -> bool
     true
 }
 
-// Whether all bytes from index `from` on are zero, byte by byte.
-pub(crate) fn zero_from(t: &[u8], from: usize) -> bool
-    requires { ⌜ from ≤ length (now t) ⌝ }
-    ensures { λ r. ⌜ r ≡ all isZero (drop from (now (t .entry))) ⌝ }
+// Whether the rows from row `n` on, of `m`, are zero.
+pub(crate) fn rows_zero(t: &[u8], n: usize, m: usize) -> bool
+    requires { ⌜ HasRows (now t) m ⌝ }
+    ensures { λ r. ⌜ r ≡ all zeroRow (drop n (rows m (now (t .entry)))) ⌝ }
 {
-    let mut k = from;
-    while k < t.len() {
-        if t[k] != 0 {
+    let mut k = n;
+    while k < m {
+        if !row::is_zero(t, k) {
             return false;
         }
         k += 1;
@@ -57,45 +56,9 @@ pub(crate) fn zero_from(t: &[u8], from: usize) -> bool
     true
 }
 
-// Whether the 32 bytes from index `at` on are zero: four words are the same, and the last is zero. (A word that is compared
-// with 0 is taken apart into bytes by the compiler, one that is compared with another is not.)
-pub(crate) fn zero_words(t: &[u8], at: usize) -> bool
-    requires { ⌜ at + 32 ≤ length (now t) ⌝ }
-    ensures { λ r. ⌜ all isZero (drop at (now (t .entry))) ≡ r && all isZero (drop (at + 32) (now (t .entry))) ⌝ }
-{
-    let w = find::word8(t, at);
-    let x = find::word8(t, at + 8);
-    let y = find::word8(t, at + 16);
-    let z = find::word8(t, at + 24);
-    if w != x {
-        return false;
-    }
-    if x != y {
-        return false;
-    }
-    if y != z {
-        return false;
-    }
-    z == 0
-}
-
-// Whether all bytes are zero.
-pub(crate) fn all_zero(t: &[u8]) -> bool
-    ensures { λ r. ⌜ r ≡ all isZero (now (t .entry)) ⌝ }
-{
-    let mut k = 0;
-    while 32 <= t.len() - k {
-        if !zero_words(t, k) {
-            return false;
-        }
-        k += 32;
-    }
-    zero_from(t, k)
-}
-
 // Whether the addresses of the first `n` rows, each below `p`, are all different.
 pub(crate) fn distinct_below(t: &[u8], n: usize, p: u32) -> bool
-    requires { ⌜ (tableBytes n ≤ length (now t)) × (p ≤ 65536) ⌝ }
+    requires { ⌜ HasRows (now t) n × (p ≤ 65536) ⌝ }
     requires { ⌜ ((k : ℕ) → k < n → rowAddress (rowAt (now t) k) < p) ⌝ }
     ensures { λ r. ⌜ r ≡ distinct (map rowAddress (rows n (now (t .entry)))) ⌝ }
 {
@@ -119,12 +82,12 @@ pub(crate) fn addresses_sound(t: &[u8], m: usize, n: usize, p: u32) -> bool
     if !distinct_below(t, n, p) {
         return false;
     }
-    all_zero(row::behind(t, n))
+    rows_zero(t, n, m)
 }
 
 // Whether row `k` and the rows behind it, of which `used` tells, are all used.
 pub(crate) fn used_from(t: &[u8], k: usize, used: bool) -> bool
-    requires { ⌜ tableBytes (k + 1) ≤ length (now t) ⌝ }
+    requires { ⌜ HasRow (now t) k ⌝ }
     ensures { λ r. ⌜ r ≡ isUsed (rowAt (now (t .entry)) k) && used ⌝ }
 {
     if row::is_used(t, k) {
@@ -148,7 +111,7 @@ pub(crate) fn row_ok(t: &[u8], d: usize, k: usize, used: bool) -> bool
         return false;
     }
     if !row::is_used(t, k) {
-        return all_zero(row::block_fingerprint(t, k));
+        return row::no_fingerprint(t, k);
     }
     used
 }

@@ -17,9 +17,9 @@ use Rattle.tables.specs.Index.{rowOk, dirtyOk}
 use Rattle.tables.specs.RowLaws.{rows-length}
 use Rattle.tables.specs.ShiftLaws.{length-zeros}
 use Rattle.tables.specs.OperationLaws.{Wide, wide-rows, addr-forth}
-use Rattle.tables.specs.Checked.{dirty-checked}
-use Rattle.tables.specs.KeptLists.{both, zeros-zero}
-use Rattle.tables.specs.KeptAddresses.{addressOk-of}
+use Rattle.table_laws.specs.Checked.{dirty-checked}
+use Rattle.table_laws.specs.KeptLists.{both, zeros-zero}
+use Rattle.table_laws.specs.KeptAddresses.{addressOk-of}
 use Rattle.paper.specs.Cache.{Numbers, AddressRow, BlockRow, Box, Counters}
 use Rattle.paper.specs.KeyedLaws.{All, all-map, all-of-map, all-left, all-right, all-perm, or-false-left, or-false-right}
 use Rattle.paper.specs.Engine.{Fixed, fixed-≡, fit, engine}
@@ -27,7 +27,7 @@ use Rattle.paper.specs.Lent.{Lent, bit, heldRow, usedRow, asHeld, freeSl
 use Rattle.paper.specs.Sound.{Sound, length-perm, length-slotsFrom}
 use Rattle.paper.specs.Faithful.{slots-below-0}
 use Rattle.paper.specs.Parts.{length-split, length-join, split-join}
-use Rattle.tables.specs.Written.{address-wide, block-wide, block-used, block-read, block-passes, held-rows, held-rest, held-length, block-rows, blocks-length}
+use Rattle.table_laws.specs.Written.{address-wide, block-wide, block-used, block-read, block-passes, held-rows, held-rest, held-length, block-rows, blocks-length}
 use Rattle.paper.specs.SoundTests.{addresses-good, good-addresses, blocks-good, good-blocks, addresses-below, addresses-apart, addresses-once, fit-is, used-apart, used-once, slots-each, each-slots, dirty-cached, cached-dirty}
 
 -- a row of the paper as a row of the tables and back

@@ -48,7 +48,7 @@ pub fn copy_row(
     }
     let a = row::address_at(addrs, i);
     block::put_address(block::in_slot(flash, slot, b.size), disk, a, b.size);
-    tables::put::set_clean(addrs, i);
+    row::set_clean(addrs, i);
     1
 }
 

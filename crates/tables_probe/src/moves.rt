@@ -3,6 +3,7 @@ use crate::fit;
 use tables::SourceAddress;
 use tables::fresh;
 use tables::put;
+use tables::row;
 use tables::shift;
 ghost use mathlib.Core.Path.{_≡_};
 ghost use mathlib.Core.Bool.{cond};
@@ -37,7 +38,7 @@ pub extern "C" fn tables_probe_set_clean(t: &mut [u8], n: usize, i: usize)
     ensures { λ _. ⌜ now (t .exit) ≡ cond (fitsRow n (now (t .entry)) i) (rowCleaned i (now (t .entry))) (now (t .entry)) ⌝ }
 {
     if fit::fits_row(t, n, i) {
-        put::set_clean(t, i);
+        row::set_clean(t, i);
     }
 }
 

@@ -6,10 +6,10 @@ use Rattle.checks.proofs.index.choose.Statement.{statement}
 use Rattle.checks.proofs.index.choose.Tie as tie
 
 abbrev Inv-loop : tie.InvT-loop
-Inv-loop t d c₀ c = c ≤ 7
+Inv-loop t d c₀ c = c ≤ 30
 
 abbrev μ-loop : tie.MeasureT-loop
-μ-loop t d c₀ c = 7 - c
+μ-loop t d c₀ c = 30 - c
 
 pub choose-spec : {M : Type 1} → statement M
 choose-spec =

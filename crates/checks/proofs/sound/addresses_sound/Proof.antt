@@ -1,9 +1,9 @@
 -- The tests in turn; what the second lets pass is below p. Assumes nothing.
 use Rattle.tables.specs.SoundLaws.{addrs-below}
-use Rattle.tables.specs.Find.{all}
-use Rattle.tables.specs.Sound.{isZero, soundAddresses}
+use Rattle.table_laws.specs.Checked.{rows-zero}
+use Rattle.tables.specs.Sound.{soundAddresses}
 use borrow.Author.Tests.{le-leb, lt-leb, not-true, not-false}
-use mathlib.Core.Path.{sym, ap, _∙_}
+use mathlib.Core.Path.{sym, _∙_}
 use native.Mathlib.Omega.{arith}
 use borrow.Author.Needs.{needs}
 use Rattle.checks.proofs.sound.addresses_sound.Statement.{statement}
@@ -35,10 +35,12 @@ returns-4 : tie.Need-returns-4
 unfolding soundAddresses
 returns-4 c =
     let z = c .before in
-    let w = z .before .before in
+    let w = z .before in
     let e = w .before in
-    rw (le-leb _ _ (e .before .before .if1 .left), sym (e .before .addresses-ok .ensures) ∙ not-false _ (e .if2 .left), sym (w .distinct-below .ensures) ∙ not-false _ (z .before .if3 .left))
-    (c .all-zero .ensures ∙ ap (all isZero) (z .behind .ensures))
+    let s = e .before .before .before .before in
+    let a = s .args in
+    rw (le-leb _ _ (e .before .before .if1 .left), sym (e .before .addresses-ok .ensures) ∙ not-false _ (e .if2 .left), sym (w .distinct-below .ensures) ∙ not-false _ (z .if3 .left))
+    (c .rows-zero .ensures ∙ rows-zero (a .m) (a .n) (a .t .now) (e .before .before .if1 .left) (s .pre .0))
 
 pub addresses-sound-spec : {M : Type 1} → statement M
 addresses-sound-spec =
@@ -49,6 +51,5 @@ addresses-sound-spec =
     returns-2
     distinct-below-requires
     returns-3
-    (λ c κs. search needs)
     (λ c κs. search needs)
     returns-4)

@@ -3,7 +3,7 @@ use mathlib.Core.Path.{_≡_, refl, sym, _∙_}
 use mathlib.Core.Bool.{Bool, true, false, not, false≢true}
 use borrow.Author.Needs.{needs}
 use borrow.Author.Tests.{not-true, not-false}
-use Rattle.tables.specs.Checked.{blocks-checked}
+use Rattle.table_laws.specs.Checked.{blocks-checked}
 use Rattle.tables.specs.SoundLaws.{slots-below}
 use Rattle.checks.proofs.sound.blocks_sound.Statement.{statement}
 use Rattle.checks.proofs.sound.blocks_sound.Tie as tie

@@ -4,7 +4,7 @@ use Prim.Native.Nat.{_≤_}
 use native.Mathlib.Omega.{arith}
 use lib.ListN.{length}
 use Rattle.tables.specs.Rows.{tableBytes}
-use Rattle.tables.specs.Checked.{fit-addresses, fit-blocks, dirty-checked}
+use Rattle.table_laws.specs.Checked.{fit-addresses, fit-blocks, dirty-checked}
 use borrow.Author.Needs.{needs}
 use Rattle.checks.proofs.sound.tables_refused.Statement.{statement}
 use Rattle.checks.proofs.sound.tables_refused.Tie as tie

@@ -5,7 +5,7 @@ use native.Mathlib.Omega.{arith}
 use lib.ListN.{take}
 use Rattle.paper.specs.KeyedLaws.{clash}
 use Rattle.parts.specs.Asked.{full}
-use Rattle.tables.specs.Written.{front-free}
+use Rattle.table_laws.specs.Written.{front-free}
 use Rattle.step.proofs.Stepping.{gone-out, gone-known, gone-cached, gone-freed}
 use borrow.Author.Needs.{needs}
 use Rattle.step.proofs.steps.step3.Statement.{statement}

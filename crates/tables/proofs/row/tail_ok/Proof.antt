@@ -1,5 +1,5 @@
 -- The four bytes are those of the row, and a number of at most 1 has no other digits: `tail-number`. Assumes nothing.
-use mathlib.Core.Path.{_≡_, sym, ap, _∙_}
+use mathlib.Core.Path.{ap, _∙_}
 use lib.Dec.{leb}
 use native.Mathlib.Omega.{arith}
 use Prim.Native.Nat.{ℕ}

@@ -5,7 +5,7 @@ use native.Mathlib.Omega.{arith}
 use borrow.Author.Tests.{eq-eqb, ne-eqb}
 use Rattle.tables.specs.Rows.{rows}
 use Rattle.tables.specs.Find.{all}
-use Rattle.tables.specs.Promises.{Passed, passed}
+use Rattle.table_laws.specs.Promises.{Passed, passed}
 use Rattle.tables_probe.specs.Probe.{refused, ifSound}
 use lib.ListN.{length-replicate}
 use Rattle.tables.specs.SoundLaws.{filled-with}
