@@ -1,0 +1,65 @@
+//! The refusals of the tables, 6, 7 and 8.
+use crate::engine::Index;
+use crate::layout::*;
+
+/// The first refusal that applies, or an index of the block rows.
+pub fn check<I: Index>(sizes: &Sizes, addresses: &[u8], blocks: &[u8]) -> Result<I, u32> {
+    if !addresses_sound(sizes, addresses) {
+        return Err(6);
+    }
+    let index: I = indexed(sizes.d, blocks).ok_or(7u32)?;
+    let has_block = |row: &Row| index.find(blocks, held_fingerprint(row)).is_some();
+    if rows(&addresses[..sizes.n * ROW]).all(|row| !is_dirty(row) || has_block(row)) {
+        Ok(index)
+    } else {
+        Err(8)
+    }
+}
+
+fn addresses_sound(sizes: &Sizes, addresses: &[u8]) -> bool {
+    let Sizes { p, m, n, .. } = *sizes;
+    if n > m {
+        return false;
+    }
+    let (held, behind) = addresses.split_at(n * ROW);
+    let held_sound = if p <= 64 * 64 { held_sound::<64>(p, held) } else { held_sound::<1024>(p, held) };
+    held_sound && all_zero(behind)
+}
+
+/// Whether each row is one of an address below `p`, and no address comes twice: there is a bit for each of WORDS * 64 addresses.
+fn held_sound<const WORDS: usize>(p: usize, held: &[u8]) -> bool {
+    let mut seen = [0u64; WORDS];
+    rows(held).all(|row| {
+        let a = address(row) as usize;
+        a < p && tail_ok(row) && {
+            let (word, bit) = (&mut seen[a / 64], 1 << (a % 64));
+            let new = *word & bit == 0;
+            *word |= bit;
+            new
+        }
+    })
+}
+
+/// Whether all bytes are zero: parts of 128 without a branch inside, so that the compiler takes them by its widest words.
+fn all_zero(bytes: &[u8]) -> bool {
+    bytes.chunks(128).all(|part| part.iter().fold(0, |all, byte| all | byte) == 0)
+}
+
+/// An index of the used rows, where the block rows are sound.
+fn indexed<I: Index>(d: usize, blocks: &[u8]) -> Option<I> {
+    let mut index = I::with_room(d);
+    let mut slots = [false; 256];
+    let mut any_used = false;
+    for (k, row) in rows(blocks).enumerate() {
+        let slot = slot(row);
+        if !tail_ok(row) || slot >= d || std::mem::replace(&mut slots[slot], true) {
+            return None;
+        }
+        any_used |= is_used(row);
+        let good = if is_used(row) { index.add(blocks, k) } else { !any_used && all_zero(cached_fingerprint(row)) };
+        if !good {
+            return None;
+        }
+    }
+    Some(index)
+}
