@@ -2,15 +2,17 @@
 use crate::engine::Index;
 use crate::layout::*;
 
-/// The first refusal that applies, or an index of the block rows.
-pub fn check<I: Index>(sizes: &Sizes, addresses: &[u8], blocks: &[u8]) -> Result<I, u32> {
+/// Adds the used block rows to the index, and gives the first refusal that applies.
+pub fn check<I: Index>(sizes: &Sizes, addresses: &[u8], blocks: &[u8], index: &mut I) -> Result<(), u32> {
     if !addresses_sound(sizes, addresses) {
         return Err(6);
     }
-    let index: I = indexed(sizes.d, blocks).ok_or(7u32)?;
+    if !blocks_sound(sizes.d, blocks, index) {
+        return Err(7);
+    }
     let has_block = |row: &Row| index.find(blocks, held_fingerprint(row)).is_some();
     if rows(&addresses[..sizes.n * ROW]).all(|row| !is_dirty(row) || has_block(row)) {
-        Ok(index)
+        Ok(())
     } else {
         Err(8)
     }
@@ -45,21 +47,13 @@ fn all_zero(bytes: &[u8]) -> bool {
     bytes.chunks(128).all(|part| part.iter().fold(0, |all, byte| all | byte) == 0)
 }
 
-/// An index of the used rows, where the block rows are sound.
-fn indexed<I: Index>(d: usize, blocks: &[u8]) -> Option<I> {
-    let mut index = I::with_room(d);
+fn blocks_sound<I: Index>(d: usize, blocks: &[u8], index: &mut I) -> bool {
     let mut slots = [false; 256];
     let mut any_used = false;
-    for (k, row) in rows(blocks).enumerate() {
+    rows(blocks).enumerate().all(|(k, row)| {
         let slot = slot(row);
-        if !tail_ok(row) || slot >= d || std::mem::replace(&mut slots[slot], true) {
-            return None;
-        }
         any_used |= is_used(row);
-        let good = if is_used(row) { index.add(blocks, k) } else { !any_used && all_zero(cached_fingerprint(row)) };
-        if !good {
-            return None;
-        }
-    }
-    Some(index)
+        let alone = tail_ok(row) && slot < d && !std::mem::replace(&mut slots[slot], true);
+        alone && if is_used(row) { index.add(blocks, k) } else { !any_used && all_zero(cached_fingerprint(row)) }
+    })
 }

@@ -172,11 +172,15 @@ macro_rules! checked {
             return 2;
         }
         let lengths = [$disk.len(), $flash.len(), $addresses.len(), $blocks.len()];
-        let checked = numbers($state, lengths, $a, $block).and_then(|sizes| check::<I>(&sizes, $addresses, $blocks).map(|index| (sizes, index)));
-        match checked {
+        let sizes = match numbers($state, lengths, $a, $block) {
             Err(refused) => return refused,
-            Ok(_) if $counted && counters_too_large($state) => return 9,
-            Ok(both) => both,
+            Ok(sizes) => sizes,
+        };
+        let mut index = I::with_room(sizes.d);
+        match check(&sizes, $addresses, $blocks, &mut index) {
+            Err(refused) => return refused,
+            Ok(()) if $counted && counters_too_large($state) => return 9,
+            Ok(()) => (sizes, index),
         }
     }};
 }
