@@ -22,10 +22,14 @@ impl Array {
     }
 }
 
-impl Index for Array {
-    fn with_room(_: usize) -> Array {
+impl Default for Array {
+    fn default() -> Array {
         Array([0; PLACES])
     }
+}
+
+impl Index for Array {
+    fn reserve(&mut self, _: usize) {}
 
     fn add(&mut self, blocks: &[u8], k: usize) -> bool {
         let free = self.search(blocks, cached_fingerprint(row(blocks, k)));
@@ -37,6 +41,10 @@ impl Index for Array {
 
     fn find(&self, blocks: &[u8], g: &Fingerprint) -> Option<usize> {
         self.search(blocks, g).ok()
+    }
+
+    fn has(&self, blocks: &[u8], g: &Fingerprint) -> bool {
+        self.search(blocks, g).is_ok()
     }
 }
 

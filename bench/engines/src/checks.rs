@@ -10,7 +10,7 @@ pub fn check<I: Index>(sizes: &Sizes, addresses: &[u8], blocks: &[u8], index: &m
     if !blocks_sound(sizes.d, blocks, index) {
         return Err(7);
     }
-    let has_block = |row: &Row| index.find(blocks, held_fingerprint(row)).is_some();
+    let has_block = |row: &Row| index.has(blocks, held_fingerprint(row));
     if rows(&addresses[..sizes.n * ROW]).all(|row| !is_dirty(row) || has_block(row)) {
         Ok(())
     } else {
@@ -48,6 +48,7 @@ fn all_zero(bytes: &[u8]) -> bool {
 }
 
 fn blocks_sound<I: Index>(d: usize, blocks: &[u8], index: &mut I) -> bool {
+    index.reserve(d);
     let mut slots = [false; 256];
     let mut any_used = false;
     rows(blocks).enumerate().all(|(k, row)| {

@@ -14,13 +14,14 @@ const FIRST_COUNTER: usize = 5;
 const MOST_COUNTED: u64 = 1 << 63;
 
 /// An index of the used block rows by their fingerprints, made in each call. It is asked while the block rows are where they were.
-pub trait Index {
-    /// An index without rows, of which there will be at most `d`.
-    fn with_room(d: usize) -> Self;
+pub trait Index: Default {
+    /// Makes room for `d` rows.
+    fn reserve(&mut self, d: usize);
     /// Adds a used row. False where a row that was added has the same fingerprint.
     fn add(&mut self, blocks: &[u8], k: usize) -> bool;
     /// The row that has the fingerprint `g`.
     fn find(&self, blocks: &[u8], g: &Fingerprint) -> Option<usize>;
+    fn has(&self, blocks: &[u8], g: &Fingerprint) -> bool;
 }
 
 /// The refusals that need no table: 1, 2 and 3. An address is `None` in a call without one, and so is a block.
@@ -41,7 +42,7 @@ fn counters_too_large(state: &[u8]) -> bool {
 }
 
 /// Adds to the counters and fills the answer.
-fn done(state: &mut [u8], answer: &mut [u8], word: u64, flash_writes: u64, primary_writes: u64) -> u32 {
+fn done(state: &mut [u8], answer: &mut [u8], word: u64, flash_writes: u64, primary_writes: u64) -> Result<(), u32> {
     let is_read = word == HIT || word == MISS;
     for (k, more) in [is_read as u64, (word == HIT) as u64, flash_writes, primary_writes].into_iter().enumerate() {
         let counter = number(state, FIRST_COUNTER + k);
@@ -50,11 +51,11 @@ fn done(state: &mut [u8], answer: &mut [u8], word: u64, flash_writes: u64, prima
     fill(answer, word, flash_writes, primary_writes)
 }
 
-fn fill(answer: &mut [u8], word: u64, first: u64, second: u64) -> u32 {
+fn fill(answer: &mut [u8], word: u64, first: u64, second: u64) -> Result<(), u32> {
     set_number(answer, 0, word);
     set_number(answer, 1, first);
     set_number(answer, 2, second);
-    0
+    Ok(())
 }
 
 fn copy(from: &[u8], i: usize, to: &mut [u8], j: usize, b: usize) {
@@ -82,7 +83,7 @@ fn oldest_unwanted<I: Index>(index: &I, held: &[u8], blocks: &[u8]) -> Option<us
 /// What the step takes: the box, with its numbers and an index of its block rows.
 struct Taken<'a, I> {
     sizes: Sizes,
-    index: I,
+    index: &'a I,
     state: &'a mut [u8],
     disk: &'a mut [u8],
     flash: &'a mut [u8],
@@ -112,7 +113,7 @@ impl<I: Index> Taken<'_, I> {
             }
         }
         if let Some(place) = gone {
-            let has_block = |row: &Row| self.index.find(self.blocks, held_fingerprint(row)).is_some();
+            let has_block = |row: &Row| self.index.has(self.blocks, held_fingerprint(row));
             if !rows(&self.addresses[..n * ROW]).all(has_block) {
                 set_free(self.blocks, place);
                 cached = cached.map(|k| if k < place { k + 1 } else { k });
@@ -128,7 +129,7 @@ impl<I: Index> Taken<'_, I> {
         }
         let mut place = 0;
         if is_used(row(self.blocks, 0)) {
-            place = oldest_unwanted(&self.index, &self.addresses[..n * ROW], self.blocks).unwrap_or(0);
+            place = oldest_unwanted(self.index, &self.addresses[..n * ROW], self.blocks).unwrap_or(0);
             let old = *row(self.blocks, place);
             for k in 0..n {
                 let held = row(self.addresses, k);
@@ -148,46 +149,50 @@ impl<I: Index> Taken<'_, I> {
     }
 }
 
-pub fn open(state: &mut [u8], disk: &[u8], flash: &[u8], addresses: &mut [u8], blocks: &mut [u8]) -> u32 {
+pub fn open(state: &mut [u8], disk: &[u8], flash: &[u8], addresses: &mut [u8], blocks: &mut [u8]) -> Result<(), u32> {
     if state.len() != 72 {
-        return 2;
+        return Err(2);
     }
     set_number(state, 4, 0);
-    if let Err(refused) = numbers(state, [disk.len(), flash.len(), addresses.len(), blocks.len()], None, None) {
-        return refused;
-    }
+    numbers(state, [disk.len(), flash.len(), addresses.len(), blocks.len()], None, None)?;
     state[FIRST_COUNTER * 8..].fill(0);
     addresses.fill(0);
     blocks.fill(0);
     for (k, row) in blocks.chunks_exact_mut(ROW).enumerate() {
         row[32..36].copy_from_slice(&(k as u32).to_le_bytes());
     }
-    0
+    Ok(())
 }
 
-/// The refusals of a read or a write, in their order; gives the sizes and the index where there is none.
-macro_rules! checked {
-    ($state:ident, $a:expr, $disk:ident, $flash:ident, $addresses:ident, $blocks:ident, $block:expr, $answer:ident, $counted:expr) => {{
-        if $state.len() != 72 || $answer.len() != 24 {
-            return 2;
-        }
-        let lengths = [$disk.len(), $flash.len(), $addresses.len(), $blocks.len()];
-        let sizes = match numbers($state, lengths, $a, $block) {
-            Err(refused) => return refused,
-            Ok(sizes) => sizes,
-        };
-        let mut index = I::with_room(sizes.d);
-        match check(&sizes, $addresses, $blocks, &mut index) {
-            Err(refused) => return refused,
-            Ok(()) if $counted && counters_too_large($state) => return 9,
-            Ok(()) => (sizes, index),
-        }
-    }};
+/// The refusals of a call, in their order. Where there is none the index has the used block rows.
+#[allow(clippy::too_many_arguments)]
+fn checked<I: Index>(
+    index: &mut I,
+    state: &[u8],
+    a: Option<u32>,
+    disk: &[u8],
+    flash: &[u8],
+    addresses: &[u8],
+    blocks: &[u8],
+    block: Option<usize>,
+    answer: &[u8],
+    counted: bool,
+) -> Result<Sizes, u32> {
+    if state.len() != 72 || answer.len() != 24 {
+        return Err(2);
+    }
+    let sizes = numbers(state, [disk.len(), flash.len(), addresses.len(), blocks.len()], a, block)?;
+    check(&sizes, addresses, blocks, index)?;
+    if counted && counters_too_large(state) {
+        return Err(9);
+    }
+    Ok(sizes)
 }
 
 #[allow(clippy::too_many_arguments)]
-pub fn read<I: Index>(state: &mut [u8], a: u32, disk: &mut [u8], flash: &mut [u8], addresses: &mut [u8], blocks: &mut [u8], block: &mut [u8], answer: &mut [u8]) -> u32 {
-    let (sizes, index) = checked!(state, Some(a), disk, flash, addresses, blocks, Some(block.len()), answer, true);
+pub fn read<I: Index>(state: &mut [u8], a: u32, disk: &mut [u8], flash: &mut [u8], addresses: &mut [u8], blocks: &mut [u8], block: &mut [u8], answer: &mut [u8]) -> Result<(), u32> {
+    let mut index = I::default();
+    let sizes = checked(&mut index, state, Some(a), disk, flash, addresses, blocks, Some(block.len()), answer, true)?;
     let b = sizes.b;
     let held = held(&sizes, addresses, a);
     let old = held.map(|k| *row(addresses, k));
@@ -203,14 +208,15 @@ pub fn read<I: Index>(state: &mut [u8], a: u32, disk: &mut [u8], flash: &mut [u8
             (MISS, g, index.find(blocks, &g), false)
         }
     };
-    let mut taken = Taken { sizes, index, state, disk, flash, addresses, blocks };
+    let mut taken = Taken { sizes, index: &index, state, disk, flash, addresses, blocks };
     let (flash_writes, primary_writes) = taken.step(a, held, &g, cached, block, dirty);
     done(state, answer, word, flash_writes, primary_writes)
 }
 
 #[allow(clippy::too_many_arguments)]
-pub fn write<I: Index>(state: &mut [u8], a: u32, disk: &mut [u8], flash: &mut [u8], addresses: &mut [u8], blocks: &mut [u8], block: &[u8], answer: &mut [u8], dirty: bool) -> u32 {
-    let (sizes, index) = checked!(state, Some(a), disk, flash, addresses, blocks, Some(block.len()), answer, true);
+pub fn write<I: Index>(state: &mut [u8], a: u32, disk: &mut [u8], flash: &mut [u8], addresses: &mut [u8], blocks: &mut [u8], block: &[u8], answer: &mut [u8], dirty: bool) -> Result<(), u32> {
+    let mut index = I::default();
+    let sizes = checked(&mut index, state, Some(a), disk, flash, addresses, blocks, Some(block.len()), answer, true)?;
     let held = held(&sizes, addresses, a);
     let g = fingerprint(block);
     let cached = index.find(blocks, &g);
@@ -218,14 +224,15 @@ pub fn write<I: Index>(state: &mut [u8], a: u32, disk: &mut [u8], flash: &mut [u
     if !dirty {
         copy(block, 0, disk, a as usize, sizes.b);
     }
-    let mut taken = Taken { sizes, index, state, disk, flash, addresses, blocks };
+    let mut taken = Taken { sizes, index: &index, state, disk, flash, addresses, blocks };
     let (flash_writes, primary_writes) = taken.step(a, held, &g, cached, block, dirty);
     done(state, answer, word, flash_writes, primary_writes + !dirty as u64)
 }
 
 #[allow(clippy::too_many_arguments)]
-pub fn write_invalidate<I: Index>(state: &mut [u8], a: u32, disk: &mut [u8], flash: &[u8], addresses: &mut [u8], blocks: &mut [u8], block: &[u8], answer: &mut [u8]) -> u32 {
-    let (sizes, index) = checked!(state, Some(a), disk, flash, addresses, blocks, Some(block.len()), answer, true);
+pub fn write_invalidate<I: Index>(state: &mut [u8], a: u32, disk: &mut [u8], flash: &[u8], addresses: &mut [u8], blocks: &mut [u8], block: &[u8], answer: &mut [u8]) -> Result<(), u32> {
+    let mut index = I::default();
+    let sizes = checked(&mut index, state, Some(a), disk, flash, addresses, blocks, Some(block.len()), answer, true)?;
     let word = if index.find(blocks, &fingerprint(block)).is_some() { SAME } else { NEW };
     copy(block, 0, disk, a as usize, sizes.b);
     if let Some(k) = held(&sizes, addresses, a) {
@@ -241,8 +248,9 @@ pub fn write_invalidate<I: Index>(state: &mut [u8], a: u32, disk: &mut [u8], fla
     done(state, answer, word, 0, 1)
 }
 
-pub fn flush<I: Index>(state: &mut [u8], disk: &mut [u8], flash: &[u8], addresses: &mut [u8], blocks: &[u8], answer: &mut [u8]) -> u32 {
-    let (sizes, index) = checked!(state, None, disk, flash, addresses, blocks, None, answer, true);
+pub fn flush<I: Index>(state: &mut [u8], disk: &mut [u8], flash: &[u8], addresses: &mut [u8], blocks: &[u8], answer: &mut [u8]) -> Result<(), u32> {
+    let mut index = I::default();
+    let sizes = checked(&mut index, state, None, disk, flash, addresses, blocks, None, answer, true)?;
     let mut primary_writes = 0;
     for k in 0..sizes.n {
         let held = *row(addresses, k);
@@ -256,8 +264,9 @@ pub fn flush<I: Index>(state: &mut [u8], disk: &mut [u8], flash: &[u8], addresse
     done(state, answer, DONE, 0, primary_writes)
 }
 
-pub fn look<I: Index>(state: &[u8], a: u32, disk: &[u8], flash: &[u8], addresses: &[u8], blocks: &[u8], answer: &mut [u8]) -> u32 {
-    let (sizes, index) = checked!(state, Some(a), disk, flash, addresses, blocks, None, answer, false);
+pub fn look<I: Index>(state: &[u8], a: u32, disk: &[u8], flash: &[u8], addresses: &[u8], blocks: &[u8], answer: &mut [u8]) -> Result<(), u32> {
+    let mut index = I::default();
+    let sizes = checked(&mut index, state, Some(a), disk, flash, addresses, blocks, None, answer, false)?;
     let place = held(&sizes, addresses, a).and_then(|k| index.find(blocks, held_fingerprint(row(addresses, k))));
     match place {
         Some(place) => fill(answer, CACHE, (slot(row(blocks, place)) * sizes.b) as u64, sizes.b as u64),

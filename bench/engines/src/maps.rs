@@ -23,19 +23,26 @@ impl Hasher for FirstBytes {
 
 pub type ByFingerprint<T> = HashMap<Fingerprint, T, BuildHasherDefault<FirstBytes>>;
 
+#[derive(Default)]
 pub struct Maps(ByFingerprint<u8>);
 
 impl Index for Maps {
-    fn with_room(d: usize) -> Maps {
-        Maps(HashMap::with_capacity_and_hasher(d, BuildHasherDefault::default()))
+    fn reserve(&mut self, d: usize) {
+        self.0.reserve(d);
     }
 
+    #[inline(always)]
     fn add(&mut self, blocks: &[u8], k: usize) -> bool {
         self.0.insert(*cached_fingerprint(row(blocks, k)), k as u8).is_none()
     }
 
     fn find(&self, _: &[u8], g: &Fingerprint) -> Option<usize> {
         self.0.get(g).map(|k| *k as usize)
+    }
+
+    #[inline(always)]
+    fn has(&self, _: &[u8], g: &Fingerprint) -> bool {
+        self.0.contains_key(g)
     }
 }
 
