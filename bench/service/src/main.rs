@@ -92,7 +92,7 @@ struct Bounds {
 
 impl Bounds {
     fn line(&mut self, what: &str, value: String, good: bool) {
-        println!("{what:72}{value:>10} {}", if good { "met" } else { "MISSED" });
+        println!("{what:92}{value:>6} {}", if good { "met" } else { "MISSED" });
         self.kept &= good;
     }
 
