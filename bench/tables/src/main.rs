@@ -112,26 +112,8 @@ const OPERATIONS: [(&str, [Operation; PEERS]); 16] = [
     operation!("check for 6", [tables_probe_addresses_unsound, c_six_clang, c_six_gcc], |s, f| f(s.a.as_ptr(), s.a.len(), s.m, s.m, 65_536)),
     operation!("check for 7", [tables_probe_blocks_unsound, c_seven_clang, c_seven_gcc], |s, f| f(s.b.as_ptr(), s.b.len(), s.d)),
     operation!("checks for 6, 7 and 8", [tables_probe_refused, c_refused_clang, c_refused_gcc], |s, f| f(s.a.as_ptr(), s.a.len(), s.m, s.m, 65_536, s.b.as_ptr(), s.b.len(), s.d)),
-    operation!("the checks, then: a row without its block", [tables_probe_some_uncached, c_some_uncached_clang, c_some_uncached_gcc], |s, f| f(
-        s.a.as_ptr(),
-        s.a.len(),
-        s.m,
-        s.m,
-        65_536,
-        s.b.as_ptr(),
-        s.b.len(),
-        s.d
-    )),
-    operation!("the checks, then: a block without an address", [tables_probe_oldest_unknown, c_oldest_unknown_clang, c_oldest_unknown_gcc], |s, f| f(
-        s.a.as_ptr(),
-        s.a.len(),
-        s.m,
-        s.m,
-        65_536,
-        s.b.as_ptr(),
-        s.b.len(),
-        s.d
-    )),
+    operation!("the checks, then: a row without its block", [tables_probe_some_uncached, c_some_uncached_clang, c_some_uncached_gcc], |s, f| f(s.a.as_ptr(), s.a.len(), s.m, s.m, 65_536, s.b.as_ptr(), s.b.len(), s.d)),
+    operation!("the checks, then: a block without an address", [tables_probe_oldest_unknown, c_oldest_unknown_clang, c_oldest_unknown_gcc], |s, f| f(s.a.as_ptr(), s.a.len(), s.m, s.m, 65_536, s.b.as_ptr(), s.b.len(), s.d)),
     operation!("find an address, the last", [tables_probe_find_address, c_find_address_clang, c_find_address_gcc], |s, f| f(s.a.as_ptr(), s.a.len(), s.m, ((s.m - 1) * 37 % 65_536) as u32)),
     operation!("find a fingerprint, none", [tables_probe_find_fingerprint, c_find_fingerprint_clang, c_find_fingerprint_gcc], |s, f| f(s.a.as_ptr(), s.a.len(), s.m, s.g.as_ptr(), 32)),
     operation!("find a cached fingerprint, none", [tables_probe_find_cached, c_find_cached_clang, c_find_cached_gcc], |s, f| f(s.b.as_ptr(), s.b.len(), s.d, s.g.as_ptr(), 32)),
