@@ -60,8 +60,9 @@ impl Group {
     }
 }
 
+/// Microseconds, to about three digits.
 fn micro(nanoseconds: f64) -> String {
-    let digits = if nanoseconds < 9_995.0 { 2 } else { (nanoseconds < 99_950.0) as usize };
+    let digits = [999.5, 9_995.0, 99_950.0].iter().filter(|end| nanoseconds < **end).count();
     format!("{:.digits$}", nanoseconds / 1000.0)
 }
 
