@@ -168,7 +168,7 @@ fn main() {
     }
 
     println!("\nMicroseconds of a call by the service / by {}, and how many times as fast the service is:\n", ENGINES[1]);
-    println!("| box | {} |\n|---|{}", SCENARIOS[..COLUMNS].join(" | "), "---:|".repeat(COLUMNS));
+    println!("| a call, microseconds: service / peer (speed over the peer's) | {} |\n|---|{}", SCENARIOS[..COLUMNS].join(" | "), "---:|".repeat(COLUMNS));
     let rows = [(&large, FULL), (&large, HALF_FULL), (&large, EMPTY), (&small, SMALL), (&small, SINGLE), (&large, ONE_BUCKET)];
     rows.iter().for_each(|(group, place)| println!("{}", group.markdown(*place)));
     for (k, same) in SAME.iter().enumerate() {

@@ -257,7 +257,7 @@ fn main() {
     println!("Above 1 in the columns of C / proved: the proved code is faster. The probe's own tests of its arguments are in its time.");
     stack();
     println!("\nNanoseconds of a search, m = 1,024 and d = 256, and how many times as fast the proved code is:\n");
-    println!("| search | proved | C, clang -O3 | C, gcc -O3 |\n|---|---:|---:|---:|");
+    println!("| a search, nanoseconds | proved | C, clang -O3 | C, gcc -O3 |\n|---|---:|---:|---:|");
     for row in SEARCHES.map(|name| named(&rows, name)) {
         let [proved, clang, gcc] = row.times[0];
         println!("| {} | {proved:.0} | {clang:.0} ({:.2}) | {gcc:.0} ({:.2}) |", row.name, clang / proved, gcc / proved);
