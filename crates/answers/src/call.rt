@@ -31,7 +31,8 @@ fn read(
     requires { ⌜ b .size ≤ 4096 ⌝ }
     ensures { λ r. ⌜ numbersOf (r .box_record) ≡ numbersOf b ⌝ }
     ensures { λ r. ⌜ doneOf r (now (disk .exit)) (now (flash .exit)) (now (addresses .exit)) (now (blocks .exit))
-        ≡ doing (numbersOf b) (lent b (now (disk .entry)) (now (flash .entry)) (now (addresses .entry)) (now (blocks .entry)) (countersOf c)) (Option.some (Ask.read (a .0) (replicate (b .size) 0))) ⌝ }
+        ≡ doing (numbersOf b) (lent b (now (disk .entry)) (now (flash .entry)) (now (addresses .entry)) (now (blocks .entry)) (countersOf c))
+        (Option.some (Ask.read (a .0) (replicate (b .size) 0))) ⌝ }
 {
     let mut block = [0u8; 4096];
     let size = b.size;
@@ -53,7 +54,8 @@ fn write(
     requires { ⌜ b .size ≤ 4096 ⌝ }
     ensures { λ r. ⌜ numbersOf (r .box_record) ≡ numbersOf b ⌝ }
     ensures { λ r. ⌜ doneOf r (now (disk .exit)) (now (flash .exit)) (now (addresses .exit)) (now (blocks .exit))
-        ≡ doing (numbersOf b) (lent b (now (disk .entry)) (now (flash .entry)) (now (addresses .entry)) (now (blocks .entry)) (countersOf c)) (Option.some (askOf kind (a .0) (replicate (b .size) x))) ⌝ }
+        ≡ doing (numbersOf b) (lent b (now (disk .entry)) (now (flash .entry)) (now (addresses .entry)) (now (blocks .entry)) (countersOf c))
+        (Option.some (askOf kind (a .0) (replicate (b .size) x))) ⌝ }
 {
     let block = [x; 4096];
     let size = b.size;
@@ -82,7 +84,8 @@ fn look(
 ) -> Outcome
     ensures { λ r. ⌜ numbersOf (r .box_record) ≡ numbersOf b ⌝ }
     ensures { λ r. ⌜ doneOf r (now (disk .entry)) (now (flash .entry)) (now (addresses .entry)) (now (blocks .entry))
-        ≡ doing (numbersOf b) (lent b (now (disk .entry)) (now (flash .entry)) (now (addresses .entry)) (now (blocks .entry)) (countersOf c)) (Option.some (Ask.look (a .0))) ⌝ }
+        ≡ doing (numbersOf b) (lent b (now (disk .entry)) (now (flash .entry)) (now (addresses .entry)) (now (blocks .entry)) (countersOf c))
+        (Option.some (Ask.look (a .0))) ⌝ }
 {
     let answer = look::look(b, a, disk, flash, addresses, blocks);
     Outcome {
@@ -116,7 +119,8 @@ pub fn call(
     requires { ⌜ b .size ≤ 4096 ⌝ }
     ensures { λ r. ⌜ numbersOf (r .box_record) ≡ numbersOf b ⌝ }
     ensures { λ r. ⌜ doneOf r (now (disk .exit)) (now (flash .exit)) (now (addresses .exit)) (now (blocks .exit))
-        ≡ doing (numbersOf b) (lent b (now (disk .entry)) (now (flash .entry)) (now (addresses .entry)) (now (blocks .entry)) (countersOf c)) (asked (b .size) line) ⌝ }
+        ≡ doing (numbersOf b) (lent b (now (disk .entry)) (now (flash .entry)) (now (addresses .entry)) (now (blocks .entry)) (countersOf c))
+        (asked (b .size) line) ⌝ }
 {
     match line {
         Command::Read(a) => read(b, SourceAddress(a), disk, flash, addresses, blocks, c),

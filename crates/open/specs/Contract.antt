@@ -23,7 +23,11 @@ pub record Opened : Type 0 where
   pub lent : Lent
 
 abbrev pub begun : Begun → (disk flash addresses blocks : List ℕ) → Opened
-begun r disk flash addresses blocks = record { number = numberOf (r .answer); numbers = numbersOf (r .box_record); lent = lent (r .box_record) disk flash addresses blocks (countersOf (r .counters)) }
+begun r disk flash addresses blocks = record {
+  number = numberOf (r .answer);
+  numbers = numbersOf (r .box_record);
+  lent = lent (r .box_record) disk flash addresses blocks (countersOf (r .counters));
+}
 
 abbrev pub opens : BoxRecord → (disk flash addresses blocks : List ℕ) → Counters → Opened
 opens b disk flash addresses blocks k =

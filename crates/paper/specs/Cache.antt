@@ -133,7 +133,12 @@ module _ {F X : Type 0} (H : Hashing F X) where
   unfoldable pub oldestOut : Box F X → List (AddressRow F) → RowOut F X
   oldestOut s [] = record { rows = []; gone = none; disk = s .disk; primary = 0 }
   oldestOut s (r ∷ rs) =
-      record { rows = rs; gone = some (r .fingerprint); disk = copied (λ f. true) (r ∷ []) (s .used) (s .flash) (s .disk); primary = copies (λ f. true) (r ∷ []) }
+      record {
+        rows = rs;
+        gone = some (r .fingerprint);
+        disk = copied (λ f. true) (r ∷ []) (s .used) (s .flash) (s .disk);
+        primary = copies (λ f. true) (r ∷ []);
+      }
 
   unfoldable pub step1 : ℕ → Box F X → ℕ → RowOut F X
   step1 m s a =

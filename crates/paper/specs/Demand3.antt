@@ -84,6 +84,8 @@ pub record Demand3 (N : Numbers) (t : Lent) (qs : List Ask) : Type 0 where
   pub fingerprints : NoTwoShare (engine (N .B)) (split (N .B) (N .P) (t .disk) ++ written N t qs)
       → Throughout N (λ x plain. TrueFingerprints (engine (N .B)) (boxIn N x) plain) t (split (N .B) (N .P) (t .disk)) qs
   pub blocks : NoTwoShare (engine (N .B)) (split (N .B) (N .P) (t .disk) ++ written N t qs) → EachServed N (ShowsPlain N) t (split (N .B) (N .P) (t .disk)) qs
-  pub flushes : NoTwoShare (engine (N .B)) (split (N .B) (N .P) (t .disk) ++ written N t qs) → EachServed N (FlushesWhole N) t (split (N .B) (N .P) (t .disk)) qs
+  pub flushes : NoTwoShare (engine (N .B)) (split (N .B) (N .P) (t .disk) ++ written N t qs)
+      → EachServed N (FlushesWhole N) t (split (N .B) (N .P) (t .disk)) qs
   pub printed : All (λ q. NoWrite (callOf (N .B) q)) qs
-      → seenAfter N t qs ≡ printedTrace (engine (N .B) .same) (N .m) (N .d) (contentOf (engine (N .B)) (split (N .B) (N .P) (t .disk))) (record { addresses = []; fingerprints = [] }) (readsOf N t qs)
+      → seenAfter N t qs ≡ printedTrace (engine (N .B) .same) (N .m) (N .d) (contentOf (engine (N .B)) (split (N .B) (N .P) (t .disk)))
+      (record { addresses = []; fingerprints = [] }) (readsOf N t qs)

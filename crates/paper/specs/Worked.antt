@@ -66,12 +66,28 @@ abbrev example : (m d : ℕ) → State → Example
 example m d s = record { numbers = boxOf m d; seen = s }
 
 abbrev after : Call ℕ → Outcome ℕ ℕ → State → State
-after c o t = record { said = says c (o .word) (o .flashWrites) (o .primaryWrites) ∷ t .said; returned = before (o .block) (t .returned); rows = t .rows; blocks = t .blocks; flash = t .flash; disk = t .disk; counters = t .counters }
+after c o t = record {
+  said = says c (o .word) (o .flashWrites) (o .primaryWrites) ∷ t .said;
+  returned = before (o .block) (t .returned);
+  rows = t .rows;
+  blocks = t .blocks;
+  flash = t .flash;
+  disk = t .disk;
+  counters = t .counters;
+}
 
 -- what the cache says and leaves when it is fed the calls one after the other
 abbrev pub plays : Numbers → Box ℕ ℕ → Counters → List (Call ℕ) → State
 plays N s k [] =
-    record { said = []; returned = []; rows = s .rows; blocks = map freeIn (s .free) ++ map (λ u. blockIn (u .fingerprint) (u .slot)) (s .used); flash = s .flash; disk = s .disk; counters = k }
+    record {
+      said = [];
+      returned = [];
+      rows = s .rows;
+      blocks = map freeIn (s .free) ++ map (λ u. blockIn (u .fingerprint) (u .slot)) (s .used);
+      flash = s .flash;
+      disk = s .disk;
+      counters = k;
+    }
 plays N s k (c ∷ cs) = let o = serve labels N s c in after c o (plays N (o .box) (counted k c o) cs)
 
 -- a fresh box over disk blocks of which block k has content k, and a flash that is filled with 99
@@ -261,7 +277,8 @@ more =
     })
     -- Step 3 frees slot 1, then slot 2, since address 1 is without its block. Slot 2 comes in front.
     ∷ example 4 3 (record {
-      said = says (read 1) miss 1 0 ∷ says (read 2) miss 1 0 ∷ says (read 3) miss 1 0 ∷ says (read 4) miss 1 0 ∷ says (through 2 4) sameBlock 0 1 ∷ says (through 3 4) sameBlock 0 1 ∷ [];
+      said = says (read 1) miss 1 0 ∷ says (read 2) miss 1 0 ∷ says (read 3) miss 1 0 ∷ says (read 4) miss 1 0 ∷ says (through 2 4) sameBlock 0 1
+          ∷ says (through 3 4) sameBlock 0 1 ∷ [];
       returned = 1 ∷ 2 ∷ 3 ∷ 4 ∷ [];
       rows = clean 1 1 ∷ clean 4 4 ∷ clean 2 4 ∷ clean 3 4 ∷ [];
       blocks = freeIn 2 ∷ freeIn 1 ∷ blockIn 4 0 ∷ [];
@@ -272,7 +289,8 @@ more =
     -- Write invalidate's word is "same" while the content is cached before the call, whoever has it, and "new" after. The first I keeps
     -- block 5 for address 1, the second frees it.
     ∷ example 2 2 (record {
-      said = says (through 0 5) newBlock 1 1 ∷ says (through 1 5) sameBlock 0 1 ∷ says (invalidate 0 5) sameBlock 0 1 ∷ says (invalidate 1 5) sameBlock 0 1 ∷ says (invalidate 1 5) newBlock 0 1 ∷ [];
+      said = says (through 0 5) newBlock 1 1 ∷ says (through 1 5) sameBlock 0 1 ∷ says (invalidate 0 5) sameBlock 0 1 ∷ says (invalidate 1 5) sameBlock 0 1
+          ∷ says (invalidate 1 5) newBlock 0 1 ∷ [];
       returned = [];
       rows = [];
       blocks = freeIn 0 ∷ freeIn 1 ∷ [];

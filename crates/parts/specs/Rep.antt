@@ -36,7 +36,8 @@ Lent b disk flash addrs blocks = (s : Box (Fixed 32) (Fixed (b .size))) × Rep b
 
 -- .. of some box in which the block of the fingerprint g is in slot k
 abbrev pub LentWith : (b : BoxRecord) → List ℕ → List ℕ → List ℕ → List ℕ → List ℕ → ℕ → Type 0
-LentWith b disk flash addrs blocks g k = (s : Box (Fixed 32) (Fixed (b .size))) × (v : Fixed 32) × Rep b disk flash addrs blocks s × (v .0 ≡ g) × (slotOf (engine (b .size)) v (s .used) ≡ k)
+LentWith b disk flash addrs blocks g k = (s : Box (Fixed 32) (Fixed (b .size))) × (v : Fixed 32) × Rep b disk flash addrs blocks s × (v .0 ≡ g)
+    × (slotOf (engine (b .size)) v (s .used) ≡ k)
 
 -- a row that stands for none
 abbrev pub noRow : AddressRow (Fixed 32)
@@ -76,4 +77,8 @@ module _ (b : BoxRecord) (chosen : Fixed 32 → Bool) (s : Box (Fixed 32) (Fixed
       }
 
   unfoldable pub copiedRows : ℕ → Copied
-  copiedRows i = record { count = copies (engine (b .size)) chosen (take i (s .rows)); disk = join (partBox i .disk); addrs = addressesOf (b .rows) (partBox i .rows) }
+  copiedRows i = record {
+    count = copies (engine (b .size)) chosen (take i (s .rows));
+    disk = join (partBox i .disk);
+    addrs = addressesOf (b .rows) (partBox i .rows);
+  }

@@ -72,7 +72,11 @@ pub fn flush_row(
     if !row::is_dirty(addrs, i) {
         return 0;
     }
-    let slot = slot_in(blocks, b.slots, known::place_of(addrs, i, blocks, b.slots, heads));
+    let slot = slot_in(
+        blocks,
+        b.slots,
+        known::place_of(addrs, i, blocks, b.slots, heads),
+    );
     copy_row(b, i, disk, flash, addrs, blocks, slot)
 }
 

@@ -25,7 +25,8 @@ ghost use Rattle.tables.specs.Records.{readAddress};
 // The index of the row of `a` among `n` held rows.
 pub fn row_of(t: &[u8], n: usize, a: SourceAddress) -> usize
     requires { ⌜ tableBytes n ≤ length (now t) ⌝ }
-    ensures { λ r. ⌜ ((P m : ℕ) (rows : List (AddressRow (Fixed 32))) → Addrs P m n (now (t .entry)) rows → r ≡ indexWhere (λ x. eqb (a .0) (x .address)) rows) ⌝ }
+    ensures { λ r. ⌜ ((P m : ℕ) (rows : List (AddressRow (Fixed 32))) → Addrs P m n (now (t .entry)) rows → r
+        ≡ indexWhere (λ x. eqb (a .0) (x .address)) rows) ⌝ }
 {
     match find::find_address(t, n, a) {
         Found::At(i) => i,
@@ -36,7 +37,8 @@ pub fn row_of(t: &[u8], n: usize, a: SourceAddress) -> usize
 // Whether one of `n` held rows has the fingerprint `g`.
 pub fn knows(t: &[u8], n: usize, g: &[u8]) -> bool
     requires { ⌜ (tableBytes n ≤ length (now t)) × (length (now g) ≡ 32) ⌝ }
-    ensures { λ r. ⌜ ((P m : ℕ) (rows : List (AddressRow (Fixed 32))) (f : Fixed 32) → Addrs P m n (now (t .entry)) rows → f .0 ≡ now (g .entry) → r ≡ known (engine 0) f rows) ⌝ }
+    ensures { λ r. ⌜ ((P m : ℕ) (rows : List (AddressRow (Fixed 32))) (f : Fixed 32) → Addrs P m n (now (t .entry)) rows → f .0 ≡ now (g .entry) → r
+        ≡ known (engine 0) f rows) ⌝ }
 {
     match find::find_fingerprint(t, n, g) {
         Found::At(_) => true,
@@ -47,7 +49,8 @@ pub fn knows(t: &[u8], n: usize, g: &[u8]) -> bool
 // The place of the used row of `g` among `d` block rows.
 pub fn place_of(t: &[u8], d: usize, g: &[u8]) -> usize
     requires { ⌜ (tableBytes d ≤ length (now t)) × (length (now g) ≡ 32) ⌝ }
-    ensures { λ r. ⌜ ((free : List ℕ) (used : List (BlockRow (Fixed 32))) (f : Fixed 32) → Blocks d (now (t .entry)) free used → f .0 ≡ now (g .entry) → r ≡ length free + indexWhere (λ u. engine 0 .same f (u .fingerprint)) used) ⌝ }
+    ensures { λ r. ⌜ ((free : List ℕ) (used : List (BlockRow (Fixed 32))) (f : Fixed 32) → Blocks d (now (t .entry)) free used → f .0 ≡ now (g .entry) → r
+        ≡ length free + indexWhere (λ u. engine 0 .same f (u .fingerprint)) used) ⌝ }
 {
     match find::find_cached(t, d, g) {
         Found::At(i) => i,
@@ -59,7 +62,8 @@ pub fn place_of(t: &[u8], d: usize, g: &[u8]) -> usize
 pub fn uncached(addrs: &[u8], k: usize, blocks: &[u8], d: usize, heads: &[u16]) -> bool
     requires { ⌜ (tableBytes k ≤ length (now addrs)) × (length (now blocks) ≡ tableBytes d) × (d ≤ 256) ⌝ }
     requires { ⌜ Indexed d (now blocks) (now heads) ⌝ }
-    ensures { λ r. ⌜ ((B P m n : ℕ) (rows : List (AddressRow (Fixed 32))) (free : List ℕ) (used : List (BlockRow (Fixed 32))) → Addrs P m n (now (addrs .entry)) rows → Blocks d (now (blocks .entry)) free used → k ≤ n → r ≡ someUncached (engine B) (take k rows) used) ⌝ }
+    ensures { λ r. ⌜ ((B P m n : ℕ) (rows : List (AddressRow (Fixed 32))) (free : List ℕ) (used : List (BlockRow (Fixed 32)))
+        → Addrs P m n (now (addrs .entry)) rows → Blocks d (now (blocks .entry)) free used → k ≤ n → r ≡ someUncached (engine B) (take k rows) used) ⌝ }
 {
     !checks::known::all_cached(addrs, k, blocks, d, heads)
 }
@@ -69,7 +73,8 @@ pub fn unknown_place(addrs: &[u8], n: usize, blocks: &[u8], d: usize, heads: &[u
     requires { ⌜ (length (now blocks) ≡ tableBytes d) × (d ≤ 256) × (tableBytes n ≤ length (now addrs)) ⌝ }
     requires { ⌜ every unique (rows d (now blocks)) ≡ true ⌝ }
     requires { ⌜ Indexed d (now blocks) (now heads) ⌝ }
-    ensures { λ r. ⌜ ((B P m : ℕ) (rows : List (AddressRow (Fixed 32))) (used : List (BlockRow (Fixed 32))) → Addrs P m n (now (addrs .entry)) rows → Blocks d (now (blocks .entry)) [] used → r ≡ indexWhere (λ u. not (known (engine B) (u .fingerprint) rows)) used) ⌝ }
+    ensures { λ r. ⌜ ((B P m : ℕ) (rows : List (AddressRow (Fixed 32))) (used : List (BlockRow (Fixed 32))) → Addrs P m n (now (addrs .entry)) rows
+        → Blocks d (now (blocks .entry)) [] used → r ≡ indexWhere (λ u. not (known (engine B) (u .fingerprint) rows)) used) ⌝ }
 {
     match checks::known::oldest_unknown(addrs, n, blocks, d, heads) {
         Found::At(j) => j,
@@ -83,7 +88,8 @@ pub fn victim(addrs: &[u8], n: usize, blocks: &[u8], d: usize, heads: &[u16]) ->
     requires { ⌜ every unique (rows d (now blocks)) ≡ true ⌝ }
     requires { ⌜ (full (now blocks) ≡ true → Indexed d (now blocks) (now heads)) ⌝ }
     ensures { λ r. ⌜ r < d ⌝ }
-    ensures { λ r. ⌜ ((B P m : ℕ) (rows : List (AddressRow (Fixed 32))) (free : List ℕ) (used : List (BlockRow (Fixed 32))) → Addrs P m n (now (addrs .entry)) rows → Blocks d (now (blocks .entry)) free used → r ≡ victimPlace B rows free used) ⌝ }
+    ensures { λ r. ⌜ ((B P m : ℕ) (rows : List (AddressRow (Fixed 32))) (free : List ℕ) (used : List (BlockRow (Fixed 32)))
+        → Addrs P m n (now (addrs .entry)) rows → Blocks d (now (blocks .entry)) free used → r ≡ victimPlace B rows free used) ⌝ }
 {
     if !row::is_used(blocks, 0) {
         return 0;
@@ -119,7 +125,8 @@ pub fn dirty_at(t: &[u8], i: usize) -> u8
 // The place of the block row of row `i`'s fingerprint, the count of block rows where there is no row `i` or it is not cached.
 pub fn place_of_row(b: BoxRecord, i: usize, addrs: &[u8], blocks: &[u8]) -> usize
     requires { ⌜ Sized b (now addrs) (now blocks) ⌝ }
-    ensures { λ r. ⌜ ((P m : ℕ) (rows : List (AddressRow (Fixed 32))) (free : List ℕ) (used : List (BlockRow (Fixed 32))) → Addrs P m (b .held) (now (addrs .entry)) rows → Blocks (b .slots) (now (blocks .entry)) free used
+    ensures { λ r. ⌜ ((P m : ℕ) (rows : List (AddressRow (Fixed 32))) (free : List ℕ) (used : List (BlockRow (Fixed 32)))
+        → Addrs P m (b .held) (now (addrs .entry)) rows → Blocks (b .slots) (now (blocks .entry)) free used
         → r ≡ cond (ltb i (b .held)) (length free + indexWhere (λ u. engine 0 .same (getD rows i noRow .fingerprint) (u .fingerprint)) used) (b .slots)) ⌝ }
 {
     if i < b.held {

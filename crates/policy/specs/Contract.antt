@@ -39,7 +39,12 @@ abbrev pub told : Outcome → (disk flash addresses blocks : List ℕ) → Optio
 told r disk flash addresses blocks block =
     record {
       numbers = numbersOf (r .box_record);
-      after = record { answer = answerOf (r .answer); lent = lent (r .box_record) disk flash addresses blocks (countersOf (r .counters)); block = block; part = [] };
+      after = record {
+        answer = answerOf (r .answer);
+        lent = lent (r .box_record) disk flash addresses blocks (countersOf (r .counters));
+        block = block;
+        part = [];
+      };
     }
 
 -- the paper's call on what is lent

@@ -40,7 +40,11 @@ fn refused(number: u32, b: BoxRecord, c: Counters) -> Outcome
 // What a served call gives back: its word, what it told, and the counters with its own counts.
 fn answered(b: BoxRecord, w: Word, s: Served, c: Counters, reads: u64, hits: u64) -> Outcome
     requires { ⌜ (c .reads + reads < 2 ^ 64) × (c .hits + hits < 2 ^ 64) × (c .flash + s .flashed < 2 ^ 64) × (c .primary + s .primary < 2 ^ 64) ⌝ }
-    ensures { λ r. ⌜ r ≡ record { answer = Answered w (s .flashed) (s .primary); box_record = withHeld b (s .held); counters = added c reads hits (s .flashed) (s .primary) } ⌝ }
+    ensures { λ r. ⌜ r ≡ record {
+      answer = Answered w (s .flashed) (s .primary);
+      box_record = withHeld b (s .held);
+      counters = added c reads hits (s .flashed) (s .primary);
+    } ⌝ }
 {
     let k = counters::counted(c, reads, hits, s.flashed as u64, s.primary as u64);
     let mut next = b;
@@ -94,7 +98,8 @@ pub fn read(
     block: &mut [u8],
 ) -> Outcome
     ensures { λ r. ⌜ told r (now (disk .exit)) (now (flash .exit)) (now (addresses .exit)) (now (blocks .exit)) (Option.some (now (block .exit)))
-        ≡ called b (lent b (now (disk .entry)) (now (flash .entry)) (now (addresses .entry)) (now (blocks .entry)) (countersOf c)) (Ask.read (a .0) (now (block .entry))) ⌝ }
+        ≡ called b (lent b (now (disk .entry)) (now (flash .entry)) (now (addresses .entry)) (now (blocks .entry)) (countersOf c))
+        (Ask.read (a .0) (now (block .entry))) ⌝ }
 {
     let mut heads = [0u16; index::ENTRIES];
     let number = refusals::of_access(b, a, disk, flash, addresses, blocks, c, block, &mut heads);
@@ -119,24 +124,15 @@ pub fn write(
     block: &[u8],
 ) -> Outcome
     ensures { λ r. ⌜ told r (now (disk .exit)) (now (flash .exit)) (now (addresses .exit)) (now (blocks .exit)) (Option.some (now (block .entry)))
-        ≡ called b (lent b (now (disk .entry)) (now (flash .entry)) (now (addresses .entry)) (now (blocks .entry)) (countersOf c)) (askOf kind (a .0) (now (block .entry))) ⌝ }
+        ≡ called b (lent b (now (disk .entry)) (now (flash .entry)) (now (addresses .entry)) (now (blocks .entry)) (countersOf c))
+        (askOf kind (a .0) (now (block .entry))) ⌝ }
 {
     let mut heads = [0u16; index::ENTRIES];
     let number = refusals::of_access(b, a, disk, flash, addresses, blocks, c, block, &mut heads);
     if number != 0 {
         return refused(number, b, c);
     }
-    let s = serve::serve_write(
-        kind,
-        b,
-        a,
-        disk,
-        flash,
-        addresses,
-        blocks,
-        block,
-        &heads,
-    );
+    let s = serve::serve_write(kind, b, a, disk, flash, addresses, blocks, block, &heads);
     answered(b, write_word(s.yes), s, c, 0, 0)
 }
 

@@ -92,7 +92,8 @@ pub(crate) fn lengths_wrong(
 
 // Refusals 1 and 2: what an opening is refused with.
 pub fn of_opening(b: BoxRecord, disk: &[u8], flash: &[u8], addresses: &[u8], blocks: &[u8]) -> u32
-    ensures { λ r. ⌜ ((k : Counters) → r ≡ refusal (numbersOf b) (lent b (now (disk .entry)) (now (flash .entry)) (now (addresses .entry)) (now (blocks .entry)) k) opening) ⌝ }
+    ensures { λ r. ⌜ ((k : Counters) → r ≡ refusal (numbersOf b) (lent b (now (disk .entry)) (now (flash .entry)) (now (addresses .entry))
+        (now (blocks .entry)) k) opening) ⌝ }
 {
     if numbers_unfit(b) {
         return 1;
@@ -203,7 +204,8 @@ pub fn of_look(
     addresses: &[u8],
     blocks: &[u8],
 ) -> u32
-    ensures { λ r. ⌜ ((k : Counters) → r ≡ refusal (numbersOf b) (lent b (now (disk .entry)) (now (flash .entry)) (now (addresses .entry)) (now (blocks .entry)) k)
+    ensures { λ r. ⌜ ((k : Counters) → r ≡ refusal (numbersOf b) (lent b (now (disk .entry)) (now (flash .entry)) (now (addresses .entry))
+        (now (blocks .entry)) k)
         (calling (Ask.look (a .0)))) ⌝ }
 {
     let first = of_opening(b, disk, flash, addresses, blocks);

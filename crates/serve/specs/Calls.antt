@@ -51,7 +51,19 @@ pub record Leaves : Type 0 where
 -- what the code tells and leaves
 abbrev pub left : Served → (disk flash addrs blocks block : List ℕ) → Leaves
 left r disk flash addrs blocks block =
-    record { yes = r .yes; held = r .held; left = (record { flashed = r .flashed; primary = r .primary; disk = disk; flash = flash; addrs = addrs; blocks = blocks }); block = block }
+    record {
+      yes = r .yes;
+      held = r .held;
+      left = (record {
+        flashed = r .flashed;
+        primary = r .primary;
+        disk = disk;
+        flash = flash;
+        addrs = addrs;
+        blocks = blocks;
+      });
+      block = block;
+    }
 
 -- the paper's write of each kind
 abbrev pub writing : {B : ℕ} → Write → ℕ → Fixed B → Call (Fixed B)
@@ -60,7 +72,12 @@ writing Back a x = Call.back a x
 writing Invalidate a x = Call.invalidate a x
 
 unfoldable pub leaves : (b : BoxRecord) → List ℕ → Outcome (Fixed 32) (Fixed (b .size)) → Leaves
-leaves b lent o = record { yes = isYes (o .word); held = length (o .box .rows); left = out4 b (record { box = o .box; flashWrites = o .flashWrites; primaryWrites = o .primaryWrites }); block = returned (o .block) lent }
+leaves b lent o = record {
+  yes = isYes (o .word);
+  held = length (o .box .rows);
+  left = out4 b (record { box = o .box; flashWrites = o .flashWrites; primaryWrites = o .primaryWrites });
+  block = returned (o .block) lent;
+}
 
 -- a write leaves the bytes of the paper's write, of every sound box that the bytes before it are of
 abbrev pub Wrote : Write → (b : BoxRecord) → (a : ℕ) → (disk flash addrs blocks block : List ℕ) → Leaves → Type 0

@@ -220,7 +220,8 @@ fn read_miss(
     requires { ⌜ Indexed (b .slots) (now blocks) (now heads) ⌝ }
     ensures { λ r. ⌜ (r .flashed ≤ 1) × (r .primary ≤ 2 + b .rows) ⌝ }
     ensures { λ r. ⌜ ((s : Box (Fixed 32) (Fixed (b .size))) (lent : List ℕ)
-        → Rep b (now (disk .entry)) (now (flash .entry)) (now (addrs .entry)) (now (blocks .entry)) s → Sure b s → rowWithBlock (engine (b .size)) s (a .0) ≡ Option.none
+        → Rep b (now (disk .entry)) (now (flash .entry)) (now (addrs .entry)) (now (blocks .entry)) s → Sure b s → rowWithBlock (engine (b .size)) s (a .0)
+        ≡ Option.none
         → left r (now (disk .exit)) (now (flash .exit)) (now (addrs .exit)) (now (blocks .exit)) (now (block .exit))
         ≡ leaves b lent (serve (engine (b .size)) (numbersOf b) s (Call.read (a .0)))) ⌝ }
 {

@@ -23,8 +23,18 @@ pub extern "C" fn mindavehu_read(
     block: &mut [u8],
     answer: &mut [u8],
 ) -> u32
-    ensures { λ r. ⌜ record { number = r; state = now (state .exit); disk = now (disk .exit); flash = now (flash .exit); addresses = now (addresses .exit); blocks = now (blocks .exit); block = Option.some (now (block .exit)); answer = now (answer .exit) }
-        ≡ leaves (Ask.read address (now (block .entry))) (now (state .entry)) (now (disk .entry)) (now (flash .entry)) (now (addresses .entry)) (now (blocks .entry)) (now (answer .entry)) ⌝ }
+    ensures { λ r. ⌜ record {
+      number = r;
+      state = now (state .exit);
+      disk = now (disk .exit);
+      flash = now (flash .exit);
+      addresses = now (addresses .exit);
+      blocks = now (blocks .exit);
+      block = Option.some (now (block .exit));
+      answer = now (answer .exit);
+    }
+        ≡ leaves (Ask.read address (now (block .entry))) (now (state .entry)) (now (disk .entry)) (now (flash .entry)) (now (addresses .entry))
+        (now (blocks .entry)) (now (answer .entry)) ⌝ }
 {
     if !fields::fit(state, answer) {
         return 2;
@@ -56,8 +66,18 @@ fn write(
     block: &[u8],
     answer: &mut [u8],
 ) -> u32
-    ensures { λ r. ⌜ record { number = r; state = now (state .exit); disk = now (disk .exit); flash = now (flash .exit); addresses = now (addresses .exit); blocks = now (blocks .exit); block = Option.some (now (block .entry)); answer = now (answer .exit) }
-        ≡ leaves (askOf kind address (now (block .entry))) (now (state .entry)) (now (disk .entry)) (now (flash .entry)) (now (addresses .entry)) (now (blocks .entry)) (now (answer .entry)) ⌝ }
+    ensures { λ r. ⌜ record {
+      number = r;
+      state = now (state .exit);
+      disk = now (disk .exit);
+      flash = now (flash .exit);
+      addresses = now (addresses .exit);
+      blocks = now (blocks .exit);
+      block = Option.some (now (block .entry));
+      answer = now (answer .exit);
+    }
+        ≡ leaves (askOf kind address (now (block .entry))) (now (state .entry)) (now (disk .entry)) (now (flash .entry)) (now (addresses .entry))
+        (now (blocks .entry)) (now (answer .entry)) ⌝ }
 {
     if !fields::fit(state, answer) {
         return 2;
@@ -90,8 +110,18 @@ pub extern "C" fn mindavehu_write_through(
     block: &[u8],
     answer: &mut [u8],
 ) -> u32
-    ensures { λ r. ⌜ record { number = r; state = now (state .exit); disk = now (disk .exit); flash = now (flash .exit); addresses = now (addresses .exit); blocks = now (blocks .exit); block = Option.some (now (block .entry)); answer = now (answer .exit) }
-        ≡ leaves (Ask.through address (now (block .entry))) (now (state .entry)) (now (disk .entry)) (now (flash .entry)) (now (addresses .entry)) (now (blocks .entry)) (now (answer .entry)) ⌝ }
+    ensures { λ r. ⌜ record {
+      number = r;
+      state = now (state .exit);
+      disk = now (disk .exit);
+      flash = now (flash .exit);
+      addresses = now (addresses .exit);
+      blocks = now (blocks .exit);
+      block = Option.some (now (block .entry));
+      answer = now (answer .exit);
+    }
+        ≡ leaves (Ask.through address (now (block .entry))) (now (state .entry)) (now (disk .entry)) (now (flash .entry)) (now (addresses .entry))
+        (now (blocks .entry)) (now (answer .entry)) ⌝ }
 {
     write(
         Write::Through,
@@ -118,8 +148,18 @@ pub extern "C" fn mindavehu_write_back(
     block: &[u8],
     answer: &mut [u8],
 ) -> u32
-    ensures { λ r. ⌜ record { number = r; state = now (state .exit); disk = now (disk .exit); flash = now (flash .exit); addresses = now (addresses .exit); blocks = now (blocks .exit); block = Option.some (now (block .entry)); answer = now (answer .exit) }
-        ≡ leaves (Ask.back address (now (block .entry))) (now (state .entry)) (now (disk .entry)) (now (flash .entry)) (now (addresses .entry)) (now (blocks .entry)) (now (answer .entry)) ⌝ }
+    ensures { λ r. ⌜ record {
+      number = r;
+      state = now (state .exit);
+      disk = now (disk .exit);
+      flash = now (flash .exit);
+      addresses = now (addresses .exit);
+      blocks = now (blocks .exit);
+      block = Option.some (now (block .entry));
+      answer = now (answer .exit);
+    }
+        ≡ leaves (Ask.back address (now (block .entry))) (now (state .entry)) (now (disk .entry)) (now (flash .entry)) (now (addresses .entry))
+        (now (blocks .entry)) (now (answer .entry)) ⌝ }
 {
     write(
         Write::Back,
@@ -146,8 +186,18 @@ pub extern "C" fn mindavehu_write_invalidate(
     block: &[u8],
     answer: &mut [u8],
 ) -> u32
-    ensures { λ r. ⌜ record { number = r; state = now (state .exit); disk = now (disk .exit); flash = now (flash .exit); addresses = now (addresses .exit); blocks = now (blocks .exit); block = Option.some (now (block .entry)); answer = now (answer .exit) }
-        ≡ leaves (Ask.invalidate address (now (block .entry))) (now (state .entry)) (now (disk .entry)) (now (flash .entry)) (now (addresses .entry)) (now (blocks .entry)) (now (answer .entry)) ⌝ }
+    ensures { λ r. ⌜ record {
+      number = r;
+      state = now (state .exit);
+      disk = now (disk .exit);
+      flash = now (flash .exit);
+      addresses = now (addresses .exit);
+      blocks = now (blocks .exit);
+      block = Option.some (now (block .entry));
+      answer = now (answer .exit);
+    }
+        ≡ leaves (Ask.invalidate address (now (block .entry))) (now (state .entry)) (now (disk .entry)) (now (flash .entry)) (now (addresses .entry))
+        (now (blocks .entry)) (now (answer .entry)) ⌝ }
 {
     write(
         Write::Invalidate,
@@ -172,8 +222,18 @@ pub extern "C" fn mindavehu_flush(
     blocks: &[u8],
     answer: &mut [u8],
 ) -> u32
-    ensures { λ r. ⌜ record { number = r; state = now (state .exit); disk = now (disk .exit); flash = now (flash .entry); addresses = now (addresses .exit); blocks = now (blocks .entry); block = Option.none; answer = now (answer .exit) }
-        ≡ leaves Ask.flush (now (state .entry)) (now (disk .entry)) (now (flash .entry)) (now (addresses .entry)) (now (blocks .entry)) (now (answer .entry)) ⌝ }
+    ensures { λ r. ⌜ record {
+      number = r;
+      state = now (state .exit);
+      disk = now (disk .exit);
+      flash = now (flash .entry);
+      addresses = now (addresses .exit);
+      blocks = now (blocks .entry);
+      block = Option.none;
+      answer = now (answer .exit);
+    }
+        ≡ leaves Ask.flush (now (state .entry)) (now (disk .entry)) (now (flash .entry)) (now (addresses .entry)) (now (blocks .entry))
+        (now (answer .entry)) ⌝ }
 {
     if !fields::fit(state, answer) {
         return 2;
@@ -196,9 +256,12 @@ pub extern "C" fn mindavehu_look(
     answer: &mut [u8],
 ) -> u32
     ensures { λ r. ⌜ record { number = r; answer = now (answer .exit) }
-        ≡ leavesLook address (now (state .entry)) (now (disk .entry)) (now (flash .entry)) (now (addresses .entry)) (now (blocks .entry)) (now (answer .entry)) ⌝ }
-    ensures { λ r. ⌜ (fitting (now (state .entry)) (now (answer .entry)) ≡ true → Shows r (now (answer .exit)) (lentIn (now (state .entry)) (now (disk .entry)) (now (flash .entry)) (now (addresses .entry)) (now (blocks .entry)))
-        (call (numbersOf (recordIn (now (state .entry)))) (lentIn (now (state .entry)) (now (disk .entry)) (now (flash .entry)) (now (addresses .entry)) (now (blocks .entry))) (Ask.look address))) ⌝ }
+        ≡ leavesLook address (now (state .entry)) (now (disk .entry)) (now (flash .entry)) (now (addresses .entry)) (now (blocks .entry))
+        (now (answer .entry)) ⌝ }
+    ensures { λ r. ⌜ (fitting (now (state .entry)) (now (answer .entry)) ≡ true
+        → Shows r (now (answer .exit)) (lentIn (now (state .entry)) (now (disk .entry)) (now (flash .entry)) (now (addresses .entry)) (now (blocks .entry)))
+        (call (numbersOf (recordIn (now (state .entry)))) (lentIn (now (state .entry)) (now (disk .entry)) (now (flash .entry)) (now (addresses .entry))
+        (now (blocks .entry))) (Ask.look address))) ⌝ }
 {
     if !fields::fit(state, answer) {
         return 2;

@@ -36,7 +36,8 @@ fn open_box(
     requires { ⌜ unfit (numbersOf b) ≡ false ⌝ }
     requires { ⌜ Sized (now disk) (now flash) (now addresses) (now blocks) ⌝ }
     ensures { λ r. ⌜ numbersOf (r .box_record) ≡ numbersOf b ⌝ }
-    ensures { λ r. ⌜ held (r .box_record .held) (countersOf (r .counters)) (buffers (now (disk .exit)) (now (flash .exit)) (now (addresses .exit)) (now (blocks .exit)))
+    ensures { λ r. ⌜ held (r .box_record .held) (countersOf (r .counters))
+        (buffers (now (disk .exit)) (now (flash .exit)) (now (addresses .exit)) (now (blocks .exit)))
         ≡ over (started (numbersOf b)) (buffers (now (disk .entry)) (now (flash .entry)) (now (addresses .entry)) (now (blocks .entry))) ⌝ }
 {
     let p = b.blocks * b.size;
@@ -65,9 +66,12 @@ fn call_box(
     requires { ⌜ Holds b ⌝ }
     requires { ⌜ Sized (now disk) (now flash) (now addresses) (now blocks) ⌝ }
     ensures { λ r. ⌜ numbersOf (r .box_record) ≡ numbersOf b ⌝ }
-    ensures { λ r. ⌜ answerOf (r .answer) ≡ (doing (numbersOf b) (within b (buffers (now (disk .entry)) (now (flash .entry)) (now (addresses .entry)) (now (blocks .entry))) (countersOf k)) (asked (b .size) c)) .answer ⌝ }
-    ensures { λ r. ⌜ held (r .box_record .held) (countersOf (r .counters)) (buffers (now (disk .exit)) (now (flash .exit)) (now (addresses .exit)) (now (blocks .exit)))
-        ≡ over ((doing (numbersOf b) (within b (buffers (now (disk .entry)) (now (flash .entry)) (now (addresses .entry)) (now (blocks .entry))) (countersOf k)) (asked (b .size) c)) .lent) (buffers (now (disk .entry)) (now (flash .entry)) (now (addresses .entry)) (now (blocks .entry))) ⌝ }
+    ensures { λ r. ⌜ answerOf (r .answer) ≡ (doing (numbersOf b) (within b
+        (buffers (now (disk .entry)) (now (flash .entry)) (now (addresses .entry)) (now (blocks .entry))) (countersOf k)) (asked (b .size) c)) .answer ⌝ }
+    ensures { λ r. ⌜ held (r .box_record .held) (countersOf (r .counters))
+        (buffers (now (disk .exit)) (now (flash .exit)) (now (addresses .exit)) (now (blocks .exit)))
+        ≡ over ((doing (numbersOf b) (within b (buffers (now (disk .entry)) (now (flash .entry)) (now (addresses .entry)) (now (blocks .entry)))
+        (countersOf k)) (asked (b .size) c)) .lent) (buffers (now (disk .entry)) (now (flash .entry)) (now (addresses .entry)) (now (blocks .entry))) ⌝ }
 {
     let p = b.blocks * b.size;
     let f = b.slots * b.size;
@@ -98,7 +102,9 @@ pub fn first(
     requires { ⌜ length (now out) ≡ 256 ⌝ }
     ensures { λ r. ⌜ r .filled ≤ 92 ⌝ }
     ensures { λ r. ⌜ ((line : List ℕ) → afterOf r line (now (disk .exit)) (now (flash .exit)) (now (addresses .exit)) (now (blocks .exit)) (now (out .exit))
-        ≡ stored (memory s line (now (disk .entry)) (now (flash .entry)) (now (addresses .entry)) (now (blocks .entry)) (now (out .entry))) (firstLine (stateIn (memory s line (now (disk .entry)) (now (flash .entry)) (now (addresses .entry)) (now (blocks .entry)) (now (out .entry)))) c)) ⌝ }
+        ≡ stored (memory s line (now (disk .entry)) (now (flash .entry)) (now (addresses .entry)) (now (blocks .entry)) (now (out .entry)))
+        (firstLine (stateIn (memory s line (now (disk .entry)) (now (flash .entry)) (now (addresses .entry)) (now (blocks .entry))
+        (now (out .entry)))) c)) ⌝ }
 {
     let number = boxes::box_refusal(c);
     if number != 0 {
@@ -146,7 +152,9 @@ pub fn later(
     requires { ⌜ length (now out) ≡ 256 ⌝ }
     ensures { λ r. ⌜ r .filled ≤ 92 ⌝ }
     ensures { λ r. ⌜ ((line : List ℕ) → afterOf r line (now (disk .exit)) (now (flash .exit)) (now (addresses .exit)) (now (blocks .exit)) (now (out .exit))
-        ≡ stored (memory s line (now (disk .entry)) (now (flash .entry)) (now (addresses .entry)) (now (blocks .entry)) (now (out .entry))) (laterLine (stateIn (memory s line (now (disk .entry)) (now (flash .entry)) (now (addresses .entry)) (now (blocks .entry)) (now (out .entry)))) c)) ⌝ }
+        ≡ stored (memory s line (now (disk .entry)) (now (flash .entry)) (now (addresses .entry)) (now (blocks .entry)) (now (out .entry)))
+        (laterLine (stateIn (memory s line (now (disk .entry)) (now (flash .entry)) (now (addresses .entry)) (now (blocks .entry))
+        (now (out .entry)))) c)) ⌝ }
 {
     let b = s.box_record;
     let k = s.counters;

@@ -38,7 +38,8 @@ pub struct Out {
 // Takes row `i` out. The place of its fingerprint's block row.
 pub fn take_row(b: BoxRecord, i: usize, addrs: &mut [u8], blocks: &[u8]) -> usize
     requires { ⌜ (i < b .held) × Sized b (now addrs) (now blocks) ⌝ }
-    ensures { λ r. ⌜ ((rows : List (AddressRow (Fixed 32))) (free : List ℕ) (used : List (BlockRow (Fixed 32))) → Addrs (b .blocks) (b .rows) (b .held) (now (addrs .entry)) rows → Blocks (b .slots) (now (blocks .entry)) free used
+    ensures { λ r. ⌜ ((rows : List (AddressRow (Fixed 32))) (free : List ℕ) (used : List (BlockRow (Fixed 32)))
+        → Addrs (b .blocks) (b .rows) (b .held) (now (addrs .entry)) rows → Blocks (b .slots) (now (blocks .entry)) free used
         → (r ≡ placeOf (Option.some (getD rows i noRow .fingerprint)) free used) × (now (addrs .exit) ≡ addressesOf (b .rows) (removeAt rows i))) ⌝ }
 {
     let place = rows::place_of(blocks, b.slots, row::address_fingerprint(addrs, i));
@@ -60,8 +61,10 @@ pub fn step1(
     requires { ⌜ Lent b (now disk) (now flash) (now addrs) (now blocks) ⌝ }
     requires { ⌜ Indexed (b .slots) (now blocks) (now heads) ⌝ }
     ensures { λ r. ⌜ (r .held < b .rows) × (r .primary ≤ 1) ⌝ }
-    ensures { λ r. ⌜ ((s : Box (Fixed 32) (Fixed (b .size))) → Rep b (now (disk .entry)) (now (flash .entry)) (now (addrs .entry)) (now (blocks .entry)) s → Distinct eqb (λ x. x .address) (s .rows)
-        → record { held = r .held; place = r .place; primary = r .primary; disk = now (disk .exit); addrs = now (addrs .exit) } ≡ out1 b s (step1 (engine (b .size)) (b .rows) s (a .0))) ⌝ }
+    ensures { λ r. ⌜ ((s : Box (Fixed 32) (Fixed (b .size))) → Rep b (now (disk .entry)) (now (flash .entry)) (now (addrs .entry)) (now (blocks .entry)) s
+        → Distinct eqb (λ x. x .address) (s .rows)
+        → record { held = r .held; place = r .place; primary = r .primary; disk = now (disk .exit); addrs = now (addrs .exit) }
+        ≡ out1 b s (step1 (engine (b .size)) (b .rows) s (a .0))) ⌝ }
 {
     let i = rows::row_of(addrs, b.held, a);
     if i < b.held {
@@ -92,8 +95,10 @@ pub fn step1(
 pub fn step3(b: BoxRecord, place: usize, addrs: &[u8], blocks: &mut [u8], heads: &[u16])
     requires { ⌜ (0 < b .held) × (b .slots ≤ 256) × Sized b (now addrs) (now blocks) ⌝ }
     requires { ⌜ Indexed (b .slots) (now blocks) (now heads) ⌝ }
-    ensures { λ _. ⌜ ((B : ℕ) (l : List (AddressRow (Fixed 32))) (free : List ℕ) (used : List (BlockRow (Fixed 32))) (gone : Option (Fixed 32)) → Addrs (b .blocks) (b .rows) (b .held) (now (addrs .entry)) l → Blocks (b .slots) (now (blocks .entry)) free used
-        → Distinct (engine 0 .same) (λ u. u .fingerprint) used → place ≡ placeOf gone free used → now (blocks .exit) ≡ blockBytes (step3 (engine B) gone (take (b .held - 1) l) l (record { free = free; used = used }))) ⌝ }
+    ensures { λ _. ⌜ ((B : ℕ) (l : List (AddressRow (Fixed 32))) (free : List ℕ) (used : List (BlockRow (Fixed 32))) (gone : Option (Fixed 32))
+        → Addrs (b .blocks) (b .rows) (b .held) (now (addrs .entry)) l → Blocks (b .slots) (now (blocks .entry)) free used
+        → Distinct (engine 0 .same) (λ u. u .fingerprint) used → place ≡ placeOf gone free used → now (blocks .exit)
+        ≡ blockBytes (step3 (engine B) gone (take (b .held - 1) l) l (record { free = free; used = used }))) ⌝ }
     ensures { λ _. ⌜ (full (now (blocks .exit)) ≡ true → now (blocks .exit) ≡ now (blocks .entry)) ⌝ }
 {
     let d = b.slots;
@@ -119,10 +124,13 @@ pub fn lose(
     blocks: &[u8],
 ) -> usize
     requires { ⌜ (t < b .slots) × (slot .0 < b .slots) × Sized b (now addrs) (now blocks) ⌝ }
-    requires { ⌜ ((s : Box (Fixed 32) (Fixed (b .size))) × Rep b (now disk) (now flash) (now addrs) (now blocks) s × Distinct (engine 0 .same) (λ u. u .fingerprint) (s .used) × Picked (s .free) (s .used) t × (slot .0 ≡ pickedTaken (s .free) (s .used) t .slot)) ⌝ }
+    requires { ⌜ ((s : Box (Fixed 32) (Fixed (b .size))) × Rep b (now disk) (now flash) (now addrs) (now blocks) s
+        × Distinct (engine 0 .same) (λ u. u .fingerprint) (s .used) × Picked (s .free) (s .used) t × (slot .0 ≡ pickedTaken (s .free) (s .used) t .slot)) ⌝ }
     ensures { λ r. ⌜ r ≤ b .held ⌝ }
-    ensures { λ r. ⌜ ((s : Box (Fixed 32) (Fixed (b .size))) → Rep b (now (disk .entry)) (now (flash .entry)) (now (addrs .entry)) (now (blocks .entry)) s → Distinct (engine 0 .same) (λ u. u .fingerprint) (s .used) → Picked (s .free) (s .used) t → slot .0 ≡ pickedTaken (s .free) (s .used) t .slot
-        → record { count = r; disk = now (disk .exit); addrs = now (addrs .exit) } ≡ copiedRows b (isLost (engine (b .size)) (pickedTaken (s .free) (s .used) t .lost)) s (b .held)) ⌝ }
+    ensures { λ r. ⌜ ((s : Box (Fixed 32) (Fixed (b .size))) → Rep b (now (disk .entry)) (now (flash .entry)) (now (addrs .entry)) (now (blocks .entry)) s
+        → Distinct (engine 0 .same) (λ u. u .fingerprint) (s .used) → Picked (s .free) (s .used) t → slot .0 ≡ pickedTaken (s .free) (s .used) t .slot
+        → record { count = r; disk = now (disk .exit); addrs = now (addrs .exit) }
+        ≡ copiedRows b (isLost (engine (b .size)) (pickedTaken (s .free) (s .used) t .lost)) s (b .held)) ⌝ }
 {
     if !row::is_used(blocks, t) {
         return 0;
@@ -141,10 +149,14 @@ pub fn fill(
     g: &[u8],
     block: &[u8],
 )
-    requires { ⌜ (t < b .slots) × (slot .0 * b .size + b .size ≤ length (now flash)) × (length (now g) ≡ 32) × (length (now block) ≡ b .size) × (length (now blocks) ≡ tableBytes (b .slots)) ⌝ }
-    ensures { λ _. ⌜ ((free : List ℕ) (used : List (BlockRow (Fixed 32))) (fl : List (Fixed (b .size))) (f : Fixed 32) (x : Fixed (b .size)) → Blocks (b .slots) (now (blocks .entry)) free used → Parts (b .size) (b .slots) (now (flash .entry)) fl → Picked free used t → slot .0 < b .slots → slot .0 ≡ pickedTaken free used t .slot
+    requires { ⌜ (t < b .slots) × (slot .0 * b .size + b .size ≤ length (now flash)) × (length (now g) ≡ 32) × (length (now block) ≡ b .size)
+        × (length (now blocks) ≡ tableBytes (b .slots)) ⌝ }
+    ensures { λ _. ⌜ ((free : List ℕ) (used : List (BlockRow (Fixed 32))) (fl : List (Fixed (b .size))) (f : Fixed 32) (x : Fixed (b .size))
+        → Blocks (b .slots) (now (blocks .entry)) free used → Parts (b .size) (b .slots) (now (flash .entry)) fl → Picked free used t → slot .0 < b .slots
+        → slot .0 ≡ pickedTaken free used t .slot
         → f .0 ≡ now (g .entry) → x .0 ≡ now (block .entry)
-        → (now (flash .exit) ≡ join (set fl (slot .0) x)) × (now (blocks .exit) ≡ blocksOf (pickedTaken free used t .free) (pickedTaken free used t .used ++ (blockRow f (slot .0) ∷ [])))) ⌝ }
+        → (now (flash .exit) ≡ join (set fl (slot .0) x)) × (now (blocks .exit)
+        ≡ blocksOf (pickedTaken free used t .free) (pickedTaken free used t .used ++ (blockRow f (slot .0) ∷ [])))) ⌝ }
 {
     block::put_slot(block, flash, slot, b.size);
     put::put_block(blocks, b.slots, t, g);
@@ -162,10 +174,13 @@ pub fn store(
     heads: &[u16],
 ) -> usize
     requires { ⌜ (0 < b .slots) × (length (now g) ≡ 32) × (length (now block) ≡ b .size) × (b .slots ≤ 256) × Sized b (now addrs) (now blocks) ⌝ }
-    requires { ⌜ ((s : Box (Fixed 32) (Fixed (b .size))) × Rep b (now disk) (now flash) (now addrs) (now blocks) s × Distinct (engine 0 .same) (λ u. u .fingerprint) (s .used)) ⌝ }
+    requires { ⌜ ((s : Box (Fixed 32) (Fixed (b .size))) × Rep b (now disk) (now flash) (now addrs) (now blocks) s
+        × Distinct (engine 0 .same) (λ u. u .fingerprint) (s .used)) ⌝ }
     requires { ⌜ (full (now blocks) ≡ true → Indexed (b .slots) (now blocks) (now heads)) ⌝ }
     ensures { λ r. ⌜ r ≤ b .held ⌝ }
-    ensures { λ r. ⌜ ((s : Box (Fixed 32) (Fixed (b .size))) (f : Fixed 32) (x : Fixed (b .size)) → Rep b (now (disk .entry)) (now (flash .entry)) (now (addrs .entry)) (now (blocks .entry)) s → Distinct (engine 0 .same) (λ u. u .fingerprint) (s .used) → f .0 ≡ now (g .entry) → x .0 ≡ now (block .entry)
+    ensures { λ r. ⌜ ((s : Box (Fixed 32) (Fixed (b .size))) (f : Fixed 32) (x : Fixed (b .size))
+        → Rep b (now (disk .entry)) (now (flash .entry)) (now (addrs .entry)) (now (blocks .entry)) s
+        → Distinct (engine 0 .same) (λ u. u .fingerprint) (s .used) → f .0 ≡ now (g .entry) → x .0 ≡ now (block .entry)
         → record { flashed = 1; primary = r; disk = now (disk .exit); flash = now (flash .exit); addrs = now (addrs .exit); blocks = now (blocks .exit) }
         ≡ out4 b (stored (engine (b .size)) (s .rows) (s .used) (s .flash) (s .disk) f x 0 (taken (engine (b .size)) (s .rows) (s .free) (s .used)))) ⌝ }
 {
@@ -194,11 +209,21 @@ pub fn step4(
     heads: &[u16],
 ) -> Wrote
     requires { ⌜ (0 < b .slots) × (length (now g) ≡ 32) × (length (now block) ≡ b .size) × (b .slots ≤ 256) × Sized b (now addrs) (now blocks) ⌝ }
-    requires { ⌜ ((s : Box (Fixed 32) (Fixed (b .size))) × Rep b (now disk) (now flash) (now addrs) (now blocks) s × Distinct (engine 0 .same) (λ u. u .fingerprint) (s .used)) ⌝ }
+    requires { ⌜ ((s : Box (Fixed 32) (Fixed (b .size))) × Rep b (now disk) (now flash) (now addrs) (now blocks) s
+        × Distinct (engine 0 .same) (λ u. u .fingerprint) (s .used)) ⌝ }
     requires { ⌜ (full (now blocks) ≡ true → Indexed (b .slots) (now blocks) (now heads)) ⌝ }
     ensures { λ r. ⌜ (r .flashed ≤ 1) × (r .primary ≤ b .held) ⌝ }
-    ensures { λ r. ⌜ ((s : Box (Fixed 32) (Fixed (b .size))) (f : Fixed 32) (x : Fixed (b .size)) → Rep b (now (disk .entry)) (now (flash .entry)) (now (addrs .entry)) (now (blocks .entry)) s → Distinct (engine 0 .same) (λ u. u .fingerprint) (s .used) → f .0 ≡ now (g .entry) → x .0 ≡ now (block .entry)
-        → record { flashed = r .flashed; primary = r .primary; disk = now (disk .exit); flash = now (flash .exit); addrs = now (addrs .exit); blocks = now (blocks .exit) }
+    ensures { λ r. ⌜ ((s : Box (Fixed 32) (Fixed (b .size))) (f : Fixed 32) (x : Fixed (b .size))
+        → Rep b (now (disk .entry)) (now (flash .entry)) (now (addrs .entry)) (now (blocks .entry)) s
+        → Distinct (engine 0 .same) (λ u. u .fingerprint) (s .used) → f .0 ≡ now (g .entry) → x .0 ≡ now (block .entry)
+        → record {
+          flashed = r .flashed;
+          primary = r .primary;
+          disk = now (disk .exit);
+          flash = now (flash .exit);
+          addrs = now (addrs .exit);
+          blocks = now (blocks .exit);
+        }
         ≡ out4 b (step4 (engine (b .size)) (s .rows) (record { free = s .free; used = s .used }) (s .flash) (s .disk) f x 0)) ⌝ }
 {
     let j = rows::place_of(blocks, b.slots, g);
@@ -238,11 +263,24 @@ pub fn step(
 ) -> Done
     requires { ⌜ (0 < b .rows) × (0 < b .slots) × (length (now g) ≡ 32) × (length (now block) ≡ b .size) × (a .0 < b .blocks) × (b .rows ≤ 1024)
         × Sized b (now addrs) (now blocks) ⌝ }
-    requires { ⌜ ((s : Box (Fixed 32) (Fixed (b .size))) × (w : Bool) × Rep b (now disk) (now flash) (now addrs) (now blocks) s × Sure b s × (dirty ≡ bit w)) ⌝ }
+    requires { ⌜ ((s : Box (Fixed 32) (Fixed (b .size))) × (w : Bool) × Rep b (now disk) (now flash) (now addrs) (now blocks) s × Sure b s
+        × (dirty ≡ bit w)) ⌝ }
     requires { ⌜ Indexed (b .slots) (now blocks) (now heads) ⌝ }
     ensures { λ r. ⌜ (r .flashed ≤ 1) × (r .primary ≤ 1 + b .rows) ⌝ }
-    ensures { λ r. ⌜ ((s : Box (Fixed 32) (Fixed (b .size))) (f : Fixed 32) (x : Fixed (b .size)) (w : Bool) → Rep b (now (disk .entry)) (now (flash .entry)) (now (addrs .entry)) (now (blocks .entry)) s → Sure b s → f .0 ≡ now (g .entry) → x .0 ≡ now (block .entry) → dirty ≡ bit w
-        → record { held = r .held; left = (record { flashed = r .flashed; primary = r .primary; disk = now (disk .exit); flash = now (flash .exit); addrs = now (addrs .exit); blocks = now (blocks .exit) }) }
+    ensures { λ r. ⌜ ((s : Box (Fixed 32) (Fixed (b .size))) (f : Fixed 32) (x : Fixed (b .size)) (w : Bool)
+        → Rep b (now (disk .entry)) (now (flash .entry)) (now (addrs .entry)) (now (blocks .entry)) s → Sure b s → f .0 ≡ now (g .entry) → x .0
+        ≡ now (block .entry) → dirty ≡ bit w
+        → record {
+          held = r .held;
+          left = (record {
+            flashed = r .flashed;
+            primary = r .primary;
+            disk = now (disk .exit);
+            flash = now (flash .exit);
+            addrs = now (addrs .exit);
+            blocks = now (blocks .exit);
+          });
+        }
         ≡ after b (step (engine (b .size)) (b .rows) s (asks (a .0) f x w))) ⌝ }
 {
     let o = step1(b, a, disk, flash, addrs, blocks, heads);
@@ -271,7 +309,8 @@ pub fn renew(
     g: &[u8],
 )
     requires { ⌜ (i < b .held) × (j < b .slots) × (length (now g) ≡ 32) × Sized b (now addrs) (now blocks) ⌝ }
-    ensures { λ _. ⌜ now (addrs .exit) ≡ rowAdded (b .held - 1) (addressBytes (addressRow (a .0) (now (g .entry)) dirty)) (rowOut (b .held) i (now (addrs .entry))) ⌝ }
+    ensures { λ _. ⌜ now (addrs .exit) ≡ rowAdded (b .held - 1) (addressBytes (addressRow (a .0) (now (g .entry)) dirty))
+        (rowOut (b .held) i (now (addrs .entry))) ⌝ }
     ensures { λ _. ⌜ now (blocks .exit) ≡ rowNewest (b .slots) j (now (blocks .entry)) ⌝ }
 {
     let n = b.held - 1;
@@ -283,8 +322,10 @@ pub fn renew(
 // Frees the block row at `place` where no held row has its fingerprint.
 pub fn free_unknown(b: BoxRecord, place: usize, addrs: &[u8], blocks: &mut [u8])
     requires { ⌜ Sized b (now addrs) (now blocks) ⌝ }
-    ensures { λ _. ⌜ ((B : ℕ) (l : List (AddressRow (Fixed 32))) (free : List ℕ) (used : List (BlockRow (Fixed 32))) (r : AddressRow (Fixed 32)) → Addrs (b .blocks) (b .rows) (b .held) (now (addrs .entry)) l → Blocks (b .slots) (now (blocks .entry)) free used
-        → Distinct (engine 0 .same) (λ u. u .fingerprint) used → place ≡ placeOf (Option.some (r .fingerprint)) free used → now (blocks .exit) ≡ blockBytes (dropped (engine B) l (record { free = free; used = used }) (Option.some r))) ⌝ }
+    ensures { λ _. ⌜ ((B : ℕ) (l : List (AddressRow (Fixed 32))) (free : List ℕ) (used : List (BlockRow (Fixed 32))) (r : AddressRow (Fixed 32))
+        → Addrs (b .blocks) (b .rows) (b .held) (now (addrs .entry)) l → Blocks (b .slots) (now (blocks .entry)) free used
+        → Distinct (engine 0 .same) (λ u. u .fingerprint) used → place ≡ placeOf (Option.some (r .fingerprint)) free used → now (blocks .exit)
+        ≡ blockBytes (dropped (engine B) l (record { free = free; used = used }) (Option.some r))) ⌝ }
 {
     let d = b.slots;
     if d <= place {
@@ -299,9 +340,11 @@ pub fn free_unknown(b: BoxRecord, place: usize, addrs: &[u8], blocks: &mut [u8])
 // Takes row `i` out, if there is one, and frees its fingerprint's block row where no other row has it. The rows then held.
 pub fn drop_row(b: BoxRecord, i: usize, addrs: &mut [u8], blocks: &mut [u8]) -> usize
     requires { ⌜ Sized b (now addrs) (now blocks) ⌝ }
-    ensures { λ r. ⌜ ((B a : ℕ) (l : List (AddressRow (Fixed 32))) (free : List ℕ) (used : List (BlockRow (Fixed 32))) → Addrs (b .blocks) (b .rows) (b .held) (now (addrs .entry)) l → Blocks (b .slots) (now (blocks .entry)) free used
+    ensures { λ r. ⌜ ((B a : ℕ) (l : List (AddressRow (Fixed 32))) (free : List ℕ) (used : List (BlockRow (Fixed 32)))
+        → Addrs (b .blocks) (b .rows) (b .held) (now (addrs .entry)) l → Blocks (b .slots) (now (blocks .entry)) free used
         → Distinct eqb (λ x. x .address) l → Distinct (engine 0 .same) (λ u. u .fingerprint) used → i ≡ indexWhere (λ x. eqb a (x .address)) l
-        → (r ≡ length (withoutAddress a l)) × (now (addrs .exit) ≡ addressesOf (b .rows) (withoutAddress a l)) × (now (blocks .exit) ≡ blockBytes (dropped (engine B) (withoutAddress a l) (record { free = free; used = used }) (rowOf a l)))) ⌝ }
+        → (r ≡ length (withoutAddress a l)) × (now (addrs .exit) ≡ addressesOf (b .rows) (withoutAddress a l))
+        × (now (blocks .exit) ≡ blockBytes (dropped (engine B) (withoutAddress a l) (record { free = free; used = used }) (rowOf a l)))) ⌝ }
 {
     if b.held <= i {
         return b.held;

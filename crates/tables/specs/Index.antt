@@ -51,7 +51,8 @@ First c k rs x v = (v ≤ 256) × ((k ≤ 256 - v) × (256 - v < length rs → I
 -- behind row k of bucket x, a search for a fingerprint of that bucket goes on at row o
 abbrev pub Goes : ℕ → List (List ℕ) → ℕ → ℕ → ℕ → Type 0
 Goes c rs x k o =
-    (k < o) × ((o < length rs → In c rs x o) × ((g : List ℕ) → bucket c g ≡ x → findFrom (caches g) (k + 1) (drop (k + 1) rs) ≡ findFrom (caches g) o (drop o rs)))
+    (k < o) × ((o < length rs → In c rs x o) × ((g : List ℕ) → bucket c g ≡ x → findFrom (caches g) (k + 1) (drop (k + 1) rs)
+    ≡ findFrom (caches g) o (drop o rs)))
 
 -- the entries of the buckets, and of the used rows from k on
 pub record Linked (k : ℕ) (heads : List ℕ) (rs : List (List ℕ)) : Type 0 where

@@ -58,7 +58,8 @@ pub extern "C" fn tables_probe_place(
     d: usize,
     k: usize,
 ) -> usize
-    ensures { λ r. ⌜ r ≡ ifSound p m n d (now (addresses .entry)) (now (blocks .entry)) (cond (ltb k n) (placeIn (rows d (now (blocks .entry))) (rowAt (now (addresses .entry)) k)) none) ⌝ }
+    ensures { λ r. ⌜ r ≡ ifSound p m n d (now (addresses .entry)) (now (blocks .entry))
+        (cond (ltb k n) (placeIn (rows d (now (blocks .entry))) (rowAt (now (addresses .entry)) k)) none) ⌝ }
 {
     let mut heads = [0u16; index::ENTRIES];
     let number = sound::tables_refused(addresses, m, n, p, blocks, d, &mut heads);
@@ -81,7 +82,8 @@ pub extern "C" fn tables_probe_some_uncached(
     blocks: &[u8],
     d: usize,
 ) -> usize
-    ensures { λ r. ⌜ r ≡ ifSound p m n d (now (addresses .entry)) (now (blocks .entry)) (mark (not (all (cachedIn (rows d (now (blocks .entry)))) (rows (n - 1) (now (addresses .entry)))))) ⌝ }
+    ensures { λ r. ⌜ r ≡ ifSound p m n d (now (addresses .entry)) (now (blocks .entry))
+        (mark (not (all (cachedIn (rows d (now (blocks .entry)))) (rows (n - 1) (now (addresses .entry)))))) ⌝ }
 {
     let mut heads = [0u16; index::ENTRIES];
     let number = sound::tables_refused(addresses, m, n, p, blocks, d, &mut heads);
@@ -107,7 +109,8 @@ pub extern "C" fn tables_probe_oldest_unknown(
     blocks: &[u8],
     d: usize,
 ) -> usize
-    ensures { λ r. ⌜ r ≡ ifSound p m n d (now (addresses .entry)) (now (blocks .entry)) (number (findFrom (unknownIn (rows n (now (addresses .entry)))) 0 (rows d (now (blocks .entry))))) ⌝ }
+    ensures { λ r. ⌜ r ≡ ifSound p m n d (now (addresses .entry)) (now (blocks .entry))
+        (number (findFrom (unknownIn (rows n (now (addresses .entry)))) 0 (rows d (now (blocks .entry))))) ⌝ }
 {
     let mut heads = [0u16; index::ENTRIES];
     let number = sound::tables_refused(addresses, m, n, p, blocks, d, &mut heads);

@@ -25,7 +25,8 @@ pub extern "C" fn tables_probe_find_address(t: &[u8], n: usize, a: u32) -> usize
 // The first of `n` address rows with the fingerprint `g`.
 #[no_mangle]
 pub extern "C" fn tables_probe_find_fingerprint(t: &[u8], n: usize, g: &[u8]) -> usize
-    ensures { λ r. ⌜ r ≡ cond (fitsWith n (now (t .entry)) (now (g .entry))) (number (findFrom (hasFingerprint (now (g .entry))) 0 (rows n (now (t .entry))))) none ⌝ }
+    ensures { λ r. ⌜ r ≡ cond (fitsWith n (now (t .entry)) (now (g .entry)))
+        (number (findFrom (hasFingerprint (now (g .entry))) 0 (rows n (now (t .entry))))) none ⌝ }
 {
     if !fit::fits_with(t, n, g) {
         return fit::NONE;

@@ -31,8 +31,10 @@ walk-requires c κs =
     let rs = rows (a .d) (a .t .now) in
     let f = ap (λ (v : ℕ). 256 - v) (c .wide2 .ensures) in (
       (p .0, p .1, p .2, s .pre .1 .0),
-      (from-bucket (a .heads .now) rs (a .g .now) (b .bucket-of .result) (256 - c .wide2 .result) 0 (in-bucket b) (b .bucket-of .ensures .1) f (s .pre .1 .1),
-      from-links (a .heads .now) rs (a .g .now) (b .bucket-of .result) (256 - c .wide2 .result) 0 (in-bucket b) (b .bucket-of .ensures .1) f (s .pre .1 .1)),
+      (
+        from-bucket (a .heads .now) rs (a .g .now) (b .bucket-of .result) (256 - c .wide2 .result) 0 (in-bucket b) (b .bucket-of .ensures .1) f (s .pre .1 .1),
+        from-links (a .heads .now) rs (a .g .now) (b .bucket-of .result) (256 - c .wide2 .result) 0 (in-bucket b) (b .bucket-of .ensures .1) f (s .pre .1 .1),
+      ),
     )
 
 returns : tie.Need-returns

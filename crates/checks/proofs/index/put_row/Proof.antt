@@ -61,8 +61,10 @@ alone-requires c κs =
     let g = readBlock (rowAt (a .t .now) (a .k)) .fingerprint in
     let f = ap (λ (v : ℕ). 256 - v) (w .wide2 .ensures) in (
       (p .0, p .1, p .2, p .3),
-      (from-bucket (a .heads .now) rs g (b .bucket-of .result) (256 - w .wide2 .result) (a .k + 1) (in-bucket b) (b .bucket-of .ensures .1) f (s .pre .1),
-      from-links (a .heads .now) rs g (b .bucket-of .result) (256 - w .wide2 .result) (a .k + 1) (in-bucket b) (b .bucket-of .ensures .1) f (s .pre .1)),
+      (
+        from-bucket (a .heads .now) rs g (b .bucket-of .result) (256 - w .wide2 .result) (a .k + 1) (in-bucket b) (b .bucket-of .ensures .1) f (s .pre .1),
+        from-links (a .heads .now) rs g (b .bucket-of .result) (256 - w .wide2 .result) (a .k + 1) (in-bucket b) (b .bucket-of .ensures .1) f (s .pre .1),
+      ),
     )
 
 -- the row is used
@@ -79,7 +81,7 @@ returns-2 c =
     let a = s .args in
     let f = ap (λ (v : ℕ). 256 - v) (w .wide2 .ensures) in (
       sym (not-true _ (c .if2 .taken)) ∙ n .alone .ensures
-      ∙ alone-is (a .heads .now) (a .t .now) (a .d) (a .k) (b .bucket-of .result) (256 - w .wide2 .result) (s .pre .0 .0) (used e) (in-bucket b) (b .bucket-of .ensures .1) f (s .pre .1),
+          ∙ alone-is (a .heads .now) (a .t .now) (a .d) (a .k) (b .bucket-of .result) (256 - w .wide2 .result) (s .pre .0 .0) (used e) (in-bucket b) (b .bucket-of .ensures .1) f (s .pre .1),
       ((λ z. absurd (false≢true z)), s .pre .0 .3),
     )
 
@@ -96,9 +98,11 @@ returns-3 c =
     let f = ap (λ (v : ℕ). 256 - v) (w .wide2 .ensures) in
     let i : In (choice (a .heads .now)) (rows (a .d) (a .t .now)) x (a .k) = (ap isUsed (row-there u) ∙ used e, ap (λ r. bucket (choice (a .heads .now)) (readBlock r .fingerprint)) (row-there u) ∙ sym (in-bucket b)) in (
       sym (not-false _ (c .if2 .left)) ∙ n .alone .ensures
-      ∙ alone-is (a .heads .now) (a .t .now) (a .d) (a .k) x (256 - w .wide2 .result) (s .pre .0 .0) (used e) (in-bucket b) (b .bucket-of .ensures .1) f (s .pre .1),
-      ((λ z. linked-more (a .heads .now) (a .k) x (getD (a .heads .now) x 0) (omega (arith, s .pre .0 .0, s .pre .0 .1)) (s .pre .0 .3) (b .bucket-of .ensures .1) (rows (a .d) (a .t .now)) (row-below u) (rw rows-length (s .pre .0 .1)) i refl (s .pre .1)),
-      simp length-set (s .pre .0 .3)),
+          ∙ alone-is (a .heads .now) (a .t .now) (a .d) (a .k) x (256 - w .wide2 .result) (s .pre .0 .0) (used e) (in-bucket b) (b .bucket-of .ensures .1) f (s .pre .1),
+      (
+        (λ z. linked-more (a .heads .now) (a .k) x (getD (a .heads .now) x 0) (omega (arith, s .pre .0 .0, s .pre .0 .1)) (s .pre .0 .3) (b .bucket-of .ensures .1) (rows (a .d) (a .t .now)) (row-below u) (rw rows-length (s .pre .0 .1)) i refl (s .pre .1)),
+        simp length-set (s .pre .0 .3),
+      ),
     )
 
 pub put-row-spec : {M : Type 1} → statement M

@@ -30,8 +30,8 @@ returns c =
 -- where row k's entry leads
 goes : (c : tie.After-wide Inv-loop μ-loop)
     → (let l = c .before .before .before .before .before in
-      let a = l .before .before .before .before .args in
-      Goes (choice (a .heads .now)) (rows (a .d) (a .t .now)) (bucket (choice (a .heads .now)) (a .g .now)) (l .loop .k) (onward (a .heads .now) (l .loop .k)))
+    let a = l .before .before .before .before .args in
+    Goes (choice (a .heads .now)) (rows (a .d) (a .t .now)) (bucket (choice (a .heads .now)) (a .g .now)) (l .loop .k) (onward (a .heads .now) (l .loop .k)))
 goes c =
     let n = c .before .before .before .before in
     let l = n .before in

@@ -23,8 +23,8 @@ returns c =
 -- the slot found is that of the row's fingerprint
 slot-is : (c : tie.After-slot-in) (B : ℕ)
     → (let a = c .before .before .before .before .before .before .before .before .before .before .before .args in
-      (s : Box (Fixed 32) (Fixed (a .b .size))) → Rep (a .b) (a .disk .now) (a .flash .now) (a .addrs .now) (a .blocks .now) s
-      → c .slot-in .result .0 ≡ slotOf (engine B) (getD (s .rows) (a .i) noRow .fingerprint) (s .used))
+    (s : Box (Fixed 32) (Fixed (a .b .size))) → Rep (a .b) (a .disk .now) (a .flash .now) (a .addrs .now) (a .blocks .now) s
+    → c .slot-in .result .0 ≡ slotOf (engine B) (getD (s .rows) (a .i) noRow .fingerprint) (s .used))
 slot-is c B s h =
     let start = c .before .before .before .before .before .before .before .before .before .before .before in
     let a = start .args in

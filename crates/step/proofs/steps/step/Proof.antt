@@ -60,8 +60,10 @@ step4-requires c κs =
     let Y = place-is (a .b) (a .disk .now) (a .flash .now) (a .addrs .now) (a .blocks .now) (q .0) (q .2) (q .3) (p .0) (p .1) (a .a .0) (p .4) f (q .1) n (st .result .place) (st .result .primary) _ _ e1 _ e2 in
     let e3 = s3 .ensures .0 (a .b .size) (step1 (engine (a .b .size)) (a .b .rows) (q .0) (a .a .0) .rows ++ (newest (a .a .0) f (q .1) ∷ [])) ((q .0) .free) ((q .0) .used) (step1 (engine (a .b .size)) (a .b .rows) (q .0) (a .a .0) .gone) X ((q .2) .blocks-are) ((q .3) .fingerprints) Y in (
       (p .1, p .2, p .3, q .2 .blocks-are .small, (omega (arith, st .ensures .0 .0), pu .kept .0 ∙ st .kept .1 .1 .1 .1 .0 ∙ p .6 .1, s3 .kept .1 .1 .1 .0 ∙ p .6 .2)),
-      ((s₃ (a .b) (a .disk .now) (a .flash .now) (a .addrs .now) (a .blocks .now) (q .0) (q .2) (q .3) (p .0) (p .1) (a .a .0) (p .4) f (q .1) n (st .result .place) (st .result .primary) _ _ e1 _ e2 _ e3, rep₃ (a .b) (a .disk .now) (a .flash .now) (a .addrs .now) (a .blocks .now) (q .0) (q .2) (q .3) (p .0) (p .1) (a .a .0) (p .4) f (q .1) n (st .result .place) (st .result .primary) _ _ e1 _ e2 _ e3, distinct₃ (a .b) (a .disk .now) (a .flash .now) (a .addrs .now) (a .blocks .now) (q .0) (q .2) (q .3) (p .0) (p .1) (a .a .0) (p .4) f (q .1) n (st .result .place) (st .result .primary) _ _ e1 _ e2 _ e3),
-      λ y. rw (s3 .ensures .1 y) (start .pre .1 .1)),
+      (
+        (s₃ (a .b) (a .disk .now) (a .flash .now) (a .addrs .now) (a .blocks .now) (q .0) (q .2) (q .3) (p .0) (p .1) (a .a .0) (p .4) f (q .1) n (st .result .place) (st .result .primary) _ _ e1 _ e2 _ e3, rep₃ (a .b) (a .disk .now) (a .flash .now) (a .addrs .now) (a .blocks .now) (q .0) (q .2) (q .3) (p .0) (p .1) (a .a .0) (p .4) f (q .1) n (st .result .place) (st .result .primary) _ _ e1 _ e2 _ e3, distinct₃ (a .b) (a .disk .now) (a .flash .now) (a .addrs .now) (a .blocks .now) (q .0) (q .2) (q .3) (p .0) (p .1) (a .a .0) (p .4) f (q .1) n (st .result .place) (st .result .primary) _ _ e1 _ e2 _ e3),
+        λ y. rw (s3 .ensures .1 y) (start .pre .1 .1),
+      ),
     )
 
 add-t38 : tie.Need-add-t38
