@@ -51,7 +51,8 @@ pub fn to_front(t: &mut [u8], d: usize, i: usize)
     requires { ⌜ (i < d) × (length (now t) ≡ tableBytes d) ⌝ }
     ensures { λ _. ⌜ now (t .exit) ≡ rowFreed d i (now (t .entry)) ⌝ }
 {
+    let at = i * row::BYTES;
     let freed = row::freed(t, i);
-    moves::move_up(t, row::BYTES, 0, i * row::BYTES);
+    moves::move_up(t, row::BYTES, 0, at);
     moves::write(t, 0, &freed);
 }

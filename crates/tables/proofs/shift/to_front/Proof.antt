@@ -26,4 +26,4 @@ returns c =
     (ap (λ (s : List ℕ). paste s 0 (freed (rowAt t (a .i))) 40) (m .move-up .ensures) ∙ fronted t (a .d) (a .i) (omega arith) (omega arith))
 
 pub to-front-spec : {M : Type 1} → statement M
-to-front-spec = tie.close (tie.spec (λ c κs. search needs) (λ c. search needs) (λ c κs. search needs) (λ c. search needs) (λ c κs. search needs) (λ c. search needs) returns)
+to-front-spec = tie.close (tie.spec (λ c. search needs) (λ c κs. search needs) (λ c κs. search needs) (λ c. search needs) (λ c κs. search needs) (λ c. search needs) returns)
