@@ -65,7 +65,8 @@ pub bytes64-value : (x : ℕ) → value (bytes64 x) ≡ x % 2 ^ 64
 unfolding bytes64
 bytes64-value x =
     let one : x % 256 * 1 + 0 ≡ x % 256 = omega arith in
-    let digit : (n k : ℕ) → n ≡ x % 2 ^ k → x / 2 ^ k % 2 ^ 8 * 2 ^ k + n ≡ x % 2 ^ (8 + k) = λ n k e. ap (λ r. x / 2 ^ k % 2 ^ 8 * 2 ^ k + r) e ∙ sym (mod-pow-add x 8 k) in
+    let digit : (n k : ℕ) → n ≡ x % 2 ^ k → x / 2 ^ k % 2 ^ 8 * 2 ^ k + n ≡ x % 2 ^ (8 + k) =
+    λ n k e. ap (λ r. x / 2 ^ k % 2 ^ 8 * 2 ^ k + r) e ∙ sym (mod-pow-add x 8 k) in
     digit _ 56 (digit _ 48 (digit _ 40 (digit _ 32 (digit _ 24 (digit _ 16 (digit _ 8 one))))))
 
 -- 5.1.1: "Then append the 64-bit block that is equal to the number l", for every length: the last eight bytes of a padded message are, as a number,

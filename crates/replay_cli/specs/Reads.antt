@@ -6,7 +6,7 @@ use Prim.Native.Nat.{ℕ, zero, suc, _-_, _^_, _≤_}
 use lib.Dec.{ltb, leb}
 use lib.ListN.{length, take, getD}
 use Rattle.answers.specs.Replay.{replay}
-use Rattle.session.specs.Memory.{Memory, fed}
+use Rattle.session.specs.Memory.{Memory, After, fed, ended}
 use Rattle.replay.specs.Pieces.{textOf}
 use Rattle.replay_cli.specs.Chunks.{fedFirst}
 
@@ -53,6 +53,7 @@ Stopped M rs = due M rs ≡ true → length rs ≡ 2 ^ 64 - 1
 abbrev pub Ran : ℕ → Memory → Memory → Type 0
 Ran size M N = (reads : List Reading) × Made size M reads × Stopped M reads × (N ≡ after M reads)
 
--- the texts of such reads, and a last text after them, are the replay of the bytes read
-abbrev pub Replayed : ℕ → Memory → List ℕ → Type 0
-Replayed size M text = (reads : List Reading) × Made size M reads × Stopped M reads × (handed M reads ++ text ≡ replay (input reads))
+-- what the end leaves after such reads, and that their texts and the end's are the replay of the bytes read
+abbrev pub Replayed : ℕ → Memory → After → Type 0
+Replayed size M a =
+    (reads : List Reading) × Made size M reads × Stopped M reads × (a ≡ ended (after M reads)) × (handed M reads ++ textOf a ≡ replay (input reads))

@@ -168,7 +168,7 @@ fn whole(
     requires { ⌜ Ready (memory first (now line) (now disk) (now flash) (now addresses) (now blocks) (now out)) ⌝ }
     ensures { λ r. ⌜ Replayed (length (now (chunk .entry)))
         (memory first (now (line .entry)) (now (disk .entry)) (now (flash .entry)) (now (addresses .entry)) (now (blocks .entry)) (now (out .entry)))
-        (take (r .filled) (now (out .exit))) ⌝ }
+        (afterOf r (now (line .exit)) (now (disk .exit)) (now (flash .exit)) (now (addresses .exit)) (now (blocks .exit)) (now (out .exit))) ⌝ }
 {
     let s = all(chunk, line, disk, flash, addresses, blocks, out);
     last(s, line, disk, flash, addresses, blocks, out)

@@ -20,8 +20,12 @@ loop-holds c = (omega arith, refl, refl)
 
 loop-again : tie.Need-loop-again Inv-loop μ-loop
 loop-again c =
-    let p = c .before .before .before .loop in
-    (omega arith, simp length-set (p .inv .1), next _ (p .text) (p .i) _ _ (omega arith) (p .inv .1) (p .inv .2) (c .before .glyph .ensures) (c .glyph2 .ensures))
+    let p = c .before .before .before .loop in (
+      omega arith,
+      simp length-set (p .inv .1),
+      next _ (p .text) (p .i) _ _ (omega arith) (p .inv .1) (p .inv .2) (c .before .glyph .ensures)
+          (c .glyph2 .ensures),
+    )
 
 returns : tie.Need-returns Inv-loop μ-loop
 returns c =

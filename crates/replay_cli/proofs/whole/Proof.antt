@@ -26,11 +26,12 @@ returns c =
     let M : Memory = memory first (a .line .now) (a .disk .now) (a .flash .now) (a .addresses .now) (a .blocks .now) (a .out .now) in
     let e = c .before .before .before .before .before .before .before .before .before .before .before .before .before .before .before .before .before
     .before .before .before .before .before .before .before .before .before .before .before .before .before .before .all .ensures in
-    let l = c .before .before .before .before .before .before .before .before .before .before .last .ensures in (
+    let l = c .before .before .before .before .before .before .before .before .before .before .last .ensures ∙ ap ended (e .3) in (
       e .0,
       e .1,
       e .2,
-      ap (λ (x : After). handed M (e .0) ++ textOf x) (l ∙ ap ended (e .3)) ∙ run-replays _ M (e .0) (c .before .before .before
+      l,
+      ap (λ (x : After). handed M (e .0) ++ textOf x) l ∙ run-replays _ M (e .0) (c .before .before .before
           .before .before .before .before .before .before .before .before .before .before .before .before .before .before .before .before .before
           .before .before .before .before .before .before .before .before .before .before .before .before .before .before .before .before .before
           .before .before .before .before .before .before .before .before .before .pre) (e .1),
