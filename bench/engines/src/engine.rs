@@ -1,4 +1,5 @@
-//! The calls, over any way of finding rows.
+//! The calls, over any index of the block rows.
+use crate::checks::check;
 use crate::layout::*;
 
 const HIT: u64 = 1;
@@ -12,14 +13,15 @@ const DONE: u64 = 7;
 const FIRST_COUNTER: usize = 5;
 const MOST_COUNTED: u64 = 1 << 63;
 
-/// How an engine checks the tables and finds rows in them. Places are those that the rows had when the tables were checked.
-pub trait Lookups: Sized {
-    /// The refusals 6, 7 and 8.
-    fn check(sizes: &Sizes, addresses: &[u8], blocks: &[u8]) -> Result<Self, u32>;
-    fn held(&self, sizes: &Sizes, addresses: &[u8], a: u32) -> Option<usize>;
-    fn cached(&self, blocks: &[u8], g: &Fingerprint) -> Option<usize>;
-    /// The oldest used row whose fingerprint none of these address rows has. All rows are used.
-    fn oldest_unwanted(&self, rows: &[u8], blocks: &[u8]) -> Option<usize>;
+/// An index of the used block rows by their fingerprints, made in each call. It is asked while the block rows are where they were.
+pub trait Index: Default {
+    /// Makes room for `d` rows.
+    fn reserve(&mut self, d: usize);
+    /// Adds a used row. False where a row that was added has the same fingerprint.
+    fn add(&mut self, blocks: &[u8], k: usize) -> bool;
+    /// The row that has the fingerprint `g`.
+    fn find(&self, blocks: &[u8], g: &Fingerprint) -> Option<usize>;
+    fn has(&self, blocks: &[u8], g: &Fingerprint) -> bool;
 }
 
 /// The refusals that need no table: 1, 2 and 3. An address is `None` in a call without one, and so is a block.
@@ -40,7 +42,7 @@ fn counters_too_large(state: &[u8]) -> bool {
 }
 
 /// Adds to the counters and fills the answer.
-fn done(state: &mut [u8], answer: &mut [u8], word: u64, flash_writes: u64, primary_writes: u64) -> u32 {
+fn done(state: &mut [u8], answer: &mut [u8], word: u64, flash_writes: u64, primary_writes: u64) -> Result<(), u32> {
     let is_read = word == HIT || word == MISS;
     for (k, more) in [is_read as u64, (word == HIT) as u64, flash_writes, primary_writes].into_iter().enumerate() {
         let counter = number(state, FIRST_COUNTER + k);
@@ -49,21 +51,39 @@ fn done(state: &mut [u8], answer: &mut [u8], word: u64, flash_writes: u64, prima
     fill(answer, word, flash_writes, primary_writes)
 }
 
-fn fill(answer: &mut [u8], word: u64, first: u64, second: u64) -> u32 {
+fn fill(answer: &mut [u8], word: u64, first: u64, second: u64) -> Result<(), u32> {
     set_number(answer, 0, word);
     set_number(answer, 1, first);
     set_number(answer, 2, second);
-    0
+    Ok(())
 }
 
 fn copy(from: &[u8], i: usize, to: &mut [u8], j: usize, b: usize) {
     to[j * b..(j + 1) * b].copy_from_slice(&from[i * b..(i + 1) * b]);
 }
 
-/// What the step takes: the box, with its numbers and where its rows are.
-struct Taken<'a, L> {
+fn held(sizes: &Sizes, addresses: &[u8], a: u32) -> Option<usize> {
+    rows(&addresses[..sizes.n * ROW]).position(|row| address(row) == a)
+}
+
+/// Whether one of these address rows has the fingerprint `g`.
+fn is_wanted(held: &[u8], g: &Fingerprint) -> bool {
+    rows(held).any(|row| held_fingerprint(row) == g)
+}
+
+/// The oldest of the block rows, all of them used, whose fingerprint none of these address rows has.
+fn oldest_unwanted<I: Index>(index: &I, held: &[u8], blocks: &[u8]) -> Option<usize> {
+    let mut wanted = [false; 256];
+    for place in rows(held).filter_map(|row| index.find(blocks, held_fingerprint(row))) {
+        wanted[place] = true;
+    }
+    wanted[..blocks.len() / ROW].iter().position(|wanted| !wanted)
+}
+
+/// What the step takes: the box, with its numbers and an index of its block rows.
+struct Taken<'a, I> {
     sizes: Sizes,
-    lookups: L,
+    index: &'a I,
     state: &'a mut [u8],
     disk: &'a mut [u8],
     flash: &'a mut [u8],
@@ -71,37 +91,37 @@ struct Taken<'a, L> {
     blocks: &'a mut [u8],
 }
 
-impl<L: Lookups> Taken<'_, L> {
+impl<I: Index> Taken<'_, I> {
     /// The step of a request. Answers flash writes and primary writes.
     fn step(&mut self, a: u32, held: Option<usize>, g: &Fingerprint, cached: Option<usize>, block: &[u8], dirty: bool) -> (u64, u64) {
         let Sizes { b, m, mut n, .. } = self.sizes;
         let mut primary_writes = 0;
         let mut cached = cached;
-        let out = held.or((n == m).then_some(0));
-        let mut q = None;
-        if let Some(k) = out {
+        // The fingerprint that went out and its block row, where it may have been the last of its kind.
+        let mut gone = None;
+        if let Some(k) = held.or((n == m).then_some(0)) {
             let old = *row(self.addresses, k);
-            let place = self.lookups.cached(self.blocks, held_fingerprint(&old));
             if held.is_none() && is_dirty(&old) {
-                copy(self.flash, slot(row(self.blocks, place.unwrap())), self.disk, address(&old) as usize, b);
+                let place = self.index.find(self.blocks, held_fingerprint(&old)).unwrap();
+                copy(self.flash, slot(row(self.blocks, place)), self.disk, address(&old) as usize, b);
                 primary_writes += 1;
             }
             take_out(self.addresses, n, k);
             n -= 1;
-            q = place.map(|place| (*held_fingerprint(&old), place));
+            if held_fingerprint(&old) != g && !is_wanted(&self.addresses[..n * ROW], held_fingerprint(&old)) {
+                gone = self.index.find(self.blocks, held_fingerprint(&old));
+            }
         }
-        let others = n;
-        add(self.addresses, n, a, g, dirty);
-        n += 1;
-        set_number(self.state, 4, n as u64);
-
-        if let Some((q, place)) = q {
-            let unwanted = (0..n).all(|k| *held_fingerprint(row(self.addresses, k)) != q);
-            if unwanted && (0..others).any(|k| self.lookups.cached(self.blocks, held_fingerprint(row(self.addresses, k))).is_none()) {
+        if let Some(place) = gone {
+            let has_block = |row: &Row| self.index.has(self.blocks, held_fingerprint(row));
+            if !rows(&self.addresses[..n * ROW]).all(has_block) {
                 set_free(self.blocks, place);
                 cached = cached.map(|k| if k < place { k + 1 } else { k });
             }
         }
+        add(self.addresses, n, a, g, dirty);
+        n += 1;
+        set_number(self.state, 4, n as u64);
 
         if let Some(k) = cached {
             to_newest(self.blocks, k);
@@ -109,12 +129,12 @@ impl<L: Lookups> Taken<'_, L> {
         }
         let mut place = 0;
         if is_used(row(self.blocks, 0)) {
-            place = self.lookups.oldest_unwanted(&self.addresses[..n * ROW], self.blocks).unwrap_or(0);
+            place = oldest_unwanted(self.index, &self.addresses[..n * ROW], self.blocks).unwrap_or(0);
             let old = *row(self.blocks, place);
             for k in 0..n {
-                let held = *row(self.addresses, k);
-                if is_dirty(&held) && held_fingerprint(&held) == cached_fingerprint(&old) {
-                    copy(self.flash, slot(&old), self.disk, address(&held) as usize, b);
+                let held = row(self.addresses, k);
+                if is_dirty(held) && held_fingerprint(held) == cached_fingerprint(&old) {
+                    copy(self.flash, slot(&old), self.disk, address(held) as usize, b);
                     self.addresses[k * ROW + 36] = 0;
                     primary_writes += 1;
                 }
@@ -129,46 +149,54 @@ impl<L: Lookups> Taken<'_, L> {
     }
 }
 
-pub fn open(state: &mut [u8], disk: &[u8], flash: &[u8], addresses: &mut [u8], blocks: &mut [u8]) -> u32 {
+pub fn open(state: &mut [u8], disk: &[u8], flash: &[u8], addresses: &mut [u8], blocks: &mut [u8]) -> Result<(), u32> {
     if state.len() != 72 {
-        return 2;
+        return Err(2);
     }
     set_number(state, 4, 0);
-    if let Err(refused) = numbers(state, [disk.len(), flash.len(), addresses.len(), blocks.len()], None, None) {
-        return refused;
-    }
+    numbers(state, [disk.len(), flash.len(), addresses.len(), blocks.len()], None, None)?;
     state[FIRST_COUNTER * 8..].fill(0);
     addresses.fill(0);
     blocks.fill(0);
     for (k, row) in blocks.chunks_exact_mut(ROW).enumerate() {
         row[32..36].copy_from_slice(&(k as u32).to_le_bytes());
     }
-    0
+    Ok(())
 }
 
-/// The refusals of a read or a write, in their order; gives the sizes and the lookups where there is none.
-macro_rules! checked {
-    ($state:ident, $a:expr, $disk:ident, $flash:ident, $addresses:ident, $blocks:ident, $block:expr, $answer:ident, $counted:expr) => {{
-        if $state.len() != 72 || $answer.len() != 24 {
-            return 2;
-        }
-        let lengths = [$disk.len(), $flash.len(), $addresses.len(), $blocks.len()];
-        let checked = numbers($state, lengths, $a, $block).and_then(|sizes| L::check(&sizes, $addresses, $blocks).map(|lookups| (sizes, lookups)));
-        match checked {
-            Err(refused) => return refused,
-            Ok(_) if $counted && counters_too_large($state) => return 9,
-            Ok(both) => both,
-        }
-    }};
+/// The refusals of a call, in their order. Where there is none the index has the used block rows.
+#[allow(clippy::too_many_arguments)]
+fn checked<I: Index>(
+    index: &mut I,
+    state: &[u8],
+    a: Option<u32>,
+    disk: &[u8],
+    flash: &[u8],
+    addresses: &[u8],
+    blocks: &[u8],
+    block: Option<usize>,
+    answer: &[u8],
+    counted: bool,
+) -> Result<Sizes, u32> {
+    if state.len() != 72 || answer.len() != 24 {
+        return Err(2);
+    }
+    let sizes = numbers(state, [disk.len(), flash.len(), addresses.len(), blocks.len()], a, block)?;
+    check(&sizes, addresses, blocks, index)?;
+    if counted && counters_too_large(state) {
+        return Err(9);
+    }
+    Ok(sizes)
 }
 
 #[allow(clippy::too_many_arguments)]
-pub fn read<L: Lookups>(state: &mut [u8], a: u32, disk: &mut [u8], flash: &mut [u8], addresses: &mut [u8], blocks: &mut [u8], block: &mut [u8], answer: &mut [u8]) -> u32 {
-    let (sizes, lookups) = checked!(state, Some(a), disk, flash, addresses, blocks, Some(block.len()), answer, true);
+pub fn read<I: Index>(state: &mut [u8], a: u32, disk: &mut [u8], flash: &mut [u8], addresses: &mut [u8], blocks: &mut [u8], block: &mut [u8], answer: &mut [u8]) -> Result<(), u32> {
+    let mut index = I::default();
+    let sizes = checked(&mut index, state, Some(a), disk, flash, addresses, blocks, Some(block.len()), answer, true)?;
     let b = sizes.b;
-    let held = lookups.held(&sizes, addresses, a);
+    let held = held(&sizes, addresses, a);
     let old = held.map(|k| *row(addresses, k));
-    let hit = old.and_then(|old| lookups.cached(blocks, held_fingerprint(&old)).map(|place| (old, place)));
+    let hit = old.and_then(|old| index.find(blocks, held_fingerprint(&old)).map(|place| (old, place)));
     let (word, g, cached, dirty) = match hit {
         Some((old, place)) => {
             copy(flash, slot(row(blocks, place)), block, 0, b);
@@ -177,39 +205,41 @@ pub fn read<L: Lookups>(state: &mut [u8], a: u32, disk: &mut [u8], flash: &mut [
         None => {
             copy(disk, a as usize, block, 0, b);
             let g = fingerprint(block);
-            (MISS, g, lookups.cached(blocks, &g), false)
+            (MISS, g, index.find(blocks, &g), false)
         }
     };
-    let mut taken = Taken { sizes, lookups, state, disk, flash, addresses, blocks };
+    let mut taken = Taken { sizes, index: &index, state, disk, flash, addresses, blocks };
     let (flash_writes, primary_writes) = taken.step(a, held, &g, cached, block, dirty);
     done(state, answer, word, flash_writes, primary_writes)
 }
 
 #[allow(clippy::too_many_arguments)]
-pub fn write<L: Lookups>(state: &mut [u8], a: u32, disk: &mut [u8], flash: &mut [u8], addresses: &mut [u8], blocks: &mut [u8], block: &[u8], answer: &mut [u8], dirty: bool) -> u32 {
-    let (sizes, lookups) = checked!(state, Some(a), disk, flash, addresses, blocks, Some(block.len()), answer, true);
-    let held = lookups.held(&sizes, addresses, a);
+pub fn write<I: Index>(state: &mut [u8], a: u32, disk: &mut [u8], flash: &mut [u8], addresses: &mut [u8], blocks: &mut [u8], block: &[u8], answer: &mut [u8], dirty: bool) -> Result<(), u32> {
+    let mut index = I::default();
+    let sizes = checked(&mut index, state, Some(a), disk, flash, addresses, blocks, Some(block.len()), answer, true)?;
+    let held = held(&sizes, addresses, a);
     let g = fingerprint(block);
-    let cached = lookups.cached(blocks, &g);
+    let cached = index.find(blocks, &g);
     let word = if cached.is_some() { SAME } else { NEW };
     if !dirty {
         copy(block, 0, disk, a as usize, sizes.b);
     }
-    let mut taken = Taken { sizes, lookups, state, disk, flash, addresses, blocks };
+    let mut taken = Taken { sizes, index: &index, state, disk, flash, addresses, blocks };
     let (flash_writes, primary_writes) = taken.step(a, held, &g, cached, block, dirty);
     done(state, answer, word, flash_writes, primary_writes + !dirty as u64)
 }
 
 #[allow(clippy::too_many_arguments)]
-pub fn write_invalidate<L: Lookups>(state: &mut [u8], a: u32, disk: &mut [u8], flash: &[u8], addresses: &mut [u8], blocks: &mut [u8], block: &[u8], answer: &mut [u8]) -> u32 {
-    let (sizes, lookups) = checked!(state, Some(a), disk, flash, addresses, blocks, Some(block.len()), answer, true);
-    let word = if lookups.cached(blocks, &fingerprint(block)).is_some() { SAME } else { NEW };
+pub fn write_invalidate<I: Index>(state: &mut [u8], a: u32, disk: &mut [u8], flash: &[u8], addresses: &mut [u8], blocks: &mut [u8], block: &[u8], answer: &mut [u8]) -> Result<(), u32> {
+    let mut index = I::default();
+    let sizes = checked(&mut index, state, Some(a), disk, flash, addresses, blocks, Some(block.len()), answer, true)?;
+    let word = if index.find(blocks, &fingerprint(block)).is_some() { SAME } else { NEW };
     copy(block, 0, disk, a as usize, sizes.b);
-    if let Some(k) = lookups.held(&sizes, addresses, a) {
+    if let Some(k) = held(&sizes, addresses, a) {
         let old = *row(addresses, k);
         take_out(addresses, sizes.n, k);
         set_number(state, 4, sizes.n as u64 - 1);
-        if let Some(place) = lookups.cached(blocks, held_fingerprint(&old)) {
+        if let Some(place) = index.find(blocks, held_fingerprint(&old)) {
             if (0..sizes.n - 1).all(|k| held_fingerprint(row(addresses, k)) != held_fingerprint(&old)) {
                 set_free(blocks, place);
             }
@@ -218,13 +248,14 @@ pub fn write_invalidate<L: Lookups>(state: &mut [u8], a: u32, disk: &mut [u8], f
     done(state, answer, word, 0, 1)
 }
 
-pub fn flush<L: Lookups>(state: &mut [u8], disk: &mut [u8], flash: &[u8], addresses: &mut [u8], blocks: &[u8], answer: &mut [u8]) -> u32 {
-    let (sizes, lookups) = checked!(state, None, disk, flash, addresses, blocks, None, answer, true);
+pub fn flush<I: Index>(state: &mut [u8], disk: &mut [u8], flash: &[u8], addresses: &mut [u8], blocks: &[u8], answer: &mut [u8]) -> Result<(), u32> {
+    let mut index = I::default();
+    let sizes = checked(&mut index, state, None, disk, flash, addresses, blocks, None, answer, true)?;
     let mut primary_writes = 0;
     for k in 0..sizes.n {
         let held = *row(addresses, k);
         if is_dirty(&held) {
-            let place = lookups.cached(blocks, held_fingerprint(&held)).unwrap();
+            let place = index.find(blocks, held_fingerprint(&held)).unwrap();
             copy(flash, slot(row(blocks, place)), disk, address(&held) as usize, sizes.b);
             addresses[k * ROW + 36] = 0;
             primary_writes += 1;
@@ -233,9 +264,10 @@ pub fn flush<L: Lookups>(state: &mut [u8], disk: &mut [u8], flash: &[u8], addres
     done(state, answer, DONE, 0, primary_writes)
 }
 
-pub fn look<L: Lookups>(state: &[u8], a: u32, disk: &[u8], flash: &[u8], addresses: &[u8], blocks: &[u8], answer: &mut [u8]) -> u32 {
-    let (sizes, lookups) = checked!(state, Some(a), disk, flash, addresses, blocks, None, answer, false);
-    let place = lookups.held(&sizes, addresses, a).and_then(|k| lookups.cached(blocks, held_fingerprint(row(addresses, k))));
+pub fn look<I: Index>(state: &[u8], a: u32, disk: &[u8], flash: &[u8], addresses: &[u8], blocks: &[u8], answer: &mut [u8]) -> Result<(), u32> {
+    let mut index = I::default();
+    let sizes = checked(&mut index, state, Some(a), disk, flash, addresses, blocks, None, answer, false)?;
+    let place = held(&sizes, addresses, a).and_then(|k| index.find(blocks, held_fingerprint(row(addresses, k))));
     match place {
         Some(place) => fill(answer, CACHE, (slot(row(blocks, place)) * sizes.b) as u64, sizes.b as u64),
         None => fill(answer, DISK, a as u64 * sizes.b as u64, sizes.b as u64),

@@ -1,8 +1,9 @@
 //! The lent bytes: the state, the rows of both tables, and the moves of rows.
 use sha2::{Digest, Sha256};
 
-pub type Fingerprint = [u8; 32];
 pub const ROW: usize = 40;
+pub type Row = [u8; ROW];
+pub type Fingerprint = [u8; 32];
 
 pub fn fingerprint(block: &[u8]) -> Fingerprint {
     Sha256::digest(block).into()
@@ -35,20 +36,29 @@ pub fn sizes(state: &[u8]) -> Result<Sizes, u32> {
     Ok(Sizes { b: b as usize, p: p as usize, m: m as usize, d: d as usize, n: usize::try_from(n).unwrap_or(usize::MAX) })
 }
 
-pub fn row(table: &[u8], k: usize) -> &[u8; ROW] {
+pub fn row(table: &[u8], k: usize) -> &Row {
     table[k * ROW..(k + 1) * ROW].try_into().unwrap()
 }
 
+pub fn rows(table: &[u8]) -> impl Iterator<Item = &Row> {
+    table.chunks_exact(ROW).map(|row| row.try_into().unwrap())
+}
+
+/// Whether the last four bytes are a mark, 0 or 1, and three zeros.
+pub fn tail_ok(row: &Row) -> bool {
+    u32::from_le_bytes(row[36..].try_into().unwrap()) <= 1
+}
+
 // Address rows.
-pub fn address(row: &[u8; ROW]) -> u32 {
+pub fn address(row: &Row) -> u32 {
     u32::from_le_bytes(row[..4].try_into().unwrap())
 }
 
-pub fn held_fingerprint(row: &[u8; ROW]) -> &Fingerprint {
+pub fn held_fingerprint(row: &Row) -> &Fingerprint {
     row[4..36].try_into().unwrap()
 }
 
-pub fn is_dirty(row: &[u8; ROW]) -> bool {
+pub fn is_dirty(row: &Row) -> bool {
     row[36] == 1
 }
 
@@ -66,15 +76,15 @@ pub fn add(addresses: &mut [u8], n: usize, a: u32, g: &Fingerprint, dirty: bool)
 }
 
 // Block rows.
-pub fn cached_fingerprint(row: &[u8; ROW]) -> &Fingerprint {
+pub fn cached_fingerprint(row: &Row) -> &Fingerprint {
     row[..32].try_into().unwrap()
 }
 
-pub fn slot(row: &[u8; ROW]) -> usize {
+pub fn slot(row: &Row) -> usize {
     u32::from_le_bytes(row[32..36].try_into().unwrap()) as usize
 }
 
-pub fn is_used(row: &[u8; ROW]) -> bool {
+pub fn is_used(row: &Row) -> bool {
     row[36] == 1
 }
 

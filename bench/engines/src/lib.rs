@@ -1,40 +1,46 @@
 //! Unproved engines with the interface of the service, to measure it beside. Each works on lent bytes as the service does.
 //!
-//! `maps` makes the service's refusals with hash maps that it builds in each call; `pairs` makes them by comparing rows in pairs, without
-//! maps. `persistent` refuses nothing and keeps its maps from call to call: it shows what the refusals and the lent tables cost.
+//! `maps` and `array` make the service's refusals with an index of the block rows that they build in each call: a hash map of the standard library,
+//! and an array made by hand. `persistent` refuses nothing and keeps its maps from call to call: it shows what the refusals and the lent tables cost.
+pub mod array;
+mod checks;
 mod engine;
 mod layout;
 pub mod maps;
-pub mod pairs;
 pub mod persistent;
+
+/// The number of a refusal, 0 where there is none.
+fn number_of(result: Result<(), u32>) -> u32 {
+    result.err().unwrap_or(0)
+}
 
 /// The functions of an engine, as the service has them: all of its calls on slices, with the number of the refusal as result.
 macro_rules! calls {
-    ($lookups:ty) => {
+    ($index:ty) => {
         pub fn open(state: &mut [u8], disk: &[u8], flash: &[u8], addresses: &mut [u8], blocks: &mut [u8]) -> u32 {
-            crate::engine::open(state, disk, flash, addresses, blocks)
+            crate::number_of(crate::engine::open(state, disk, flash, addresses, blocks))
         }
         #[allow(clippy::too_many_arguments)]
         pub fn read(state: &mut [u8], address: u32, disk: &mut [u8], flash: &mut [u8], addresses: &mut [u8], blocks: &mut [u8], block: &mut [u8], answer: &mut [u8]) -> u32 {
-            crate::engine::read::<$lookups>(state, address, disk, flash, addresses, blocks, block, answer)
+            crate::number_of(crate::engine::read::<$index>(state, address, disk, flash, addresses, blocks, block, answer))
         }
         #[allow(clippy::too_many_arguments)]
         pub fn write_through(state: &mut [u8], address: u32, disk: &mut [u8], flash: &mut [u8], addresses: &mut [u8], blocks: &mut [u8], block: &[u8], answer: &mut [u8]) -> u32 {
-            crate::engine::write::<$lookups>(state, address, disk, flash, addresses, blocks, block, answer, false)
+            crate::number_of(crate::engine::write::<$index>(state, address, disk, flash, addresses, blocks, block, answer, false))
         }
         #[allow(clippy::too_many_arguments)]
         pub fn write_back(state: &mut [u8], address: u32, disk: &mut [u8], flash: &mut [u8], addresses: &mut [u8], blocks: &mut [u8], block: &[u8], answer: &mut [u8]) -> u32 {
-            crate::engine::write::<$lookups>(state, address, disk, flash, addresses, blocks, block, answer, true)
+            crate::number_of(crate::engine::write::<$index>(state, address, disk, flash, addresses, blocks, block, answer, true))
         }
         #[allow(clippy::too_many_arguments)]
         pub fn write_invalidate(state: &mut [u8], address: u32, disk: &mut [u8], flash: &[u8], addresses: &mut [u8], blocks: &mut [u8], block: &[u8], answer: &mut [u8]) -> u32 {
-            crate::engine::write_invalidate::<$lookups>(state, address, disk, flash, addresses, blocks, block, answer)
+            crate::number_of(crate::engine::write_invalidate::<$index>(state, address, disk, flash, addresses, blocks, block, answer))
         }
         pub fn flush(state: &mut [u8], disk: &mut [u8], flash: &[u8], addresses: &mut [u8], blocks: &[u8], answer: &mut [u8]) -> u32 {
-            crate::engine::flush::<$lookups>(state, disk, flash, addresses, blocks, answer)
+            crate::number_of(crate::engine::flush::<$index>(state, disk, flash, addresses, blocks, answer))
         }
         pub fn look(state: &[u8], address: u32, disk: &[u8], flash: &[u8], addresses: &[u8], blocks: &[u8], answer: &mut [u8]) -> u32 {
-            crate::engine::look::<$lookups>(state, address, disk, flash, addresses, blocks, answer)
+            crate::number_of(crate::engine::look::<$index>(state, address, disk, flash, addresses, blocks, answer))
         }
     };
 }

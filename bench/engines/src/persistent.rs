@@ -1,6 +1,7 @@
 //! Refuses nothing and keeps its maps from call to call. The lent tables are read once, by `load`, and written by `store` alone; the state is
 //! not looked at. Disk, flash, block and answer are used as by the service.
 use crate::layout::*;
+use crate::maps::ByFingerprint;
 use std::collections::{BTreeMap, HashMap};
 
 struct Held {
@@ -23,10 +24,10 @@ pub struct Persistent {
     addresses: BTreeMap<u64, u32>,
     /// The first free row comes last.
     free: Vec<u32>,
-    cached: HashMap<Fingerprint, Cached>,
+    cached: ByFingerprint<Cached>,
     fingerprints: BTreeMap<u64, Fingerprint>,
     /// The addresses that have a fingerprint, where there are any.
-    users: HashMap<Fingerprint, Vec<u32>>,
+    users: ByFingerprint<Vec<u32>>,
     /// Cached fingerprints that no address has, by age.
     unwanted: BTreeMap<u64, Fingerprint>,
     rows_without_block: usize,

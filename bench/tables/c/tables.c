@@ -79,24 +79,6 @@ size_t F(c_find_address)(const uint8_t *t, size_t length, size_t n, uint32_t a)
     return NONE;
 }
 
-size_t F(c_next_dirty)(const uint8_t *t, size_t length, size_t n, size_t from)
-{
-    (void)length;
-    for (size_t i = from; i < n; i++)
-        if (t[i * 40 + 36] == 1)
-            return i;
-    return NONE;
-}
-
-size_t F(c_next_dirty_of)(const uint8_t *t, size_t length, size_t n, size_t from, const uint8_t *g, size_t glength)
-{
-    (void)length, (void)glength;
-    for (size_t i = from; i < n; i++)
-        if (t[i * 40 + 36] == 1 && !memcmp(t + i * 40 + 4, g, 32))
-            return i;
-    return NONE;
-}
-
 uint32_t F(c_refused)(const uint8_t *a, size_t alength, size_t m, size_t n, size_t p, const uint8_t *b, size_t blength, size_t d)
 {
     if (F(c_six)(a, alength, m, n, p))

@@ -10,7 +10,8 @@ use Rattle.paper.specs.Lent.{Lent, Ask, call}
 use Rattle.paper.specs.RowBytes.{Bytes}
 use Rattle.paper.specs.CallLaws.{look-keeps}
 use Rattle.parts.specs.declared.BoxRecord.{BoxRecord}
-use Rattle.refusals.specs.Given.{numbersOf, lent}
+use Rattle.parts.specs.Rep.{numbersOf}
+use Rattle.refusals.specs.Given.{lent}
 use Rattle.policy.specs.Contract.{answerOf, Told, told, called}
 use Rattle.policy.specs.declared.Answer.{Answer}
 use Rattle.policy.specs.declared.calls.Outcome.{Outcome}

@@ -5,11 +5,12 @@ use mathlib.Core.List.{List}
 use Prim.Native.Nat.{ℕ, _*_}
 use lib.ListN.{length, replicate}
 use borrow.Author.Tests.{eq-eqb}
-use Rattle.paper.specs.Cache.{Counters}
-use Rattle.paper.specs.Lent.{Numbers, Lent, unfit, wrongBuffers, fresh}
+use Rattle.paper.specs.Cache.{Numbers, Counters}
+use Rattle.paper.specs.Lent.{Lent, unfit, wrongBuffers, fresh}
 use Rattle.paper.specs.RefusalLaws.{exactly-opening, opened-is}
 use Rattle.parts.specs.declared.BoxRecord.{BoxRecord}
-use Rattle.refusals.specs.Given.{numbersOf, countersOf, lent}
+use Rattle.parts.specs.Rep.{numbersOf}
+use Rattle.refusals.specs.Given.{countersOf, lent}
 use Rattle.open.specs.Contract.{Opened, begun, opens}
 use Rattle.open.specs.declared.Begun.{Begun}
 use Rattle.answers.specs.Replay.{startDisk, started}

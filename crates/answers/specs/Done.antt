@@ -5,7 +5,7 @@ use Rattle.parts.specs.declared.BoxRecord.{BoxRecord}
 use Rattle.refusals.specs.Given.{countersOf, lent}
 use Rattle.policy.specs.Contract.{answerOf}
 use Rattle.policy.specs.declared.calls.Outcome.{Outcome}
-use Rattle.paper.specs.Lent.{Numbers}
+use Rattle.paper.specs.Cache.{Numbers}
 use Rattle.answers.specs.Replay.{Done}
 
 -- what a call of the code answers, and what is lent after it

@@ -5,8 +5,8 @@ use mathlib.Core.Option.{Option, none, some}
 use Prim.Native.Nat.{ℕ, zero, suc, _+_, _*_, _%_, _^_}
 use lib.Dec.{eqb, ltb}
 use lib.ListN.{replicate}
-use Rattle.paper.specs.Cache.{noCounts}
-use Rattle.paper.specs.Lent.{Numbers, Lent, Ask, Answer, refused, unfit, fresh, call}
+use Rattle.paper.specs.Cache.{Numbers, noCounts}
+use Rattle.paper.specs.Lent.{Lent, Ask, Answer, refused, unfit, fresh, call}
 use Rattle.lines.specs.Lines.{lines, parsed}
 use Rattle.lines.specs.declared.Command.{Command}
 use Rattle.lines.specs.declared.Command.the-variants.{Box, Read, Look, Flush, Through, Back, Invalidate, Unformed}

@@ -3,7 +3,7 @@ use lines::Command;
 use parts::BoxRecord;
 ghost use mathlib.Core.Path.{_≡_};
 ghost use Prim.Native.Nat.{_≤_};
-ghost use Rattle.refusals.specs.Given.{numbersOf};
+ghost use Rattle.parts.specs.Rep.{numbersOf};
 ghost use Rattle.answers.specs.Replay.{boxRefusal, boxNumbers, large};
 ghost use Rattle.answers.specs.Done.{recordOf};
 

@@ -4,13 +4,16 @@ use lines::Command;
 use parts::BoxRecord;
 use policy::Answer;
 use policy::calls::Outcome;
+use serve::Write;
 use tables::SourceAddress;
 ghost use mathlib.Core.Path.{_≡_};
 ghost use mathlib.Core.Option.{Option};
 ghost use Prim.Native.Nat.{_≤_};
 ghost use lib.ListN.{replicate};
 ghost use Rattle.paper.specs.Lent.{Ask};
-ghost use Rattle.refusals.specs.Given.{numbersOf, countersOf, lent};
+ghost use Rattle.parts.specs.Rep.{numbersOf};
+ghost use Rattle.refusals.specs.Given.{countersOf, lent};
+ghost use Rattle.policy.specs.Contract.{askOf};
 ghost use Rattle.policy.specs.declared.Answer.the-variants.{Refused};
 ghost use Rattle.answers.specs.Replay.{asked, doing};
 ghost use Rattle.answers.specs.Done.{doneOf};
@@ -28,15 +31,17 @@ fn read(
     requires { ⌜ b .size ≤ 4096 ⌝ }
     ensures { λ r. ⌜ numbersOf (r .box_record) ≡ numbersOf b ⌝ }
     ensures { λ r. ⌜ doneOf r (now (disk .exit)) (now (flash .exit)) (now (addresses .exit)) (now (blocks .exit))
-        ≡ doing (numbersOf b) (lent b (now (disk .entry)) (now (flash .entry)) (now (addresses .entry)) (now (blocks .entry)) (countersOf c)) (Option.some (Ask.read (a .0) (replicate (b .size) 0))) ⌝ }
+        ≡ doing (numbersOf b) (lent b (now (disk .entry)) (now (flash .entry)) (now (addresses .entry)) (now (blocks .entry)) (countersOf c))
+        (Option.some (Ask.read (a .0) (replicate (b .size) 0))) ⌝ }
 {
     let mut block = [0u8; 4096];
     let size = b.size;
     policy::calls::read(b, a, disk, flash, addresses, blocks, c, &mut block[0..size])
 }
 
-// Writes a block filled with `x` through.
-fn through(
+// Writes a block filled with `x`, by the kind of the write.
+fn write(
+    kind: Write,
     b: BoxRecord,
     a: SourceAddress,
     x: u8,
@@ -49,53 +54,22 @@ fn through(
     requires { ⌜ b .size ≤ 4096 ⌝ }
     ensures { λ r. ⌜ numbersOf (r .box_record) ≡ numbersOf b ⌝ }
     ensures { λ r. ⌜ doneOf r (now (disk .exit)) (now (flash .exit)) (now (addresses .exit)) (now (blocks .exit))
-        ≡ doing (numbersOf b) (lent b (now (disk .entry)) (now (flash .entry)) (now (addresses .entry)) (now (blocks .entry)) (countersOf c)) (Option.some (Ask.through (a .0) (replicate (b .size) x))) ⌝ }
+        ≡ doing (numbersOf b) (lent b (now (disk .entry)) (now (flash .entry)) (now (addresses .entry)) (now (blocks .entry)) (countersOf c))
+        (Option.some (askOf kind (a .0) (replicate (b .size) x))) ⌝ }
 {
     let block = [x; 4096];
     let size = b.size;
-    policy::calls::write_through(b, a, disk, flash, addresses, blocks, c, &block[0..size])
-}
-
-// Writes a block filled with `x` back.
-fn back(
-    b: BoxRecord,
-    a: SourceAddress,
-    x: u8,
-    disk: &mut [u8],
-    flash: &mut [u8],
-    addresses: &mut [u8],
-    blocks: &mut [u8],
-    c: Counters,
-) -> Outcome
-    requires { ⌜ b .size ≤ 4096 ⌝ }
-    ensures { λ r. ⌜ numbersOf (r .box_record) ≡ numbersOf b ⌝ }
-    ensures { λ r. ⌜ doneOf r (now (disk .exit)) (now (flash .exit)) (now (addresses .exit)) (now (blocks .exit))
-        ≡ doing (numbersOf b) (lent b (now (disk .entry)) (now (flash .entry)) (now (addresses .entry)) (now (blocks .entry)) (countersOf c)) (Option.some (Ask.back (a .0) (replicate (b .size) x))) ⌝ }
-{
-    let block = [x; 4096];
-    let size = b.size;
-    policy::calls::write_back(b, a, disk, flash, addresses, blocks, c, &block[0..size])
-}
-
-// Writes a block filled with `x` and invalidates its address.
-fn invalidate(
-    b: BoxRecord,
-    a: SourceAddress,
-    x: u8,
-    disk: &mut [u8],
-    flash: &[u8],
-    addresses: &mut [u8],
-    blocks: &mut [u8],
-    c: Counters,
-) -> Outcome
-    requires { ⌜ b .size ≤ 4096 ⌝ }
-    ensures { λ r. ⌜ numbersOf (r .box_record) ≡ numbersOf b ⌝ }
-    ensures { λ r. ⌜ doneOf r (now (disk .exit)) (now (flash .entry)) (now (addresses .exit)) (now (blocks .exit))
-        ≡ doing (numbersOf b) (lent b (now (disk .entry)) (now (flash .entry)) (now (addresses .entry)) (now (blocks .entry)) (countersOf c)) (Option.some (Ask.invalidate (a .0) (replicate (b .size) x))) ⌝ }
-{
-    let block = [x; 4096];
-    let size = b.size;
-    policy::calls::write_invalidate(b, a, disk, flash, addresses, blocks, c, &block[0..size])
+    policy::calls::write(
+        kind,
+        b,
+        a,
+        disk,
+        flash,
+        addresses,
+        blocks,
+        c,
+        &block[0..size],
+    )
 }
 
 // Looks at an address; nothing lent changes.
@@ -110,7 +84,8 @@ fn look(
 ) -> Outcome
     ensures { λ r. ⌜ numbersOf (r .box_record) ≡ numbersOf b ⌝ }
     ensures { λ r. ⌜ doneOf r (now (disk .entry)) (now (flash .entry)) (now (addresses .entry)) (now (blocks .entry))
-        ≡ doing (numbersOf b) (lent b (now (disk .entry)) (now (flash .entry)) (now (addresses .entry)) (now (blocks .entry)) (countersOf c)) (Option.some (Ask.look (a .0))) ⌝ }
+        ≡ doing (numbersOf b) (lent b (now (disk .entry)) (now (flash .entry)) (now (addresses .entry)) (now (blocks .entry)) (countersOf c))
+        (Option.some (Ask.look (a .0))) ⌝ }
 {
     let answer = look::look(b, a, disk, flash, addresses, blocks);
     Outcome {
@@ -144,13 +119,15 @@ pub fn call(
     requires { ⌜ b .size ≤ 4096 ⌝ }
     ensures { λ r. ⌜ numbersOf (r .box_record) ≡ numbersOf b ⌝ }
     ensures { λ r. ⌜ doneOf r (now (disk .exit)) (now (flash .exit)) (now (addresses .exit)) (now (blocks .exit))
-        ≡ doing (numbersOf b) (lent b (now (disk .entry)) (now (flash .entry)) (now (addresses .entry)) (now (blocks .entry)) (countersOf c)) (asked (b .size) line) ⌝ }
+        ≡ doing (numbersOf b) (lent b (now (disk .entry)) (now (flash .entry)) (now (addresses .entry)) (now (blocks .entry)) (countersOf c))
+        (asked (b .size) line) ⌝ }
 {
     match line {
         Command::Read(a) => read(b, SourceAddress(a), disk, flash, addresses, blocks, c),
         Command::Look(a) => look(b, SourceAddress(a), disk, flash, addresses, blocks, c),
         Command::Flush => policy::calls::flush(b, disk, flash, addresses, blocks, c),
-        Command::Through(a, x) => through(
+        Command::Through(a, x) => write(
+            Write::Through,
             b,
             SourceAddress(a),
             x,
@@ -160,8 +137,19 @@ pub fn call(
             blocks,
             c,
         ),
-        Command::Back(a, x) => back(b, SourceAddress(a), x, disk, flash, addresses, blocks, c),
-        Command::Invalidate(a, x) => invalidate(
+        Command::Back(a, x) => write(
+            Write::Back,
+            b,
+            SourceAddress(a),
+            x,
+            disk,
+            flash,
+            addresses,
+            blocks,
+            c,
+        ),
+        Command::Invalidate(a, x) => write(
+            Write::Invalidate,
             b,
             SourceAddress(a),
             x,

@@ -7,7 +7,8 @@ ghost use mathlib.Core.Bool.{false};
 ghost use Prim.Native.Nat.{_*_, _≤_};
 ghost use lib.ListN.{length, replicate};
 ghost use Rattle.paper.specs.Lent.{unfit};
-ghost use Rattle.refusals.specs.Given.{numbersOf, countersOf, lent};
+ghost use Rattle.parts.specs.Rep.{numbersOf};
+ghost use Rattle.refusals.specs.Given.{countersOf, lent};
 ghost use Rattle.answers.specs.Replay.{startDisk, started};
 ghost use Rattle.tables.specs.Rows.{tableBytes};
 
@@ -45,9 +46,11 @@ pub fn start(
     blocks: &mut [u8],
 ) -> Begun
     requires { ⌜ (b .size ≤ 4096) × (b .blocks ≤ 256) × (unfit (numbersOf b) ≡ false) ⌝ }
-    requires { ⌜ (length (now disk) ≡ b .blocks * b .size) × (length (now flash) ≡ b .slots * b .size) × (length (now addresses) ≡ tableBytes (b .rows)) × (length (now blocks) ≡ tableBytes (b .slots)) ⌝ }
+    requires { ⌜ (length (now disk) ≡ b .blocks * b .size) × (length (now flash) ≡ b .slots * b .size) × (length (now addresses) ≡ tableBytes (b .rows))
+        × (length (now blocks) ≡ tableBytes (b .slots)) ⌝ }
     ensures { λ r. ⌜ numbersOf (r .box_record) ≡ numbersOf b ⌝ }
-    ensures { λ r. ⌜ lent (r .box_record) (now (disk .exit)) (now (flash .exit)) (now (addresses .exit)) (now (blocks .exit)) (countersOf (r .counters)) ≡ started (numbersOf b) ⌝ }
+    ensures { λ r. ⌜ lent (r .box_record) (now (disk .exit)) (now (flash .exit)) (now (addresses .exit)) (now (blocks .exit)) (countersOf (r .counters))
+        ≡ started (numbersOf b) ⌝ }
 {
     fill_disk(disk, b.size, b.blocks);
     fill(flash, 0);

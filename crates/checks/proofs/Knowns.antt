@@ -1,61 +1,40 @@
 -- Laws of the block rows of address rows. Assumes nothing.
 use mathlib.Core.Path.{_≡_, refl, sym, ap, _∙_}
 use mathlib.Core.Bool.{Bool, true, false, not, _&&_, _||_}
-use Prim.Native.Nat.{ℕ, zero, suc, _+_, _-_, _≤_, _<_}
-use mathlib.Core.List.{List, [], _∷_, _++_, map, map-append}
+use Prim.Native.Nat.{ℕ, zero, suc, _+_, _≤_, _<_}
+use mathlib.Core.List.{List, [], _∷_, map}
 use native.Mathlib.Omega.{arith}
 use native.Mathlib.Nat.{add-zero, zero-add, not-suc-le-zero, le-of-suc-le-suc}
-use native.Mathlib.Numerals.{add-one}
 use lib.Dec.{eqb}
-use lib.ListN.{length, getD, set, take, drop, length-drop}
-use lib.Seq.{take-suc-set, take-take, take-paste, paste}
+use lib.ListN.{length, getD}
 use borrow.Author.Tests.{eq-eqb, ne-eqb}
-use Rattle.tables.specs.Rows.{rows, rowAt, removeAt}
+use Rattle.tables.specs.Rows.{rows, rowAt}
 use Rattle.tables.specs.Find.{findFrom, pick, every, caches, hasFingerprint, same, absent, isUsed}
 use Rattle.tables.specs.Unsound.{elem}
 use Rattle.tables.specs.Sound.{mark}
-use Rattle.tables.specs.Index.{code, placeIn, Places, cachedIn, unknownIn, unique}
+use Rattle.tables.specs.Index.{code, placeIn, unknownIn, unique}
 use Rattle.tables.specs.declared.Found.{Found}
 use Rattle.tables.specs.declared.Found.the-variants.{At, Nothing}
-use Rattle.tables.specs.PlaceLaws.{place-at}
 use Rattle.tables.specs.FindLaws.{found-at, same-refl}
-use Rattle.tables.specs.RowLaws.{rows-length, rows-at, rows-append, drop-take}
+use Rattle.tables.specs.RowLaws.{rows-length, rows-at}
 use Rattle.tables.specs.SoundLaws.{Marks, same-true, not-true-false, and-left, and-right}
 use Rattle.tables.specs.Records.{readAddress, readBlock}
 
 clash : {A : Type 0} → true ≡ false → A
 clash e = let z : _≡_ {A = ℕ} 0 1 = cc in absurd (omega arith)
 
--- a number from a search: at most 256, and 256 for none
+-- a number from a search: at most 256
 module _ (f : Found) (b : (i : ℕ) → f ≡ At i → i < 256) where
-  code-is : absent f ≡ eqb (code f) 256
-  code-is = elim f as (λ q. ((i : ℕ) → q ≡ At i → i < 256) → absent q ≡ eqb (code q) 256) [ At i ↦ λ h. (let l = h i refl in sym (ne-eqb i 256 (λ e. omega arith))) | Nothing ↦ λ h. refl ] b
-
   code-below : code f < 257
   code-below = elim f as (λ q. ((i : ℕ) → q ≡ At i → i < 256) → code q < 257) [ At i ↦ λ h. (let l = h i refl in omega arith) | Nothing ↦ λ h. omega arith ] b
 
 module _ (rs : List (List ℕ)) (few : length rs ≤ 256) where
-  pub found-few : (p : List ℕ → Bool) (i : ℕ) → findFrom p 0 rs ≡ At i → i < 256
+  found-few : (p : List ℕ → Bool) (i : ℕ) → findFrom p 0 rs ≡ At i → i < 256
   found-few p i e = omega (arith, found-at p rs [] i e .below)
 
-  -- cached or not, by the block row's number
-  pub cached-is : (r : List ℕ) → cachedIn rs r ≡ not (eqb (placeIn rs r) 256)
-  unfolding placeIn
-  cached-is r = ap not (code-is (findFrom (caches (readAddress r .fingerprint)) 0 rs) (found-few (caches (readAddress r .fingerprint))))
-
-  pub block-below : (r : List ℕ) → placeIn rs r < 257
+  block-below : (r : List ℕ) → placeIn rs r < 257
   unfolding placeIn
   block-below r = code-below (findFrom (caches (readAddress r .fingerprint)) 0 rs) (found-few (caches (readAddress r .fingerprint)))
-
--- one row more
-pub blocks-more : (rs : List (List ℕ)) (a out : List ℕ) (k v : ℕ) → k < length out → v ≡ placeIn rs (rowAt a k) → Places rs (rows k a) (take k out) → Places rs (rows (k + 1) a) (take (k + 1) (set out k v))
-unfolding rows
-blocks-more rs a out k v h e b =
-    ap (λ (j : ℕ). take j (set out k v)) (add-one k)
-    ∙ take-suc-set out k v h
-    ∙ ap (λ (l : List ℕ). l ++ (v ∷ [])) b
-    ∙ ap (λ (w : ℕ). map (placeIn rs) (rows k a) ++ (w ∷ [])) e
-    ∙ sym (ap (map (placeIn rs)) (rows-append k 1 a) ∙ map-append (placeIn rs) (rows k a) (rowAt a k ∷ []))
 
 -- where nothing is found, the test holds of no element
 absent-at : {A : Type 0} (p : A → Bool) (k : ℕ) (xs : List A) (j : ℕ) (z : A) → absent (findFrom p k xs) ≡ true → j < length xs → p (getD xs j z) ≡ false
@@ -120,34 +99,17 @@ mark-not true = refl
 mark-not false = refl
 
 -- a used row's byte is 0 if no address row has its fingerprint
-pub unmarked-is : (d : ℕ) (t : List ℕ) (n : ℕ) (a out known : List ℕ) → d ≤ 256 → d ≤ length known → every unique (rows d t) ≡ true → Places (rows d t) (rows n a) (take n out) → Marks known (take n out)
+pub unmarked-is : (d : ℕ) (t : List ℕ) (n : ℕ) (a known : List ℕ) → d ≤ 256 → d ≤ length known → every unique (rows d t) ≡ true → Marks known (map (placeIn (rows d t)) (rows n a))
     → (k : ℕ) → k < d → isUsed (rowAt t k) && eqb (getD known k 0) 0 ≡ unknownIn (rows n a) (rowAt t k)
-unmarked-is d t n a out known few l u b m k h =
+unmarked-is d t n a known few l u m k h =
     elim (isUsed (rowAt t k)) as (λ q. isUsed (rowAt t k) ≡ q → q && eqb (getD known k 0) 0 ≡ q && absent (findFrom (hasFingerprint (readBlock (rowAt t k) .fingerprint)) 0 (rows n a))) [
       | true ↦ λ o.
           (let r = rows-at d t k h in
           let i : getD known k 0 ≡ mark (not (absent (findFrom (hasFingerprint (readBlock (getD (rows d t) k []) .fingerprint)) 0 (rows n a)))) =
-          m k (omega arith) ∙ ap (λ (s : List ℕ). mark (elem k s)) b ∙ ap mark (elem-held (rows d t) u (rw rows-length few) k (rw rows-length h) (rw r o) 0 (rows n a)) in
+          m k (omega arith) ∙ ap mark (elem-held (rows d t) u (rw rows-length few) k (rw rows-length h) (rw r o) 0 (rows n a)) in
           ap (λ (x : ℕ). eqb x 0) i ∙ mark-not (absent (findFrom (hasFingerprint (readBlock (getD (rows d t) k []) .fingerprint)) 0 (rows n a))) ∙ ap (λ (s : List ℕ). absent (findFrom (hasFingerprint (readBlock s .fingerprint)) 0 (rows n a))) r)
       | false ↦ λ o. refl
     ] refl
 
--- cached or not, by the number of row k
-pub cached-at : (d : ℕ) (t : List ℕ) (n : ℕ) (a out : List ℕ) → d ≤ 256 → Places (rows d t) (rows n a) (take n out) → (k : ℕ) → k < n → cachedIn (rows d t) (rowAt a k) ≡ not (eqb (getD out k 0) 256)
-cached-at d t n a out few b k h = cached-is (rows d t) (rw rows-length few) (rowAt a k) ∙ ap (λ (x : ℕ). not (eqb x 256)) (sym (place-at (rows d t) n a out b k h))
-
-pub known-below : (d : ℕ) (t : List ℕ) (n : ℕ) (a out : List ℕ) → d ≤ 256 → Places (rows d t) (rows n a) (take n out) → (k : ℕ) → k < n → getD out k 0 < 257
-known-below d t n a out few b k h = rw (place-at (rows d t) n a out b k h) (block-below (rows d t) (rw rows-length few) (rowAt a k))
-
--- an array with a run moved down by one
-pub forgot : (out : List ℕ) (n i : ℕ) → i < n → n ≤ length out → take (n - 1) (paste out i (drop (i + 1) out) (n - 1 - i)) ≡ removeAt (take n out) i
-forgot out n i h l =
-    let e : n - 1 ≡ i + (n - 1 - i) = omega arith in
-    let f : n ≡ suc i + (n - 1 - i) = omega arith in
-    let g : i ≤ length out = omega arith in
-    let b : n - 1 - i ≤ length (drop (i + 1) out) = simp length-drop (omega arith) in
-    let o : i ≤ n = omega arith in
-    ap (λ (k : ℕ). take k (paste out i (drop (i + 1) out) (n - 1 - i))) e
-    ∙ take-paste out i (drop (i + 1) out) (n - 1 - i) g b
-    ∙ ap (λ (k : ℕ). take i out ++ take (n - 1 - i) (drop k out)) (add-one i)
-    ∙ sym (ap (λ (s : List ℕ). s ++ drop (suc i) (take n out)) (take-take i n out o) ∙ ap (λ (s : List ℕ). take i out ++ s) (ap (λ (k : ℕ). drop (suc i) (take k out)) f ∙ drop-take (suc i) (n - 1 - i) out))
+pub place-below : (d : ℕ) (t : List ℕ) (r : List ℕ) → d ≤ 256 → placeIn (rows d t) r < 257
+place-below d t r few = block-below (rows d t) (rw rows-length few) r

@@ -5,17 +5,18 @@ use tables::distinct;
 use tables::row;
 ghost use mathlib.Core.Path.{_≡_};
 ghost use mathlib.Core.Bool.{true, false, not, cond, _&&_, _||_};
-ghost use Prim.Native.Nat.{ℕ, suc, _+_, _<_, _≤_};
-ghost use lib.ListN.{length, take, drop, getD};
-ghost use Rattle.tables.specs.Rows.{rows, rowAt, tableBytes};
+ghost use mathlib.Core.List.{map};
+ghost use Prim.Native.Nat.{ℕ, suc, _<_, _≤_};
+ghost use lib.ListN.{length, drop};
+ghost use Rattle.tables.specs.Rows.{rows, rowAt, tableBytes, HasRow, HasRows};
 ghost use Rattle.tables.specs.Find.{all, every, isUsed};
 ghost use Rattle.tables.specs.Unsound.{addressesUnsound, blocksUnsound, dirtyUncached};
-ghost use Rattle.tables.specs.Sound.{addressOk, isZero, soundAddresses, addressesFit, blocksFit};
-ghost use Rattle.tables.specs.Index.{Index, Places, rowOk};
+ghost use Rattle.tables.specs.Sound.{addressOk, distinct, rowAddress, zeroRow, soundAddresses, addressesFit, blocksFit};
+ghost use Rattle.tables.specs.Index.{headsLength, Blank, Linked, Indexed, rowOk};
 
 // Whether row `k` is a held address row's, with an address below `p`.
 pub(crate) fn address_ok(t: &[u8], k: usize, p: u32) -> bool
-    requires { ⌜ tableBytes (k + 1) ≤ length (now t) ⌝ }
+    requires { ⌜ HasRow (now t) k ⌝ }
     ensures { λ r. ⌜ r ≡ addressOk p (rowAt (now (t .entry)) k) ⌝ }
 {
     let a = row::address_at(t, k);
@@ -40,18 +41,31 @@ pub(crate) fn addresses_ok(t: &[u8], n: usize, p: u32) -> bool
     true
 }
 
-// Whether all bytes are zero.
-pub(crate) fn all_zero(t: &[u8]) -> bool
-    ensures { λ r. ⌜ r ≡ all isZero (now (t .entry)) ⌝ }
+// Whether the rows from row `n` on, of `m`, are zero.
+pub(crate) fn rows_zero(t: &[u8], n: usize, m: usize) -> bool
+    requires { ⌜ HasRows (now t) m ⌝ }
+    ensures { λ r. ⌜ r ≡ all zeroRow (drop n (rows m (now (t .entry)))) ⌝ }
 {
-    let mut k = 0;
-    while k < t.len() {
-        if t[k] != 0 {
+    let mut k = n;
+    while k < m {
+        if !row::is_zero(t, k) {
             return false;
         }
         k += 1;
     }
     true
+}
+
+// Whether the addresses of the first `n` rows, each below `p`, are all different.
+pub(crate) fn distinct_below(t: &[u8], n: usize, p: u32) -> bool
+    requires { ⌜ HasRows (now t) n × (p ≤ 65536) ⌝ }
+    requires { ⌜ ((k : ℕ) → k < n → rowAddress (rowAt (now t) k) < p) ⌝ }
+    ensures { λ r. ⌜ r ≡ distinct (map rowAddress (rows n (now (t .entry)))) ⌝ }
+{
+    if p <= 4096 {
+        return distinct::few_distinct(t, n);
+    }
+    distinct::addresses_distinct(t, n)
 }
 
 // Whether the address table is sound: `n` rows of `m` held, over `p` disk blocks.
@@ -65,15 +79,15 @@ pub(crate) fn addresses_sound(t: &[u8], m: usize, n: usize, p: u32) -> bool
     if !addresses_ok(t, n, p) {
         return false;
     }
-    if !distinct::addresses_distinct(t, n) {
+    if !distinct_below(t, n, p) {
         return false;
     }
-    all_zero(row::behind(t, n))
+    rows_zero(t, n, m)
 }
 
 // Whether row `k` and the rows behind it, of which `used` tells, are all used.
 pub(crate) fn used_from(t: &[u8], k: usize, used: bool) -> bool
-    requires { ⌜ tableBytes (k + 1) ≤ length (now t) ⌝ }
+    requires { ⌜ HasRow (now t) k ⌝ }
     ensures { λ r. ⌜ r ≡ isUsed (rowAt (now (t .entry)) k) && used ⌝ }
 {
     if row::is_used(t, k) {
@@ -97,7 +111,7 @@ pub(crate) fn row_ok(t: &[u8], d: usize, k: usize, used: bool) -> bool
         return false;
     }
     if !row::is_used(t, k) {
-        return all_zero(row::block_fingerprint(t, k));
+        return row::no_fingerprint(t, k);
     }
     used
 }
@@ -119,13 +133,13 @@ pub(crate) fn rows_ok(t: &[u8], d: usize) -> bool
     true
 }
 
-// Whether the block table of `d` rows is sound. If so, `heads`, 256 everywhere at first, is its index.
+// Whether the block table of `d` rows is sound. If so, `heads`, 0 everywhere at first, is its index.
 pub(crate) fn blocks_sound(t: &[u8], d: usize, heads: &mut [u16]) -> bool
-    requires { ⌜ (length (now t) ≡ tableBytes d) × ((d ≤ 256) × (length (now heads) ≡ 16384)) ⌝ }
-    requires { ⌜ ((x : ℕ) → x < length (now heads) → getD (now heads) x 0 ≡ 256) ⌝ }
+    requires { ⌜ (length (now t) ≡ tableBytes d) × (d ≤ 256) ⌝ }
+    requires { ⌜ Blank (now heads) ⌝ }
     ensures { λ r. ⌜ r ≡ not (blocksUnsound d (now (t .entry))) ⌝ }
-    ensures { λ r. ⌜ (r ≡ true → Index 0 (now (heads .exit)) (rows d (now (t .entry)))) ⌝ }
-    ensures { λ r. ⌜ length (now (heads .exit)) ≡ 16384 ⌝ }
+    ensures { λ r. ⌜ (r ≡ true → Linked 0 (now (heads .exit)) (rows d (now (t .entry)))) ⌝ }
+    ensures { λ r. ⌜ length (now (heads .exit)) ≡ headsLength ⌝ }
 {
     if !rows_ok(t, d) {
         return false;
@@ -152,13 +166,12 @@ pub fn addresses_unsound(t: &[u8], m: usize, n: usize, p: usize) -> bool
     !addresses_sound(t, m, n, p as u32)
 }
 
-// Refusal 7, of any bytes and numbers: whether the block table of `d` rows is unsound. If not, `heads`, 256 everywhere at first, is its index.
+// Refusal 7, of any bytes and numbers: whether the block table of `d` rows is unsound. If not, `heads`, 0 everywhere at first, is its index.
 pub fn blocks_unsound(t: &[u8], d: usize, heads: &mut [u16]) -> bool
-    requires { ⌜ length (now heads) ≡ 16384 ⌝ }
-    requires { ⌜ ((x : ℕ) → x < length (now heads) → getD (now heads) x 0 ≡ 256) ⌝ }
+    requires { ⌜ Blank (now heads) ⌝ }
     ensures { λ r. ⌜ r ≡ not (blocksFit d (now (t .entry))) || blocksUnsound d (now (t .entry)) ⌝ }
-    ensures { λ r. ⌜ (r ≡ false → Index 0 (now (heads .exit)) (rows d (now (t .entry)))) ⌝ }
-    ensures { λ r. ⌜ length (now (heads .exit)) ≡ 16384 ⌝ }
+    ensures { λ r. ⌜ (r ≡ false → Linked 0 (now (heads .exit)) (rows d (now (t .entry)))) ⌝ }
+    ensures { λ r. ⌜ length (now (heads .exit)) ≡ headsLength ⌝ }
 {
     if 256 < d {
         return true;
@@ -169,7 +182,7 @@ pub fn blocks_unsound(t: &[u8], d: usize, heads: &mut [u16]) -> bool
     !blocks_sound(t, d, heads)
 }
 
-// The first of 6, 7 and 8 that applies, of any bytes and numbers, 0 where none does: `places` then has the place of each held row's block row.
+// The first of 6, 7 and 8 that applies, of any bytes and numbers, 0 where none does: `heads`, 0 everywhere at first, is then the block table's index.
 pub fn tables_refused(
     addresses: &[u8],
     m: usize,
@@ -177,22 +190,22 @@ pub fn tables_refused(
     p: usize,
     blocks: &[u8],
     d: usize,
-    places: &mut [u16],
+    heads: &mut [u16],
 ) -> u32
-    requires { ⌜ length (now places) ≡ 1024 ⌝ }
-    ensures { λ r. ⌜ r ≡ cond (not (addressesFit p m (now (addresses .entry))) || addressesUnsound p m n (now (addresses .entry))) 6 (cond (not (blocksFit d (now (blocks .entry))) || blocksUnsound d (now (blocks .entry))) 7 (cond (dirtyUncached n d (now (addresses .entry)) (now (blocks .entry))) 8 0)) ⌝ }
-    ensures { λ r. ⌜ (r ≡ 0 → Places (rows d (now (blocks .entry))) (rows n (now (addresses .entry))) (take n (now (places .exit)))) ⌝ }
-    ensures { λ r. ⌜ length (now (places .exit)) ≡ 1024 ⌝ }
+    requires { ⌜ Blank (now heads) ⌝ }
+    ensures { λ r. ⌜ r ≡ cond (not (addressesFit p m (now (addresses .entry))) || addressesUnsound p m n (now (addresses .entry))) 6
+        (cond (not (blocksFit d (now (blocks .entry))) || blocksUnsound d (now (blocks .entry))) 7
+        (cond (dirtyUncached n d (now (addresses .entry)) (now (blocks .entry))) 8 0)) ⌝ }
+    ensures { λ r. ⌜ (r ≡ 0 → Indexed d (now (blocks .entry)) (now (heads .exit))) ⌝ }
+    ensures { λ r. ⌜ length (now (heads .exit)) ≡ headsLength ⌝ }
 {
     if addresses_unsound(addresses, m, n, p) {
         return 6;
     }
-    let mut heads = [256u16; 16384];
-    if blocks_unsound(blocks, d, &mut heads) {
+    if blocks_unsound(blocks, d, heads) {
         return 7;
     }
-    known::places_of_rows(addresses, n, blocks, d, &heads, places);
-    if known::dirty_cached(addresses, n, blocks, d, places) {
+    if known::dirty_cached(addresses, n, blocks, d, heads) {
         return 0;
     }
     8

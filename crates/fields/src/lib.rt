@@ -155,7 +155,8 @@ pub fn write_outcome(state: &mut [u8], answer: &mut [u8], o: Outcome) -> u32
 // Writes what an opening tells into the state: n alone where it was refused. The number of the refusal, 0 where the box is open.
 pub fn write_opening(state: &mut [u8], o: Begun) -> u32
     requires { ⌜ length (now state) ≡ 72 ⌝ }
-    ensures { λ r. ⌜ (r ≡ numberOf (o .answer)) × (now (state .exit) ≡ opening (numberOf (o .answer)) (o .box_record .held) (countersOf (o .counters)) (now (state .entry))) ⌝ }
+    ensures { λ r. ⌜ (r ≡ numberOf (o .answer)) × (now (state .exit) ≡ opening (numberOf (o .answer)) (o .box_record .held) (countersOf (o .counters))
+        (now (state .entry))) ⌝ }
 {
     let a = o.answer;
     let b = o.box_record;

@@ -95,20 +95,18 @@ ended s b i e k h =
     let e′ : 128 - length s ≡ suc (127 - length s) = omega arith in
     rw (h, e, take-length, e′, set-at s 0 (replicate (127 - length s) 0) 0x80 (length s) refl)
 
--- the eight bytes of a number stored one after the other
-pub stored : (l : List ℕ) (e x : ℕ)
-    → set (set (set (set (set (set (set (set l e (x / 2 ^ 56 % 256)) (e + 1) (x / 2 ^ 48 % 256)) (e + 2) (x / 2 ^ 40 % 256)) (e + 3) (x / 2 ^ 32 % 256))
-    (e + 4) (x / 2 ^ 24 % 256)) (e + 5) (x / 2 ^ 16 % 256)) (e + 6) (x / 2 ^ 8 % 256)) (e + 7) (x % 256)
-    ≡ sets l e (bytes64 x)
-unfolding bytes64
-stored l e x =
-    let e1 : e + 1 ≡ suc e = omega arith in
-    let e2 : e + 2 ≡ suc (suc e) = omega arith in
-    let e3 : e + 3 ≡ suc (suc (suc e)) = omega arith in
-    let e4 : e + 4 ≡ suc (suc (suc (suc e))) = omega arith in
-    let e5 : e + 5 ≡ suc (suc (suc (suc (suc e)))) = omega arith in
-    let e6 : e + 6 ≡ suc (suc (suc (suc (suc (suc e))))) = omega arith in
-    let e7 : e + 7 ≡ suc (suc (suc (suc (suc (suc (suc e)))))) = omega arith in
+-- eight bytes stored one after the other
+pub stored : (l : List ℕ) (i a b c d e f g h : ℕ)
+    → set (set (set (set (set (set (set (set l i a) (i + 1) b) (i + 2) c) (i + 3) d) (i + 4) e) (i + 5) f) (i + 6) g) (i + 7) h
+    ≡ sets l i (a ∷ b ∷ c ∷ d ∷ e ∷ f ∷ g ∷ h ∷ [])
+stored l i a b c d e f g h =
+    let e1 : i + 1 ≡ suc i = omega arith in
+    let e2 : i + 2 ≡ suc (suc i) = omega arith in
+    let e3 : i + 3 ≡ suc (suc (suc i)) = omega arith in
+    let e4 : i + 4 ≡ suc (suc (suc (suc i))) = omega arith in
+    let e5 : i + 5 ≡ suc (suc (suc (suc (suc i)))) = omega arith in
+    let e6 : i + 6 ≡ suc (suc (suc (suc (suc (suc i))))) = omega arith in
+    let e7 : i + 7 ≡ suc (suc (suc (suc (suc (suc (suc i)))))) = omega arith in
     rw (e1, e2, e3, e4, e5, e6, e7)
 
 -- the blocks of a list do not depend on what follows them

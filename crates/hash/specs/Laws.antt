@@ -1,10 +1,12 @@
--- Laws on SHA-256 for those who cite it: how long a digest is and what its bytes are, and that the padding is the standard's.
+-- Laws on SHA-256 for those who cite it: how long a digest is and what its bytes are, and that the padding is the standard's, its length bytes included.
 -- Assumes nothing.
-use mathlib.Core.Path.{_≡_, refl, ap, _∙_}
-use mathlib.Core.List.{List, [], _∷_, _++_}
-use Prim.Native.Nat.{ℕ, zero, suc, _+_, _*_, _/_, _%_, _≤_, _<_}
+use mathlib.Core.Path.{_≡_, refl, sym, ap, _∙_}
+use mathlib.Core.List.{List, [], _∷_, _++_, append-assoc}
+use Prim.Native.Nat.{ℕ, zero, suc, _+_, _-_, _*_, _/_, _%_, _^_, _≤_, _<_}
 use native.Mathlib.Omega.{arith}
-use lib.ListN.{length, length-append, length-replicate, getD}
+use lib.ListN.{length, length-append, length-replicate, getD, drop, replicate}
+use lib.Pow.{mod-pow-add}
+use lib.Seq.{drop-at}
 use Rattle.hash.specs.Sha256.{zeros, padded, pad, bytes32, bytes64, H0, blocks, digest, sha256}
 
 length-digest : (h : List ℕ) (n : ℕ) → length (digest h n) ≡ 4 * n
@@ -52,3 +54,29 @@ zeros-least n k h = omega arith
 pub pad-whole : (m : List ℕ) → length (pad m) % 64 ≡ 0
 unfolding pad padded bytes64
 pad-whole m = simp (length-append, length-replicate) (omega arith)
+
+-- 3.1: the number that some bytes are, the most significant first
+abbrev pub value : List ℕ → ℕ
+value [] = 0
+value (x ∷ xs) = x * 2 ^ (8 * length xs) + value xs
+
+-- 3.1: the eight bytes of any number are, as a number, that number modulo 2 ^ 64
+pub bytes64-value : (x : ℕ) → value (bytes64 x) ≡ x % 2 ^ 64
+unfolding bytes64
+bytes64-value x =
+    let one : x % 256 * 1 + 0 ≡ x % 256 = omega arith in
+    let digit : (n k : ℕ) → n ≡ x % 2 ^ k → x / 2 ^ k % 2 ^ 8 * 2 ^ k + n ≡ x % 2 ^ (8 + k) =
+    λ n k e. ap (λ r. x / 2 ^ k % 2 ^ 8 * 2 ^ k + r) e ∙ sym (mod-pow-add x 8 k) in
+    digit _ 56 (digit _ 48 (digit _ 40 (digit _ 32 (digit _ 24 (digit _ 16 (digit _ 8 one))))))
+
+-- 5.1.1: "Then append the 64-bit block that is equal to the number l", for every length: the last eight bytes of a padded message are, as a number,
+-- its length in bits modulo 2 ^ 64
+pub pad-length : (m : List ℕ) → value (drop (length (pad m) - 8) (pad m)) ≡ 8 * length m % 2 ^ 64
+unfolding pad padded bytes64
+pad-length m =
+    let n : ℕ = length m in
+    let p : List ℕ = m ++ (0x80 ∷ replicate (zeros n) 0) in
+    let q : List ℕ = bytes64 (8 * n % 2 ^ 64) in
+    let e : pad m ≡ p ++ q = sym (append-assoc m (0x80 ∷ replicate (zeros n) 0) q) in
+    let l : length (p ++ q) ≡ length p + 8 = length-append p q in
+    ap (λ t. value (drop (length t - 8) t)) e ∙ ap value (drop-at p q (length (p ++ q) - 8) (omega (arith, l))) ∙ bytes64-value (8 * n % 2 ^ 64) ∙ omega arith

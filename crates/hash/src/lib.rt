@@ -164,7 +164,8 @@ fn round(s: State, k: u32, w: u32) -> State
 // Round t for t below 16: stores word t of the block in the schedule and uses it.
 fn first_step(s: State, w: &mut [u32; 64], k: &[u32; 64], block: &[u8], t: usize) -> State
     requires { ⌜ (t < 16) × (length (now block) ≡ 64) × (now k ≡ S.K) ⌝ }
-    ensures { λ r. ⌜ ((h : List ℕ) → Done (now (block .entry)) h t (now (w .entry)) (words s) → Done (now (block .entry)) h (t + 1) (now (w .exit)) (words r)) ⌝ }
+    ensures { λ r. ⌜ ((h : List ℕ) → Done (now (block .entry)) h t (now (w .entry)) (words s)
+        → Done (now (block .entry)) h (t + 1) (now (w .exit)) (words r)) ⌝ }
 {
     let x = load(block, t);
     w[t] = x;

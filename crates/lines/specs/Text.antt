@@ -28,6 +28,7 @@ decimalIn (suc k) n = cond (ltb n 10) ((48 + n) ∷ []) (decimalIn k (n / 10) ++
 unfoldable pub decimal : ℕ → List ℕ
 decimal n = decimalIn 20 n
 
-texts : (ascii "box\n" ≡ 98 ∷ 111 ∷ 120 ∷ 10 ∷ []) × (decimal 0 ≡ ascii "0") × (decimal 10 ≡ ascii "10") × (decimal 18446744073709551615 ≡ ascii "18446744073709551615")
+texts : (ascii "box\n" ≡ 98 ∷ 111 ∷ 120 ∷ 10 ∷ []) × (decimal 0 ≡ ascii "0") × (decimal 10 ≡ ascii "10")
+    × (decimal 18446744073709551615 ≡ ascii "18446744073709551615")
 unfolding decimalIn decimal
 texts = (refl, refl, refl, refl)

@@ -36,7 +36,8 @@ fn two(line: &[u8]) -> Command
 
 // A line of three words.
 fn three(line: &[u8]) -> Command
-    ensures { λ r. ⌜ r ≡ ofThree (getD (wordsOf (now (line .entry))) 0 []) (getD (wordsOf (now (line .entry))) 1 []) (getD (wordsOf (now (line .entry))) 2 []) ⌝ }
+    ensures { λ r. ⌜ r ≡ ofThree (getD (wordsOf (now (line .entry))) 0 []) (getD (wordsOf (now (line .entry))) 1 [])
+        (getD (wordsOf (now (line .entry))) 2 []) ⌝ }
 {
     let a = numbers::decimal_at(line, 1);
     if 100000 <= a {
@@ -60,7 +61,8 @@ fn three(line: &[u8]) -> Command
 
 // A line of five words.
 fn five(line: &[u8]) -> Command
-    ensures { λ r. ⌜ r ≡ ofFive (getD (wordsOf (now (line .entry))) 0 []) (getD (wordsOf (now (line .entry))) 1 []) (getD (wordsOf (now (line .entry))) 2 []) (getD (wordsOf (now (line .entry))) 3 []) (getD (wordsOf (now (line .entry))) 4 []) ⌝ }
+    ensures { λ r. ⌜ r ≡ ofFive (getD (wordsOf (now (line .entry))) 0 []) (getD (wordsOf (now (line .entry))) 1 []) (getD (wordsOf (now (line .entry))) 2 [])
+        (getD (wordsOf (now (line .entry))) 3 []) (getD (wordsOf (now (line .entry))) 4 []) ⌝ }
 {
     if !words::is(line, 0, b"box") {
         return Command::Unformed;

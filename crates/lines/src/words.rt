@@ -39,7 +39,8 @@ pub fn start(line: &[u8], k: usize) -> usize
 // Where the word that starts at `from` ends.
 pub fn end(line: &[u8], from: usize) -> usize
     requires { ⌜ from ≤ length (now line) ⌝ }
-    ensures { λ r. ⌜ (from ≤ r) × (r ≤ length (now (line .entry))) × (getD (words (drop from (now (line .entry)))) 0 [] ≡ take (r - from) (drop from (now (line .entry)))) ⌝ }
+    ensures { λ r. ⌜ (from ≤ r) × (r ≤ length (now (line .entry))) × (getD (words (drop from (now (line .entry)))) 0 []
+        ≡ take (r - from) (drop from (now (line .entry)))) ⌝ }
 {
     let mut i = from;
     while i < line.len() && line[i] != b' ' {

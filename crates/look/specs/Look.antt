@@ -5,9 +5,9 @@ use mathlib.Core.Option.{Option, none, some}
 use Prim.Native.Nat.{ℕ, _*_}
 use lib.Dec.{eqb}
 use Rattle.block.specs.Blocks.{part}
-use Rattle.paper.specs.Cache.{AddressRow, BlockRow, fromCache, fromDisk, rowWithBlock, slotOf}
+use Rattle.paper.specs.Cache.{Numbers, AddressRow, BlockRow, fromCache, fromDisk, rowWithBlock, slotOf}
 use Rattle.paper.specs.Engine.{Fixed, engine}
-use Rattle.paper.specs.Lent.{Numbers, Lent, Ask, calling, refusal, boxIn, Answer, refused, answered}
+use Rattle.paper.specs.Lent.{Lent, Ask, calling, refusal, boxIn, Answer, refused, answered}
 use Rattle.look.specs.declared.Place.{Place}
 use Rattle.look.specs.declared.Place.the-variants.{Refused, Flash, Disk}
 

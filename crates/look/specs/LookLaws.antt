@@ -9,9 +9,9 @@ use borrow.Author.Tests.{eqb-true, eqb-false, ne-eqb}
 use Rattle.tables.specs.Rows.{rowAt}
 use Rattle.tables.specs.Records.{readBlock}
 use Rattle.paper.specs.KeyedLaws.{by-test, by-option}
-use Rattle.paper.specs.Cache.{Box, Counters, rowWithBlock, slotOf, serve, lookAs}
+use Rattle.paper.specs.Cache.{Numbers, Box, Counters, rowWithBlock, slotOf, serve, lookAs}
 use Rattle.paper.specs.Engine.{Fixed, engine}
-use Rattle.paper.specs.Lent.{Numbers, Lent, Ask, calling, refusal, boxIn, callOf, call, served}
+use Rattle.paper.specs.Lent.{Lent, Ask, calling, refusal, boxIn, callOf, call, served}
 use Rattle.paper.specs.Index.{indexWhere}
 use Rattle.paper.specs.RowBytes.{Bytes}
 use Rattle.paper.specs.RefusalLaws.{served-is, keeps}
@@ -19,8 +19,8 @@ use Rattle.paper.specs.CallLaws.{served-finds}
 use Rattle.parts.specs.declared.BoxRecord.{BoxRecord}
 use Rattle.look.specs.declared.Place.{Place}
 use Rattle.look.specs.declared.Place.the-variants.{Refused, Flash, Disk}
-use Rattle.parts.specs.Rep.{Rep, noRow}
-use Rattle.refusals.specs.Given.{numbersOf, lent}
+use Rattle.parts.specs.Rep.{numbersOf, Rep, noRow}
+use Rattle.refusals.specs.Given.{lent}
 use Rattle.look.specs.Look.{placeIn, whereIs, answerAt, partAt}
 use Rattle.parts.specs.CopyLaws.{part-block, parts-length, block-ends, slot-some, slotOf-below}
 use Rattle.serve.specs.ServeLaws.{hit-row, found-hit, found-miss}

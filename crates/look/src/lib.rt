@@ -8,7 +8,8 @@ use tables::SourceAddress;
 ghost use mathlib.Core.Path.{_≡_};
 ghost use Rattle.paper.specs.Cache.{Counters};
 ghost use Rattle.paper.specs.Lent.{Ask, calling, refusal, call};
-ghost use Rattle.refusals.specs.Given.{numbersOf, lent};
+ghost use Rattle.parts.specs.Rep.{numbersOf};
+ghost use Rattle.refusals.specs.Given.{lent};
 ghost use Rattle.policy.specs.Contract.{answerOf};
 ghost use Rattle.look.specs.Look.{whereIs};
 
@@ -29,7 +30,8 @@ pub(crate) fn found(
     blocks: &[u8],
 ) -> Place
     requires { ⌜ ((k : Counters) → refusal (numbersOf b) (lent b (now disk) (now flash) (now addresses) (now blocks) k) (calling (Ask.look (a .0))) ≡ 0) ⌝ }
-    ensures { λ r. ⌜ ((k : Counters) → r ≡ whereIs (numbersOf b) (lent b (now (disk .entry)) (now (flash .entry)) (now (addresses .entry)) (now (blocks .entry)) k) (a .0)) ⌝ }
+    ensures { λ r. ⌜ ((k : Counters) → r ≡ whereIs (numbersOf b) (lent b (now (disk .entry)) (now (flash .entry)) (now (addresses .entry))
+        (now (blocks .entry)) k) (a .0)) ⌝ }
 {
     let i = rows::row_of(addresses, b.held, a);
     let j = rows::place_of_row(b, i, addresses, blocks);
@@ -48,7 +50,8 @@ pub fn place_of(
     addresses: &[u8],
     blocks: &[u8],
 ) -> Place
-    ensures { λ r. ⌜ ((k : Counters) → r ≡ whereIs (numbersOf b) (lent b (now (disk .entry)) (now (flash .entry)) (now (addresses .entry)) (now (blocks .entry)) k) (a .0)) ⌝ }
+    ensures { λ r. ⌜ ((k : Counters) → r ≡ whereIs (numbersOf b) (lent b (now (disk .entry)) (now (flash .entry)) (now (addresses .entry))
+        (now (blocks .entry)) k) (a .0)) ⌝ }
 {
     let no = refusals::of_look(b, a, disk, flash, addresses, blocks);
     if no != 0 {
@@ -66,7 +69,8 @@ pub fn look(
     addresses: &[u8],
     blocks: &[u8],
 ) -> Answer
-    ensures { λ r. ⌜ ((k : Counters) → answerOf r ≡ (call (numbersOf b) (lent b (now (disk .entry)) (now (flash .entry)) (now (addresses .entry)) (now (blocks .entry)) k) (Ask.look (a .0))) .answer) ⌝ }
+    ensures { λ r. ⌜ ((k : Counters) → answerOf r ≡ (call (numbersOf b)
+        (lent b (now (disk .entry)) (now (flash .entry)) (now (addresses .entry)) (now (blocks .entry)) k) (Ask.look (a .0))) .answer) ⌝ }
 {
     match place_of(b, a, disk, flash, addresses, blocks) {
         Place::Refused(no) => Answer::Refused(no),
@@ -84,7 +88,8 @@ pub fn look_part<'a>(
     addresses: &[u8],
     blocks: &[u8],
 ) -> &'a [u8]
-    ensures { λ r. ⌜ ((k : Counters) → now r ≡ (call (numbersOf b) (lent b (now (disk .entry)) (now (flash .entry)) (now (addresses .entry)) (now (blocks .entry)) k) (Ask.look (a .0))) .part) ⌝ }
+    ensures { λ r. ⌜ ((k : Counters) → now r ≡ (call (numbersOf b) (lent b (now (disk .entry)) (now (flash .entry)) (now (addresses .entry))
+        (now (blocks .entry)) k) (Ask.look (a .0))) .part) ⌝ }
 {
     match place_of(b, a, disk, flash, addresses, blocks) {
         Place::Refused(_) => &disk[0..0],

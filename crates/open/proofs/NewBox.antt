@@ -9,7 +9,8 @@ use Rattle.paper.specs.Lent.{opening, refusal, fresh, unopened, opened}
 use Rattle.paper.specs.RefusalLaws.{refused-opening, opened-is}
 use Rattle.parts.specs.declared.BoxRecord.{BoxRecord}
 use Rattle.open.specs.declared.Opening.the-variants.{Refused, Open}
-use Rattle.refusals.specs.Given.{numbersOf, countersOf, lent}
+use Rattle.parts.specs.Rep.{numbersOf}
+use Rattle.refusals.specs.Given.{countersOf, lent}
 use Rattle.open.specs.Contract.{begun, opens}
 
 abbrev pub newBox : ℕ → ℕ → ℕ → ℕ → BoxRecord

@@ -2,10 +2,11 @@
 -- Assumes nothing.
 use mathlib.Core.List.{List}
 use Prim.Native.Nat.{ℕ}
-use Rattle.paper.specs.Cache.{Counters}
-use Rattle.paper.specs.Lent.{Numbers, Lent, opening, refusal, opened}
+use Rattle.paper.specs.Cache.{Numbers, Counters}
+use Rattle.paper.specs.Lent.{Lent, opening, refusal, opened}
 use Rattle.parts.specs.declared.BoxRecord.{BoxRecord}
-use Rattle.refusals.specs.Given.{numbersOf, countersOf, lent}
+use Rattle.parts.specs.Rep.{numbersOf}
+use Rattle.refusals.specs.Given.{countersOf, lent}
 use Rattle.open.specs.declared.Opening.{Opening}
 use Rattle.open.specs.declared.Opening.the-variants.{Refused, Open}
 use Rattle.open.specs.declared.Begun.{Begun}
@@ -22,7 +23,11 @@ pub record Opened : Type 0 where
   pub lent : Lent
 
 abbrev pub begun : Begun → (disk flash addresses blocks : List ℕ) → Opened
-begun r disk flash addresses blocks = record { number = numberOf (r .answer); numbers = numbersOf (r .box_record); lent = lent (r .box_record) disk flash addresses blocks (countersOf (r .counters)) }
+begun r disk flash addresses blocks = record {
+  number = numberOf (r .answer);
+  numbers = numbersOf (r .box_record);
+  lent = lent (r .box_record) disk flash addresses blocks (countersOf (r .counters));
+}
 
 abbrev pub opens : BoxRecord → (disk flash addresses blocks : List ℕ) → Counters → Opened
 opens b disk flash addresses blocks k =

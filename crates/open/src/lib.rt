@@ -43,7 +43,8 @@ pub fn open(
     c: Counters,
 ) -> Begun
     ensures { λ r. ⌜ begun r (now (disk .entry)) (now (flash .entry)) (now (addresses .exit)) (now (table .exit))
-        ≡ opens (record { size = size; blocks = blocks; rows = rows; slots = slots; held = 0 }) (now (disk .entry)) (now (flash .entry)) (now (addresses .entry)) (now (table .entry)) (countersOf c) ⌝ }
+        ≡ opens (record { size = size; blocks = blocks; rows = rows; slots = slots; held = 0 }) (now (disk .entry)) (now (flash .entry))
+        (now (addresses .entry)) (now (table .entry)) (countersOf c) ⌝ }
 {
     let b = BoxRecord {
         size: size,

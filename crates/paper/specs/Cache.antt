@@ -10,6 +10,13 @@ use lib.ListN.{length, getD, set}
 use Rattle.tables.specs.Records.{slotsFrom}
 use Rattle.paper.specs.Keyed.{has, without, find}
 
+-- "B is the block size in bytes .. P is the number of disk blocks .. m is the most addresses held .. d is the number of cached blocks"
+pub record Numbers : Type 0 where
+  pub B : ℕ
+  pub P : ℕ
+  pub m : ℕ
+  pub d : ℕ
+
 -- What the cache needs to know of blocks: the fingerprint of one, when two fingerprints are the same, and a block to stand for none.
 pub record Hashing (F X : Type 0) : Type 0 where
   pub same : F → F → Bool
@@ -126,7 +133,12 @@ module _ {F X : Type 0} (H : Hashing F X) where
   unfoldable pub oldestOut : Box F X → List (AddressRow F) → RowOut F X
   oldestOut s [] = record { rows = []; gone = none; disk = s .disk; primary = 0 }
   oldestOut s (r ∷ rs) =
-      record { rows = rs; gone = some (r .fingerprint); disk = copied (λ f. true) (r ∷ []) (s .used) (s .flash) (s .disk); primary = copies (λ f. true) (r ∷ []) }
+      record {
+        rows = rs;
+        gone = some (r .fingerprint);
+        disk = copied (λ f. true) (r ∷ []) (s .used) (s .flash) (s .disk);
+        primary = copies (λ f. true) (r ∷ []);
+      }
 
   unfoldable pub step1 : ℕ → Box F X → ℕ → RowOut F X
   step1 m s a =
@@ -217,14 +229,35 @@ pub data Call (X : Type 0) : Type 0 where
   look : ℕ → Call X
   flush : Call X
 
--- its address is one of the disk's
+-- What a call is about: its address, the block that it writes there, whether it is a read, whether it returns a block, and whether it counts
+pub record About (X : Type 0) : Type 0 where
+  pub address : Option ℕ
+  pub written : Option X
+  pub reads : Bool
+  pub returns : Bool
+  pub counts : Bool
+
+-- "A read or look answers block a. Each write replaces block a by the block lent to it."; look "counts nothing"; a flush has no address
+abbrev pub about : {X : Type 0} → Call X → About X
+about (read a) = record { address = some a; written = none; reads = true; returns = true; counts = true }
+about (through a b) = record { address = some a; written = some b; reads = false; returns = false; counts = true }
+about (back a b) = record { address = some a; written = some b; reads = false; returns = false; counts = true }
+about (invalidate a b) = record { address = some a; written = some b; reads = false; returns = false; counts = true }
+about (look a) = record { address = some a; written = none; reads = false; returns = true; counts = false }
+about flush = record { address = none; written = none; reads = false; returns = false; counts = true }
+
+-- what is there, if anything, before a list
+abbrev pub before : {A : Type 0} → Option A → List A → List A
+before none xs = xs
+before (some x) xs = x ∷ xs
+
+-- its address, if it has one, is one of the disk's
+abbrev pub Below : ℕ → Option ℕ → Type 0
+Below P none = Unit {0}
+Below P (some a) = a < P
+
 abbrev pub Within : {X : Type 0} → ℕ → Call X → Type 0
-Within P (read a) = a < P
-Within P (through a b) = a < P
-Within P (back a b) = a < P
-Within P (invalidate a b) = a < P
-Within P (look a) = a < P
-Within P flush = Unit {0}
+Within P c = Below P (about c .address)
 
 -- "answer (hit, miss, same, new, cache, disk, done)"
 pub data Word : Type 0 where
@@ -317,13 +350,13 @@ module _ {F X : Type 0} (H : Hashing F X) where
         primaryWrites = copies H (λ f. true) (s .rows);
       }
 
-  unfoldable pub serve : ℕ → Box F X → Call X → Outcome F X
-  serve m s (read a) = readAs m s a (rowWithBlock s a)
-  serve m s (through a b) = writeThrough m s a b
-  serve m s (back a b) = writeBack m s a b
-  serve m s (invalidate a b) = writeInvalidate s a b
-  serve m s (look a) = lookAs s a (rowWithBlock s a)
-  serve m s flush = flushed s
+  unfoldable pub serve : Numbers → Box F X → Call X → Outcome F X
+  serve N s (read a) = readAs (N .m) s a (rowWithBlock s a)
+  serve N s (through a b) = writeThrough (N .m) s a b
+  serve N s (back a b) = writeBack (N .m) s a b
+  serve N s (invalidate a b) = writeInvalidate s a b
+  serve N s (look a) = lookAs s a (rowWithBlock s a)
+  serve N s flush = flushed s
 
 -- "Fresh: n = 0, counters and address rows zero, block rows free with slots 0 to d − 1 in order; flash and disk keep their bytes."
 abbrev pub fresh : {F X : Type 0} → ℕ → List X → List X → Box F X
@@ -344,12 +377,7 @@ oneIf true = 1
 oneIf false = 0
 
 abbrev pub isRead : {X : Type 0} → Call X → Bool
-isRead (read a) = true
-isRead (through a b) = false
-isRead (back a b) = false
-isRead (invalidate a b) = false
-isRead (look a) = false
-isRead flush = false
+isRead c = about c .reads
 
 abbrev pub isHit : Word → Bool
 isHit hit = true

@@ -1,17 +1,19 @@
 -- What a served call finds and leaves: lent memory that passes, before and after, and counters that stay in 64 bits.
 use mathlib.Core.Path.{_≡_, refl, sym, ap, ap₂, _∙_, subst}
 use mathlib.Core.Bool.{true, and-false, false, not, _&&_, _||_}
-use mathlib.Core.List.{[], _∷_}
+use mathlib.Core.List.{List, [], _∷_}
 use mathlib.Core.Logic.{_≢_}
+use mathlib.Core.Option.{Option, none, some, Option·map}
 use Prim.Native.Nat.{ℕ, _≤_, _<_, _+_, _^_}
 use native.Mathlib.Omega.{arith}
 use lib.Dec.{eqb, leb, ltb}
 use borrow.Author.Tests.{eqb-true, eqb-false, leb-true, leb-false, ltb-false, not-false}
 use Rattle.tables.specs.Unsound.{elem}
-use Rattle.paper.specs.Cache.{Box, flushed, Outcome, Within, Counters, counted, serve, oneIf, isRead, isHit}
+use Rattle.paper.specs.Cache.{Numbers, Box, About, about, Below, flushed, Outcome, Within, Counters, counted, serve, oneIf, isRead, isHit}
 use Rattle.paper.specs.KeyedLaws.{All, clash, by-test, or-false-left, or-false-right, and-left, and-right}
-use Rattle.paper.specs.Engine.{Fixed, engine}
-use Rattle.paper.specs.Lent.{Numbers, Lent, Ask, calling, callOf, addressOf, lentBlock, between, unfit, wrongBuffers, wrongBlock, outside, over, counts, refusal, served, call, boxIn, lentOf}
+use Rattle.paper.specs.Engine.{Fixed, fit, engine}
+use Rattle.paper.specs.Lent.{Lent, Ask, calling, callOf, aboutAsk, addressOf, lentBlock, between, unfit, wrongBuffers, wrongBlock, outside, over, counts}
+use Rattle.paper.specs.Lent.{refusal, served, call, boxIn, lentOf}
 use Rattle.paper.specs.Sound.{Sound, all-cleaned, sound-serve}
 use Rattle.paper.specs.Quiet.{look-same}
 use Rattle.paper.specs.RowBytes.{Bytes}
@@ -48,14 +50,26 @@ fits N h =
       d-most = leb-true (N .d) 256 (and-right (leb 1 (N .d)) (leb (N .d) 256) d′);
     }
 
-within : (P B : ℕ) (q : Ask) → outside P (addressOf q) ≡ false → Within P (callOf B q)
+-- the call on paper is about what is asked, its block cut to size
+abbrev sized : (B : ℕ) → About (List ℕ) → About (Fixed B)
+sized B x =
+    record { address = x .address; written = Option·map (fit B) (x .written); reads = x .reads; returns = x .returns; counts = x .counts }
+
+pub about-call : (B : ℕ) (q : Ask) → about (callOf B q) ≡ sized B (aboutAsk q)
 unfolding callOf
-within P B (Ask.read a l) e = leb-false P a e
-within P B (Ask.through a l) e = leb-false P a e
-within P B (Ask.back a l) e = leb-false P a e
-within P B (Ask.invalidate a l) e = leb-false P a e
-within P B (Ask.look a) e = leb-false P a e
-within P B Ask.flush e = tt
+about-call B (Ask.read a l) = refl
+about-call B (Ask.through a l) = refl
+about-call B (Ask.back a l) = refl
+about-call B (Ask.invalidate a l) = refl
+about-call B (Ask.look a) = refl
+about-call B Ask.flush = refl
+
+below : (P : ℕ) (a : Option ℕ) → outside P a ≡ false → Below P a
+below P none e = tt
+below P (some a) e = leb-false P a e
+
+within : (P B : ℕ) (q : Ask) → outside P (addressOf q) ≡ false → Within P (callOf B q)
+within P B q e = subst (λ x. Below P (x .address)) (sym (about-call B q)) (below P (addressOf q) e)
 
 -- what a served call finds
 pub record Served (N : Numbers) (t : Lent) (q : Ask) : Type 0 where
@@ -80,19 +94,19 @@ passes-no-678 N t q p =
     let x = exactly N t q in
     (λ e. clash ((x .gives-6 .0 e) .3) (p .addresses), λ e. clash ((x .gives-7 .0 e) .4) (p .blocks), λ e. clash ((x .gives-8 .0 e) .5) (p .dirty))
 
-pub sound-no-678 : (N : Numbers) (s : Box (Fixed 32) (Fixed (N .B))) (k : Counters) (q : Ask) → Sound (engine (N .B)) (N .m) (N .d) (N .P) s → N .P ≤ 65536 → N .d ≤ 256
+pub sound-no-678 : (N : Numbers) (s : Box (Fixed 32) (Fixed (N .B))) (k : Counters) (q : Ask) → Sound (engine (N .B)) N s → N .P ≤ 65536 → N .d ≤ 256
     → (refusal N (lentOf N s k) (calling q) ≢ 6) × (refusal N (lentOf N s k) (calling q) ≢ 7) × (refusal N (lentOf N s k) (calling q) ≢ 8)
 sound-no-678 N s k q h P1 d1 = passes-no-678 N (lentOf N s k) q (sound-passes N s h k P1 d1)
 
 -- the paper's outcome of a call on lent bytes
 abbrev pub outcome : (N : Numbers) → Lent → Ask → Outcome (Fixed 32) (Fixed (N .B))
-outcome N t q = serve (engine (N .B)) (N .m) (boxIn N t) (callOf (N .B) q)
+outcome N t q = serve (engine (N .B)) N (boxIn N t) (callOf (N .B) q)
 
 module _ (N : Numbers) (t : Lent) (q : Ask) (e : refusal N t (calling q) ≡ 0) where
-  pub outcome-sound : Sound (engine (N .B)) (N .m) (N .d) (N .P) ((outcome N t q) .box)
+  pub outcome-sound : Sound (engine (N .B)) N ((outcome N t q) .box)
   outcome-sound =
       let x = served-finds N t q e in
-      sound-serve (engine (N .B)) (N .m) (N .d) (N .P) (boxIn N t) (callOf (N .B) q) (passes-sound N t (x .passes)) (x .fits .m-least) (x .fits .d-least) (x .within)
+      sound-serve (engine (N .B)) N (boxIn N t) (callOf (N .B) q) (passes-sound N t (x .passes)) (x .fits .m-least) (x .fits .d-least) (x .within)
 
   pub served-lent : (call N t q) .lent ≡ lentOf N ((outcome N t q) .box) (counted (t .counters) (callOf (N .B) q) (outcome N t q))
   unfolding served
@@ -128,7 +142,7 @@ adds-few N t q e =
     let o = outcome N t q in
     let k = t .counters in
     let c = callOf (N .B) q in
-    let few = serve-few (engine (N .B)) (N .m) (N .d) (N .P) (boxIn N t) c (passes-sound N t (x .passes)) (x .fits .m-least) in
+    let few = serve-few (engine (N .B)) N (boxIn N t) c (passes-sound N t (x .passes)) (x .fits .m-least) in
     let f : o .flashWrites ≤ 1 = few .0 in
     let p : o .primaryWrites ≤ N .m + 1 = few .1 in
     let r = one-if-le (isRead c) in
@@ -184,30 +198,17 @@ counters-fit N t q h =
 
 -- a served read is one read more, and no other call is
 abbrev pub ownReads : Ask → ℕ
-ownReads (Ask.read a l) = 1
-ownReads (Ask.through a l) = 0
-ownReads (Ask.back a l) = 0
-ownReads (Ask.invalidate a l) = 0
-ownReads (Ask.look a) = 0
-ownReads Ask.flush = 0
+ownReads q = oneIf (aboutAsk q .reads)
 
 pub reads-counted : (N : Numbers) (t : Lent) (q : Ask) → refusal N t (calling q) ≡ 0 → (call N t q) .lent .counters .reads ≡ t .counters .reads + ownReads q
-unfolding counted callOf
-reads-counted N t q e = ap (λ k. k .reads) (served-counters N t q e) ∙ own q
-  where
-    own : (q : Ask) → t .counters .reads + oneIf (isRead (callOf (N .B) q)) ≡ t .counters .reads + ownReads q
-    own (Ask.read a l) = refl
-    own (Ask.through a l) = refl
-    own (Ask.back a l) = refl
-    own (Ask.invalidate a l) = refl
-    own (Ask.look a) = refl
-    own Ask.flush = refl
+unfolding counted
+reads-counted N t q e = ap (λ k. k .reads) (served-counters N t q e) ∙ ap (λ x. t .counters .reads + oneIf (x .reads)) (about-call (N .B) q)
 
 -- a look counts nothing, and moves nothing
 look-counted : (N : Numbers) (t : Lent) (a : ℕ) → counted (t .counters) (callOf (N .B) (Ask.look a)) (outcome N t (Ask.look a)) ≡ t .counters
 unfolding counted callOf
 look-counted N t a =
-    let x = look-nothing (engine (N .B)) (N .m) (boxIn N t) a in
+    let x = look-nothing (engine (N .B)) N (boxIn N t) a in
     let k = t .counters in
     let x₀ = x .0 in
     let x₁ = x .1 in
@@ -230,7 +231,8 @@ look-keeps N t a bytesA bytesB =
     (λ y.
     let e = eqb-true (refusal N t (calling q)) 0 y in
     let p = (served-finds N t q e) .passes in
-    served-lent N t q e ∙ ap₂ {C = Lent} (lentOf N) (look-same (engine (N .B)) (N .m) (boxIn N t) a) (look-counted N t a) ∙ lent-forth N t (p .lengths) bytesA bytesB (p .addresses) (p .blocks))
+    served-lent N t q e ∙ ap₂ {C = Lent} (lentOf N) (look-same (engine (N .B)) N (boxIn N t) a) (look-counted N t a)
+    ∙ lent-forth N t (p .lengths) bytesA bytesB (p .addresses) (p .blocks))
     (λ y. keeps N t q (eqb-false (refusal N t (calling q)) 0 y) .lent)
 
 -- after a flush that is not refused no row is dirty

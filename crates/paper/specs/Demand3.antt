@@ -4,15 +4,15 @@ use mathlib.Core.Path.{_≡_}
 use mathlib.Core.Bool.{not, cond}
 use mathlib.Core.List.{List, [], _∷_, _++_}
 use mathlib.Core.Logic.{_⊎_}
-use mathlib.Core.Option.{Option, none, some}
+use mathlib.Core.Option.{Option, none, some, Option·map}
 use Prim.Native.Nat.{ℕ}
 use lib.Dec.{eqb}
-use lib.ListN.{getD}
 use Rattle.paper.specs.KeyedLaws.{All}
-use Rattle.paper.specs.Cache.{Word}
+use Rattle.paper.specs.Cache.{Numbers, Word}
 use Rattle.paper.specs.Engine.{Fixed, engine}
-use Rattle.paper.specs.Lent.{Numbers, Lent, Ask, Answer, refused, answered, calling, refusal, call, callOf, boxIn, join, split}
-use Rattle.paper.specs.Machines.{plainNext, writtenBy, Read, Compared, seenIn, printedTrace, contentOf, OrphanLaw, TrueFingerprints, NoTwoShare}
+use Rattle.paper.specs.Lent.{Lent, Ask, Answer, refused, answered, After, calling, aboutAsk, refusal, call, callOf, boxIn, join, split}
+use Rattle.paper.specs.Machines.{plainNext, plainBlock, writtenBy, NoWrite, Read, Compared, ifRead, seenIn, printedTrace, contentOf}
+use Rattle.paper.specs.Machines.{OrphanLaw, TrueFingerprints, NoTwoShare}
 
 -- "Box record, disk, flash, both tables and counters pass from call to call."
 abbrev pub next : (N : Numbers) → Lent → Ask → Lent
@@ -46,14 +46,14 @@ unfoldable pub written : (N : Numbers) → Lent → List Ask → List (Fixed (N 
 written N t [] = []
 written N t (q ∷ qs) = cond (eqb (refusal N t (calling q)) 0) (writtenBy (callOf (N .B) q)) [] ++ written N (next N t q) qs
 
--- "a block returned is the lent block after a read, or a look's part"; it is the plain disk's
+-- "a block returned is the lent block after a read, or a look's part"
+abbrev pub returned : Ask → After → Option (List ℕ)
+returned q y = cond (aboutAsk q .reads) (y .block) (cond (aboutAsk q .returns) (some (y .part)) none)
+
+-- it is the plain disk's
 unfoldable pub ShowsPlain : (N : Numbers) → Lent → List (Fixed (N .B)) → Ask → Type 0
-ShowsPlain N t plain (Ask.read a l) = (call N t (Ask.read a l)) .block ≡ some ((getD plain a (engine (N .B) .blank)) .0)
-ShowsPlain N t plain (Ask.look a) = (call N t (Ask.look a)) .part ≡ (getD plain a (engine (N .B) .blank)) .0
-ShowsPlain N t plain (Ask.through a l) = Unit {0}
-ShowsPlain N t plain (Ask.back a l) = Unit {0}
-ShowsPlain N t plain (Ask.invalidate a l) = Unit {0}
-ShowsPlain N t plain Ask.flush = Unit {0}
+ShowsPlain N t plain q =
+    returned q (call N t q) ≡ Option·map (λ (b : Fixed (N .B)). b .0) (plainBlock (engine (N .B) .blank) plain (callOf (N .B) q))
 
 -- after a flush the disk is the plain disk
 abbrev pub FlushesWhole : (N : Numbers) → Lent → List (Fixed (N .B)) → Ask → Type 0
@@ -61,17 +61,10 @@ FlushesWhole N t plain q = q ≡ Ask.flush → (next N t q) .disk ≡ join plain
 
 -- "Printed D-LRU: it is fed the reads' addresses, which reads are refused, and the disk as it was at first"; "Compared after each read: held
 -- addresses in order, cached fingerprints in order and, unless it was refused, its hit or miss."
-abbrev pub ifRead : {A : Type 0} → Ask → (ℕ → A) → List A → List A
-ifRead (Ask.read a l) f xs = f a ∷ xs
-ifRead (Ask.through a l) f xs = xs
-ifRead (Ask.back a l) f xs = xs
-ifRead (Ask.invalidate a l) f xs = xs
-ifRead (Ask.look a) f xs = xs
-ifRead Ask.flush f xs = xs
-
 unfoldable pub readsOf : Numbers → Lent → List Ask → List Read
 readsOf N t [] = []
-readsOf N t (q ∷ qs) = ifRead q (λ a. record { address = a; refused = not (eqb (refusal N t (calling q)) 0) }) (readsOf N (next N t q) qs)
+readsOf N t (q ∷ qs) =
+    ifRead (callOf (N .B) q) (λ a. record { address = a; refused = not (eqb (refusal N t (calling q)) 0) }) (readsOf N (next N t q) qs)
 
 abbrev pub wordOf : Answer → Option Word
 wordOf (refused k) = none
@@ -79,25 +72,20 @@ wordOf (answered w f p) = some w
 
 unfoldable pub seenAfter : Numbers → Lent → List Ask → List (Compared (Fixed 32))
 seenAfter N t [] = []
-seenAfter N t (q ∷ qs) = ifRead q (λ a. seenIn (boxIn N (next N t q)) (wordOf ((call N t q) .answer))) (seenAfter N (next N t q) qs)
-
--- a list with no write in it: of reads alone, or with looks and flushes among them
-abbrev pub NoWrite : Ask → Type 0
-NoWrite (Ask.read a l) = Unit {0}
-NoWrite (Ask.look a) = Unit {0}
-NoWrite Ask.flush = Unit {0}
-NoWrite (Ask.through a l) = ⊥
-NoWrite (Ask.back a l) = ⊥
-NoWrite (Ask.invalidate a l) = ⊥
+seenAfter N t (q ∷ qs) =
+    ifRead (callOf (N .B) q) (λ a. seenIn (boxIn N (next N t q)) (wordOf ((call N t q) .answer))) (seenAfter N (next N t q) qs)
 
 -- "Demand 3 is one claim about the whole list of calls, not one for each call. A list begins with a fresh box over any disk and flash bytes."
 -- t is the fresh box, and the plain disk begins as the blocks of t's disk. `fingerprints`, `blocks` and `flushes` are under the premise.
+-- `printed` is of a list with no write in it: of reads alone, or with looks and flushes among them.
 pub record Demand3 (N : Numbers) (t : Lent) (qs : List Ask) : Type 0 where
   pub numbers : All ServedOr239 (refusals N t qs)
   pub orphans : Throughout N (λ x plain. OrphanLaw (engine (N .B)) (boxIn N x)) t (split (N .B) (N .P) (t .disk)) qs
   pub fingerprints : NoTwoShare (engine (N .B)) (split (N .B) (N .P) (t .disk) ++ written N t qs)
       → Throughout N (λ x plain. TrueFingerprints (engine (N .B)) (boxIn N x) plain) t (split (N .B) (N .P) (t .disk)) qs
   pub blocks : NoTwoShare (engine (N .B)) (split (N .B) (N .P) (t .disk) ++ written N t qs) → EachServed N (ShowsPlain N) t (split (N .B) (N .P) (t .disk)) qs
-  pub flushes : NoTwoShare (engine (N .B)) (split (N .B) (N .P) (t .disk) ++ written N t qs) → EachServed N (FlushesWhole N) t (split (N .B) (N .P) (t .disk)) qs
-  pub printed : All NoWrite qs
-      → seenAfter N t qs ≡ printedTrace (engine (N .B) .same) (N .m) (N .d) (contentOf (engine (N .B)) (split (N .B) (N .P) (t .disk))) (record { addresses = []; fingerprints = [] }) (readsOf N t qs)
+  pub flushes : NoTwoShare (engine (N .B)) (split (N .B) (N .P) (t .disk) ++ written N t qs)
+      → EachServed N (FlushesWhole N) t (split (N .B) (N .P) (t .disk)) qs
+  pub printed : All (λ q. NoWrite (callOf (N .B) q)) qs
+      → seenAfter N t qs ≡ printedTrace (engine (N .B) .same) (N .m) (N .d) (contentOf (engine (N .B)) (split (N .B) (N .P) (t .disk)))
+      (record { addresses = []; fingerprints = [] }) (readsOf N t qs)

@@ -3,18 +3,21 @@ use mathlib.Core.Path.{_≡_, refl, sym, ap, ap₂, _∙_, subst, subst₂}
 use mathlib.Core.Bool.{Bool, true, false, not, _&&_, _||_, cond}
 use mathlib.Core.List.{List, [], _∷_, _++_, map, append-nil}
 use mathlib.Core.Logic.{inl, inr}
-use mathlib.Core.Option.{none, some}
+use mathlib.Core.Option.{Option, none, some}
 use Prim.Native.Nat.{ℕ}
 use lib.Dec.{eqb}
 use borrow.Author.Tests.{eqb-true, eqb-false, not-false}
 use Rattle.tables.specs.Records.{addressTable, blockTable, freeRow, slotsFrom, freshAddresses, freshBlocks}
 use Rattle.paper.specs.Cache as Paper
-use Rattle.paper.specs.Cache.{Hashing, Box, noCounts}
+use Rattle.paper.specs.Cache.{Numbers, Hashing, Box, noCounts}
 use Rattle.paper.specs.KeyedLaws.{All, by-test, clash}
 use Rattle.paper.specs.Engine.{Fixed, engine}
-use Rattle.paper.specs.Lent.{Numbers, Lent, Ask, opening, calling, callOf, lentBlock, addressOf, wrongBuffers, wrongBlock, outside, counts, over, unfit, refusal, served, call, boxIn, lentOf, join, split, fresh, opened, blockAfter, partAfter}
-use Rattle.paper.specs.Machines.{plainNext, plainBlock, writtenBy, Read, Compared, seenIn, printedTrace, contentOf, OrphanLaw, TrueFingerprints, NoTwoShare}
-use Rattle.paper.specs.Demand3.{next, plainStep, Throughout, EachServed, ServedOr239, refusals, written, ShowsPlain, FlushesWhole, ifRead, readsOf, wordOf, seenAfter, NoWrite, Demand3}
+use Rattle.paper.specs.Lent.{Lent, Ask, opening, calling, callOf, lentBlock, addressOf, wrongBuffers, wrongBlock, outside, counts, over, unfit, refusal}
+use Rattle.paper.specs.Lent.{served, call, boxIn, lentOf, join, split, fresh, opened, blockAfter, partAfter}
+use Rattle.paper.specs.Machines.{plainNext, plainBlock, writtenBy, NoWrite, Compared, ifRead, seenIn, printedTrace, contentOf, OrphanLaw}
+use Rattle.paper.specs.Machines.{TrueFingerprints, NoTwoShare}
+use Rattle.paper.specs.Demand3.{next, plainStep, Throughout, EachServed, ServedOr239, refusals, written, ShowsPlain, FlushesWhole, readsOf, wordOf}
+use Rattle.paper.specs.Demand3.{seenAfter, Demand3}
 use Rattle.paper.specs.Events as Events
 use Rattle.paper.specs.Events.{Event, boxBlocks, plainBlocks}
 use Rattle.paper.specs.Sound.{Sound, sound-fresh}
@@ -74,11 +77,14 @@ module _ (N : Numbers) where
 
   -- what holds of the events holds of the bytes: in every state reached
   throughout : (Q : Box (Fixed 32) (Fixed (N .B)) → List (Fixed (N .B)) → Type 0) (t : Lent) (plain : List (Fixed (N .B))) (qs : List Ask)
-      → Events.Throughout H (N .m) Q (boxIn N t) plain (eventsOf N t qs) → Throughout N (λ x p. Q (boxIn N x) p) t plain qs
+      → Events.Throughout H N Q (boxIn N t) plain (eventsOf N t qs) → Throughout N (λ x p. Q (boxIn N x) p) t plain qs
   unfolding Throughout Events.Throughout eventsOf
   throughout Q t plain [] h = h
-  throughout Q t plain (q ∷ qs) h =
-      (h .0, throughout Q (next N t q) (plainStep N t plain q) qs (subst₂ (λ b p. Events.Throughout H (N .m) Q b p (eventsOf N (next N t q) qs)) (sym (next-box t q)) (sym (next-plain t plain q)) (h .1)))
+  throughout Q t plain (q ∷ qs) h = (
+    h .0,
+    throughout Q (next N t q) (plainStep N t plain q) qs
+        (subst₂ (λ b p. Events.Throughout H N Q b p (eventsOf N (next N t q) qs)) (sym (next-box t q)) (sym (next-plain t plain q)) (h .1)),
+  )
 
   -- the blocks written
   same-written : (t : Lent) (qs : List Ask) → written N t qs ≡ Events.written (eventsOf N t qs)
@@ -103,25 +109,29 @@ module _ (N : Numbers) where
   numbers-are t (q ∷ qs) u p = (number-is t q u p, numbers-are (next N t q) qs u (next-passes t q p))
 
   -- the flushes
-  flushes-whole : (t : Lent) (plain : List (Fixed (N .B))) (qs : List Ask) → Events.FlushesWhole H (N .m) (boxIn N t) plain (eventsOf N t qs) → EachServed N (FlushesWhole N) t plain qs
+  flushes-whole : (t : Lent) (plain : List (Fixed (N .B))) (qs : List Ask) → Events.FlushesWhole H N (boxIn N t) plain (eventsOf N t qs)
+      → EachServed N (FlushesWhole N) t plain qs
   unfolding EachServed Events.FlushesWhole eventsOf callOf lentOf
   flushes-whole t plain [] h = tt
   flushes-whole t plain (q ∷ qs) h = (
     (λ z f. ap (λ x. x .disk) (served-lent N t q z) ∙ ap join (h .0 (rw z refl) (ap (callOf (N .B)) f))),
-    flushes-whole (next N t q) (plainStep N t plain q) qs (subst₂ (λ b p. Events.FlushesWhole H (N .m) b p (eventsOf N (next N t q) qs)) (sym (next-box t q)) (sym (next-plain t plain q)) (h .1)),
+    flushes-whole (next N t q) (plainStep N t plain q) qs
+        (subst₂ (λ b p. Events.FlushesWhole H N b p (eventsOf N (next N t q) qs)) (sym (next-box t q)) (sym (next-plain t plain q)) (h .1)),
   )
 
   -- the blocks returned
   shows : (t : Lent) (plain : List (Fixed (N .B))) (q : Ask) → refusal N t (calling q) ≡ 0 → (outcome N t q) .block ≡ plainBlock (H .blank) plain (callOf (N .B) q) → ShowsPlain N t plain q
-  unfolding ShowsPlain callOf plainBlock served
+  unfolding ShowsPlain callOf served
   shows t plain (Ask.read a l) z e = ap (λ x. x .block) (served-is N t (Ask.read a l) z) ∙ ap (blockAfter (Ask.read a l)) e
-  shows t plain (Ask.look a) z e = ap (λ x. x .part) (served-is N t (Ask.look a) z) ∙ ap (partAfter (Ask.look a)) e
-  shows t plain (Ask.through a l) z e = tt
-  shows t plain (Ask.back a l) z e = tt
-  shows t plain (Ask.invalidate a l) z e = tt
-  shows t plain Ask.flush z e = tt
+  shows t plain (Ask.look a) z e =
+      ap {B = Option (List ℕ)} (λ x. some (x .part)) (served-is N t (Ask.look a) z) ∙ ap {B = Option (List ℕ)} (λ b. some (partAfter (Ask.look a) b)) e
+  shows t plain (Ask.through a l) z e = refl
+  shows t plain (Ask.back a l) z e = refl
+  shows t plain (Ask.invalidate a l) z e = refl
+  shows t plain Ask.flush z e = refl
 
-  blocks-shown : (t : Lent) (plain : List (Fixed (N .B))) (qs : List Ask) → boxBlocks H (N .m) (boxIn N t) (eventsOf N t qs) ≡ plainBlocks (H .blank) plain (eventsOf N t qs) → EachServed N (ShowsPlain N) t plain qs
+  blocks-shown : (t : Lent) (plain : List (Fixed (N .B))) (qs : List Ask)
+      → boxBlocks H N (boxIn N t) (eventsOf N t qs) ≡ plainBlocks (H .blank) plain (eventsOf N t qs) → EachServed N (ShowsPlain N) t plain qs
   unfolding EachServed boxBlocks plainBlocks eventsOf
   blocks-shown t plain [] = λ h. tt
   blocks-shown t plain (q ∷ qs) =
@@ -132,30 +142,22 @@ module _ (N : Numbers) where
       let e = eqb-true (refusal N t (calling q)) 0 y in (
         (λ z. shows t plain q z (head-≡ h)),
         blocks-shown (next N t q) (plainNext plain c) qs
-            (subst (λ b. boxBlocks H (N .m) b es ≡ plainBlocks (H .blank) (plainNext plain c) es) (sym (served-box N t q e)) (tail-≡ ((outcome N t q) .block) (plainBlock (H .blank) plain c) (boxBlocks H (N .m) ((outcome N t q) .box) es) (plainBlocks (H .blank) (plainNext plain c) es) h)),
+            (subst (λ b. boxBlocks H N b es ≡ plainBlocks (H .blank) (plainNext plain c) es) (sym (served-box N t q e))
+            (tail-≡ ((outcome N t q) .block) (plainBlock (H .blank) plain c) (boxBlocks H N ((outcome N t q) .box) es)
+            (plainBlocks (H .blank) (plainNext plain c) es) h)),
       )))
       (λ y. rw y (λ h. (
         (λ z. clash (ap (λ k. eqb k 0) z) y),
         blocks-shown (next N t q) plain qs
-            (subst (λ x. boxBlocks H (N .m) (boxIn N x) es ≡ plainBlocks (H .blank) plain es) (sym (keeps N t q (eqb-false (refusal N t (calling q)) 0 y) .lent)) h),
+            (subst (λ x. boxBlocks H N (boxIn N x) es ≡ plainBlocks (H .blank) plain es) (sym (keeps N t q (eqb-false (refusal N t (calling q)) 0 y) .lent)) h),
       )))
 
   -- the reads: what is seen after each, and what printed D-LRU is fed
-  if-read : {A : Type 0} (q : Ask) (f : ℕ → A) (l : List A) → ifRead q f l ≡ Quiet.ifRead (callOf (N .B) q) f l
-  unfolding callOf
-  if-read (Ask.read a l) f xs = refl
-  if-read (Ask.look a) f xs = refl
-  if-read (Ask.through a l) f xs = refl
-  if-read (Ask.back a l) f xs = refl
-  if-read (Ask.invalidate a l) f xs = refl
-  if-read Ask.flush f xs = refl
-
   same-reads : (t : Lent) (qs : List Ask) → readsOf N t qs ≡ Quiet.readsOf (eventsOf N t qs)
   unfolding readsOf eventsOf
   same-reads t [] = refl
   same-reads t (q ∷ qs) =
-      let f : ℕ → Read = λ a. record { address = a; refused = isRefused N t q } in
-      if-read q f (readsOf N (next N t q) qs) ∙ ap (Quiet.ifRead (callOf (N .B) q) f) (same-reads (next N t q) qs)
+      ap (ifRead (callOf (N .B) q) (λ a. record { address = a; refused = isRefused N t q })) (same-reads (next N t q) qs)
 
   word-is : (t : Lent) (q : Ask) → wordOf ((call N t q) .answer) ≡ cond (isRefused N t q) none (some ((outcome N t q) .word))
   unfolding served
@@ -164,30 +166,20 @@ module _ (N : Numbers) where
       (λ y. ap (λ x. wordOf (x .answer)) (served-is N t q (eqb-true (refusal N t (calling q)) 0 y)) ∙ rw y refl)
       (λ y. ap wordOf (keeps N t q (eqb-false (refusal N t (calling q)) 0 y) .answer) ∙ rw y refl)
 
-  same-seen : (t : Lent) (qs : List Ask) → seenAfter N t qs ≡ traceOf H (N .m) (boxIn N t) (eventsOf N t qs)
+  same-seen : (t : Lent) (qs : List Ask) → seenAfter N t qs ≡ traceOf H N (boxIn N t) (eventsOf N t qs)
   unfolding seenAfter traceOf eventsOf
   same-seen t [] = refl
   same-seen t (q ∷ qs) =
       let es = eventsOf N (next N t q) qs in
       let s = cond (isRefused N t q) (boxIn N t) ((outcome N t q) .box) in
       let w = cond (isRefused N t q) none (some ((outcome N t q) .word)) in
-      if-read q (λ a. seenIn (boxIn N (next N t q)) (wordOf ((call N t q) .answer))) (seenAfter N (next N t q) qs)
-      ∙ ap (Quiet.ifRead (callOf (N .B) q) (λ a. seenIn (boxIn N (next N t q)) (wordOf ((call N t q) .answer)))) (same-seen (next N t q) qs)
-      ∙ ap₂ {C = List (Compared (Fixed 32))} (λ b v. Quiet.ifRead (callOf (N .B) q) (λ a. seenIn b v) (traceOf H (N .m) b es)) (next-box t q) (word-is t q)
+      ap (ifRead (callOf (N .B) q) (λ a. seenIn (boxIn N (next N t q)) (wordOf ((call N t q) .answer)))) (same-seen (next N t q) qs)
+      ∙ ap₂ {C = List (Compared (Fixed 32))} (λ b v. ifRead (callOf (N .B) q) (λ a. seenIn b v) (traceOf H N b es)) (next-box t q) (word-is t q)
 
-  no-write : (q : Ask) → NoWrite q → Quiet.NoWrite (callOf (N .B) q)
-  unfolding callOf
-  no-write (Ask.read a l) w = tt
-  no-write (Ask.look a) w = tt
-  no-write (Ask.through a l) w = w
-  no-write (Ask.back a l) w = w
-  no-write (Ask.invalidate a l) w = w
-  no-write Ask.flush w = tt
-
-  no-writes : (t : Lent) (qs : List Ask) → All NoWrite qs → All (λ e. Quiet.NoWrite (e .call)) (eventsOf N t qs)
+  no-writes : (t : Lent) (qs : List Ask) → All (λ q. NoWrite (callOf (N .B) q)) qs → All (λ e. NoWrite (e .call)) (eventsOf N t qs)
   unfolding eventsOf
   no-writes t [] w = tt
-  no-writes t (q ∷ qs) w = (no-write q (w .0), no-writes (next N t q) qs (w .1))
+  no-writes t (q ∷ qs) w = (w .0, no-writes (next N t q) qs (w .1))
 
   -- "Fresh: n = 0, counters and address rows zero, block rows free with slots 0 to d − 1 in order; flash and disk keep their bytes."
   module _ (t : Lent) (opens : refusal N t opening ≡ 0) where
@@ -211,9 +203,9 @@ module _ (N : Numbers) where
         let b = sym (ap blockTable (append-nil (map freeRow (slotsFrom 0 (N .d))))) in
         opened-is N t opens ∙ (λ i. record { n = 0; disk = di i; flash = fl i; addresses = addressTable (N .m) []; blocks = b i; counters = noCounts })
 
-    fresh-sound : Sound H (N .m) (N .d) (N .P) (Paper.fresh (N .d) flash disk)
+    fresh-sound : Sound H N (Paper.fresh (N .d) flash disk)
     unfolding flash disk
-    fresh-sound = rw (length-split (N .B) (N .P) (t .disk)) at (sound-fresh H (N .m) (N .d) flash disk (length-split (N .B) (N .d) (t .flash)))
+    fresh-sound = sound-fresh H N flash disk (length-split (N .B) (N .d) (t .flash)) (length-split (N .B) (N .P) (t .disk))
 
     fresh-box : boxIn N (opened N t) ≡ Paper.fresh (N .d) flash disk
     fresh-box = let f = fits N fits-numbers in ap (boxIn N) fresh-lent ∙ lent-back N (Paper.fresh (N .d) flash disk) fresh-sound noCounts (f .P-most) (f .d-most)
@@ -229,11 +221,12 @@ module _ (N : Numbers) where
       es : List (Event (Fixed (N .B)))
       es = eventsOf N (opened N t) qs
 
-      laws : OnEvents H (N .m) (N .d) (N .P) flash disk es
+      laws : OnEvents H N flash disk es
       unfolding es flash disk
       laws =
           let f = fits N fits-numbers in
-          on-events H (N .m) (N .d) (N .P) flash disk es (f .m-least) (f .d-least) (length-split (N .B) (N .d) (t .flash)) (length-split (N .B) (N .P) (t .disk)) (events-within (opened N t) qs)
+          on-events H N flash disk es (f .m-least) (f .d-least) (length-split (N .B) (N .d) (t .flash)) (length-split (N .B) (N .P) (t .disk))
+          (events-within (opened N t) qs)
 
       first : List (Fixed (N .B))
       first = split (N .B) (N .P) ((opened N t) .disk)
@@ -248,29 +241,36 @@ module _ (N : Numbers) where
 
       -- "In every state reached, the fresh one included": addresses distinct and below P, at most m of them, fingerprints of used rows distinct,
       -- slots each of 0 to d − 1 once, a dirty row's fingerprint cached
-      pub structure-throughout : Throughout N (λ x plain. Sound (engine (N .B)) (N .m) (N .d) (N .P) (boxIn N x)) (opened N t) (split (N .B) (N .P) ((opened N t) .disk)) qs
+      pub structure-throughout : Throughout N (λ x plain. Sound (engine (N .B)) N (boxIn N x)) (opened N t) (split (N .B) (N .P) ((opened N t) .disk)) qs
       unfolding es first
       structure-throughout =
-          throughout (λ s plain. Sound H (N .m) (N .d) (N .P) s) (opened N t) first qs
-          (from-fresh (λ b p. Events.Throughout H (N .m) (λ s plain. Sound H (N .m) (N .d) (N .P) s) b p es) (laws .sound))
+          throughout (λ s plain. Sound H N s) (opened N t) first qs
+          (from-fresh (λ b p. Events.Throughout H N (λ s plain. Sound H N s) b p es) (laws .sound))
 
-      printed-reads : All NoWrite qs
-          → traceOf H (N .m) (Paper.fresh (N .d) flash disk) es ≡ printedTrace (H .same) (N .m) (N .d) (contentOf H disk) (record { addresses = []; fingerprints = [] }) (Quiet.readsOf es)
+      printed-reads : All (λ q. NoWrite (callOf (N .B) q)) qs
+          → traceOf H N (Paper.fresh (N .d) flash disk) es
+          ≡ printedTrace (H .same) (N .m) (N .d) (contentOf H disk) (record { addresses = []; fingerprints = [] }) (Quiet.readsOf es)
       unfolding es flash disk
       printed-reads w =
           let f = fits N fits-numbers in
-          printed-quiet H disk (N .m) (N .d) (N .P) (f .m-least) (f .d-least) flash es (length-split (N .B) (N .d) (t .flash)) (length-split (N .B) (N .P) (t .disk)) (no-writes (opened N t) qs w) (events-within (opened N t) qs)
+          printed-quiet H disk N (f .m-least) (f .d-least) flash es (length-split (N .B) (N .d) (t .flash)) (length-split (N .B) (N .P) (t .disk))
+          (no-writes (opened N t) qs w) (events-within (opened N t) qs)
 
       demand-3-from : Demand3 N (opened N t) qs
       unfolding es first
       demand-3-from =
           record {
             numbers = numbers-are (opened N t) qs fits-numbers fresh-passes;
-            orphans = throughout (λ s plain. OrphanLaw H s) (opened N t) first qs (from-fresh (λ b p. Events.Throughout H (N .m) (λ s plain. OrphanLaw H s) b p es) (laws .orphans));
-            fingerprints = λ only. throughout (TrueFingerprints H) (opened N t) first qs (from-fresh (λ b p. Events.Throughout H (N .m) (TrueFingerprints H) b p es) (laws .fingerprints (premise only)));
-            blocks = λ only. blocks-shown (opened N t) first qs (from-fresh (λ b p. boxBlocks H (N .m) b es ≡ plainBlocks (H .blank) p es) (laws .blocks (premise only)));
-            flushes = λ only. flushes-whole (opened N t) first qs (from-fresh (λ b p. Events.FlushesWhole H (N .m) b p es) (laws .flushes (premise only)));
-            printed = λ w. same-seen (opened N t) qs ∙ from-fresh (λ b p. traceOf H (N .m) b es ≡ printedTrace (H .same) (N .m) (N .d) (contentOf H p) (record { addresses = []; fingerprints = [] }) (Quiet.readsOf es)) (printed-reads w)
+            orphans = throughout (λ s plain. OrphanLaw H s) (opened N t) first qs
+                (from-fresh (λ b p. Events.Throughout H N (λ s plain. OrphanLaw H s) b p es) (laws .orphans));
+            fingerprints = λ only. throughout (TrueFingerprints H) (opened N t) first qs
+                (from-fresh (λ b p. Events.Throughout H N (TrueFingerprints H) b p es) (laws .fingerprints (premise only)));
+            blocks = λ only. blocks-shown (opened N t) first qs
+                (from-fresh (λ b p. boxBlocks H N b es ≡ plainBlocks (H .blank) p es) (laws .blocks (premise only)));
+            flushes = λ only. flushes-whole (opened N t) first qs (from-fresh (λ b p. Events.FlushesWhole H N b p es) (laws .flushes (premise only)));
+            printed = λ w. same-seen (opened N t) qs
+                ∙ from-fresh (λ b p. traceOf H N b es
+                ≡ printedTrace (H .same) (N .m) (N .d) (contentOf H p) (record { addresses = []; fingerprints = [] }) (Quiet.readsOf es)) (printed-reads w)
                 ∙ ap (printedTrace (H .same) (N .m) (N .d) (contentOf H first) (record { addresses = []; fingerprints = [] })) (sym (same-reads (opened N t) qs));
           }
 

@@ -12,7 +12,8 @@ use lib.Seq.{getD-set-same, getD-set-other}
 use borrow.Author.Tests.{eqb-false}
 use Rattle.tables.specs.Records.{slotsFrom}
 use Rattle.paper.specs.Keyed.{has, without}
-use Rattle.paper.specs.Cache.{Hashing, AddressRow, BlockRow, Box, RowOut, BlockRows, Request, newest, blockRow, withoutAddress, cached, withoutBlock, slotOf, blockOf, cleaned, copied, isLost, step, step1, step3, step4, freed, stored}
+use Rattle.paper.specs.Cache.{Numbers, Hashing, AddressRow, BlockRow, Box, RowOut, BlockRows, Request, newest, blockRow, withoutAddress, cached}
+use Rattle.paper.specs.Cache.{withoutBlock, slotOf, blockOf, cleaned, copied, isLost, step, step1, step3, step4, freed, stored}
 use Rattle.paper.specs.KeyedLaws.{by-test, either, clash, or-cases, or-left, or-right, or-both, or-false-left, or-false-right, and-left, and-right, eqb→≡, eqb-self, All, Distinct, all-right, all-of-map, all-append, all-map, all-without, all-both, all-perm}
 use Rattle.paper.specs.Cases.{by-step1, by-step3, by-step4}
 use Rattle.paper.specs.Sound.{Sound, DirtyCached, perm-take, chosen-slot, all-cleaned, sound-step1, sound-step3, some-slot}
@@ -205,9 +206,10 @@ module _ {F X : Type 0} (H : Hashing F X) (In : X → Type 0) (only : (b c : X) 
   row-block P plain used flash r pi pl b t rt c =
       cached-block (r .fingerprint) (at H plain (r .address)) used flash t c rt (all-at In plain (r .address) (H .blank) pi (subst (λ n. r .address < n) (sym pl) b))
 
-  faithful-step1 : (m d P : ℕ) (plain : List X) (s : Box F X) (a : ℕ) → Sound H m d P s → FaithfulBut H In a P plain s → OutTrue H In a plain s (step1 H m s a)
-  faithful-step1 m d P plain s a h f =
-      by-step1 H m s a (OutTrue H In a plain s)
+  faithful-step1 : (N : Numbers) (plain : List X) (s : Box F X) (a : ℕ) → Sound H N s → FaithfulBut H In a (N .P) plain s
+      → OutTrue H In a plain s (step1 H (N .m) s a)
+  faithful-step1 N plain s a h f =
+      by-step1 H (N .m) s a (OutTrue H In a plain s)
       (λ e. record {
         rowsTrue = all-map (λ r. (eqb a (r .address) ≡ false → RowTrue H In plain r) × (eqb a (r .address) ≡ false)) (RowTrue H In plain) (λ r y. y .0 (y .1)) (withoutAddress a (s .rows))
             (all-without-strict eqb (λ r. r .address) (λ r. eqb a (r .address) ≡ false → RowTrue H In plain r) a (s .rows) (f .rowsTrue));
@@ -217,13 +219,19 @@ module _ {F X : Type 0} (H : Hashing F X) (In : X → Type 0) (only : (b c : X) 
       (λ e r rs p n.
       let no : All (λ r. eqb a (r .address) ≡ false) (r ∷ rs) = all-absent eqb (λ r. r .address) a (r ∷ rs) (rw p at e) in
       let rt : All (λ r. eqb a (r .address) ≡ false → RowTrue H In plain r) (r ∷ rs) = rw p at (f .rowsTrue) in
-      let bl : All (λ r. r .address < P) (r ∷ rs) = rw p at (h .below) in
+      let bl : All (λ r. r .address < N .P) (r ∷ rs) = rw p at (h .below) in
       let dc : All (DirtyCached H (s .used)) (r ∷ rs) = rw p at (h .dirtyCached) in
       record {
         rowsTrue = all-map (λ r. (eqb a (r .address) ≡ false → RowTrue H In plain r) × (eqb a (r .address) ≡ false)) (RowTrue H In plain) (λ r y. y .0 (y .1)) rs
             (all-both (λ r. eqb a (r .address) ≡ false → RowTrue H In plain r) (λ r. eqb a (r .address) ≡ false) rs (rt .1) (no .1));
-        current = λ x nx dy. copied-good H any (r ∷ []) (s .used) (s .flash) (s .disk) plain P x (h .diskLength)
-            ((λ y. (row-block P plain (s .used) (s .flash) r (f .plainIn) (f .plainLength) (bl .0) (f .blocksTrue) (rt .0 (no .0)) (dc .0 (and-left (r .dirty) true y)), bl .0)), tt)
+        current = λ x nx dy. copied-good H any (r ∷ []) (s .used) (s .flash) (s .disk) plain (N .P) x (h .diskLength) (
+          (λ y. (
+            row-block (N .P) plain (s .used) (s .flash) r (f .plainIn) (f .plainLength) (bl .0) (f .blocksTrue) (rt .0 (no .0))
+                (dc .0 (and-left (r .dirty) true y)),
+            bl .0,
+          )),
+          tt,
+        )
             (by-test (eqb x (r .address) && (r .dirty && true))
             (λ y. inr (or-left (eqb x (r .address) && (r .dirty && true)) false y))
             (λ y. inl (f .current x nx (rw p (or-both (eqb x (r .address) && (r .dirty && true)) (dirtyAt any x rs) y dy)))));
@@ -302,25 +310,27 @@ module _ {F X : Type 0} (H : Hashing F X) (In : X → Type 0) (only : (b c : X) 
       })
       (λ p q. absurd (some-slot H d free used d1 sl p q))
 
-  pub faithful-step : (m d P : ℕ) (plain : List X) (s : Box F X) (q : Request F X) → Sound H m d P s → FaithfulBut H In (q .address) P plain s → 1 ≤ m → 1 ≤ d → q .address < P
+  pub faithful-step : (N : Numbers) (plain : List X) (s : Box F X) (q : Request F X) → Sound H N s → FaithfulBut H In (q .address) (N .P) plain s → 1 ≤ N .m
+      → 1 ≤ N .d → q .address < N .P
       → q .fingerprint ≡ H .hash (q .block) → In (q .block) → q .block ≡ at H plain (q .address) → (q .dirty ≡ false → at H (s .disk) (q .address) ≡ at H plain (q .address))
-      → Faithful H In P plain ((step H m s q) .box)
+      → Faithful H In (N .P) plain ((step H (N .m) s q) .box)
   unfolding step
-  faithful-step m d P plain s q h f m1 d1 ap ge bi be cl =
+  faithful-step N plain s q h f m1 d1 ap ge bi be cl =
       let a = q .address in
       let g = q .fingerprint in
-      let o = step1 H m s a in
+      let o = step1 H (N .m) s a in
       let new = newest a g (q .dirty) in
       let rows = o .rows ++ (new ∷ []) in
-      let out = sound-step1 H m d P s a h m1 in
-      let ot = faithful-step1 m d P plain s a h f in
+      let out = sound-step1 H N s a h m1 in
+      let ot = faithful-step1 N plain s a h f in
       let t = step3 H (o .gone) (o .rows) rows (record { free = s .free; used = s .used }) in
       let dirty : All (λ r. r .dirty ≡ true → (cached H (r .fingerprint) (s .used) ≡ true) ⊎ (r .fingerprint ≡ g)) rows
       = all-append (λ r. r .dirty ≡ true → (cached H (r .fingerprint) (s .used) ≡ true) ⊎ (r .fingerprint ≡ g)) (o .rows) (new ∷ [])
       (all-map (DirtyCached H (s .used)) (λ r. r .dirty ≡ true → (cached H (r .fingerprint) (s .used) ≡ true) ⊎ (r .fingerprint ≡ g)) (λ r y e. inl (y e)) (o .rows) (out .dirtyCached))
       ((λ e. inr refl), tt) in
-      let bs = sound-step3 H d (o .gone) (o .rows) rows (record { free = s .free; used = s .used }) g (record { fingerprints = h .fingerprints; slots = h .slots; dirtyCached = dirty }) in
-      faithful-step4 d P plain rows (t .free) (t .used) (s .flash) (o .disk) g (q .block) (o .primary)
+      let bs = sound-step3 H (N .d) (o .gone) (o .rows) rows (record { free = s .free; used = s .used }) g
+      (record { fingerprints = h .fingerprints; slots = h .slots; dirtyCached = dirty }) in
+      faithful-step4 (N .d) (N .P) plain rows (t .free) (t .used) (s .flash) (o .disk) g (q .block) (o .primary)
       (all-append (RowTrue H In plain) (o .rows) (new ∷ []) (ot .rowsTrue) (ge ∙ ap′ be, tt))
       (faithful-step3 (o .gone) (o .rows) rows (record { free = s .free; used = s .used }) (s .flash) (f .blocksTrue))
       (f .plainIn) (f .plainLength)
@@ -333,7 +343,7 @@ module _ {F X : Type 0} (H : Hashing F X) (In : X → Type 0) (only : (b c : X) 
       (λ z. either (and-false-cases (q .dirty) true z) (λ k. k) (λ k. absurd (true≢false k))))))
       (λ y. ot .current x y (n .0)))
       ge bi
-      (all-append (λ r. r .address < P) (o .rows) (new ∷ []) (out .below) (ap, tt))
+      (all-append (λ r. r .address < N .P) (o .rows) (new ∷ []) (out .below) (ap, tt))
       (out .diskLength) (h .flashLength) d1 (bs .slots) (bs .fingerprints)
     where
       ap′ : {b c : X} → b ≡ c → H .hash b ≡ H .hash c

@@ -6,7 +6,9 @@ use mathlib.Core.Option.{Option, none, some}
 use Prim.Native.Nat.{ℕ, _≤_, _<_, _+_}
 use native.Mathlib.Omega.{arith}
 use lib.ListN.{length, getD}
-use Rattle.paper.specs.Cache.{Hashing, AddressRow, Box, BlockRows, Stepped, Request, Outcome, Word, newest, copies, isLost, step, step1, step3, step4, stored, Call, read, through, back, invalidate, look, flush, onDisk, rowWithBlock, answer, readAs, writeThrough, writeBack, writeInvalidate, lookAs, flushed, serve, oneIf, isHit, sameOrNew, blockOf, hit, miss}
+use Rattle.paper.specs.Cache.{Numbers, Hashing, AddressRow, Box, BlockRows, Stepped, Request, Outcome, Word, newest, copies, isLost, step, step1, step3}
+use Rattle.paper.specs.Cache.{step4, stored, Call, read, through, back, invalidate, look, flush, onDisk, rowWithBlock, answer, readAs, writeThrough}
+use Rattle.paper.specs.Cache.{writeBack, writeInvalidate, lookAs, flushed, serve, oneIf, isHit, sameOrNew, blockOf, hit, miss}
 use Rattle.paper.specs.KeyedLaws.{by-test}
 use Rattle.paper.specs.Cases.{by-step1, by-step4}
 use Rattle.paper.specs.Sound.{Sound, sound-step1, sound-onDisk}
@@ -43,14 +45,14 @@ module _ {F X : Type 0} (H : Hashing F X) where
       (λ c p u ch. (omega arith, omega (arith, h (isLost H (some (u .fingerprint))))))
       (λ p q. (omega arith, omega (arith, h (isLost H none))))
 
-  step-few : (m d P : ℕ) (s : Box F X) (q : Request F X) → Sound H m d P s → 1 ≤ m → Few (m + oneIf (q .dirty)) (step H m s q)
+  step-few : (N : Numbers) (s : Box F X) (q : Request F X) → Sound H N s → 1 ≤ N .m → Few (N .m + oneIf (q .dirty)) (step H (N .m) s q)
   unfolding step
-  step-few m d P s q h m1 =
-      let o = step1 H m s (q .address) in
+  step-few N s q h m1 =
+      let o = step1 H (N .m) s (q .address) in
       let rows = o .rows ++ (newest (q .address) (q .fingerprint) (q .dirty) ∷ []) in
       let bs = step3 H (o .gone) (o .rows) rows (record { free = s .free; used = s .used }) in
-      let short : length (o .rows) < m = (sound-step1 H m d P s (q .address) h m1) .few in
-      let p : o .primary ≤ 1 = primary-out m s (q .address) in
+      let short : length (o .rows) < N .m = (sound-step1 H N s (q .address) h m1) .few in
+      let p : o .primary ≤ 1 = primary-out (N .m) s (q .address) in
       let f = step4-few rows bs (s .flash) (o .disk) (q .fingerprint) (q .block) (o .primary) (length (o .rows) + oneIf (q .dirty))
       (λ c. copies-newest c (q .address) (q .fingerprint) (q .dirty) (o .rows)) in
       let f₁ = f .1 in
@@ -64,37 +66,39 @@ module _ {F X : Type 0} (H : Hashing F X) where
   unfolding answer
   answer-few w b more n k t f h = let f₁ = f .1 in (f .0, omega arith)
 
-  pub serve-few : (m d P : ℕ) (s : Box F X) (c : Call X) → Sound H m d P s → 1 ≤ m → FewBy (m + 1) (serve H m s c)
+  pub serve-few : (N : Numbers) (s : Box F X) (c : Call X) → Sound H N s → 1 ≤ N .m → FewBy (N .m + 1) (serve H N s c)
   unfolding serve readAs writeThrough writeBack writeInvalidate lookAs flushed
-  serve-few m d P s (read a) h m1 = go (rowWithBlock H s a)
+  serve-few N s (read a) h m1 = go (rowWithBlock H s a)
     where
-      go : (o : Option (AddressRow F)) → FewBy (m + 1) (readAs H m s a o)
+      go : (o : Option (AddressRow F)) → FewBy (N .m + 1) (readAs H (N .m) s a o)
       go (some r) =
           let b = blockOf H (r .fingerprint) (s .used) (s .flash) in
           let q : Request F X = record { address = a; fingerprint = r .fingerprint; block = b; dirty = r .dirty } in
-          answer-few hit (some b) 0 (m + oneIf (r .dirty)) (m + 1) (step H m s q) (step-few m d P s q h m1) (omega (arith, one-if-le (r .dirty)))
+          answer-few hit (some b) 0 (N .m + oneIf (r .dirty)) (N .m + 1) (step H (N .m) s q) (step-few N s q h m1) (omega (arith, one-if-le (r .dirty)))
       go none =
           let b = getD (s .disk) a (H .blank) in
           let q : Request F X = record { address = a; fingerprint = H .hash b; block = b; dirty = false } in
-          answer-few miss (some b) 0 (m + 0) (m + 1) (step H m s q) (step-few m d P s q h m1) (omega arith)
-  serve-few m d P s (through a b) h m1 =
+          answer-few miss (some b) 0 (N .m + 0) (N .m + 1) (step H (N .m) s q) (step-few N s q h m1) (omega arith)
+  serve-few N s (through a b) h m1 =
       let q : Request F X = record { address = a; fingerprint = H .hash b; block = b; dirty = false } in
-      answer-few (sameOrNew H s b) none 1 (m + 0) (m + 1) (step H m (onDisk H s a b) q) (step-few m d P (onDisk H s a b) q (sound-onDisk H m d P s a b h) m1) (omega arith)
-  serve-few m d P s (back a b) h m1 =
+      answer-few (sameOrNew H s b) none 1 (N .m + 0) (N .m + 1) (step H (N .m) (onDisk H s a b) q)
+      (step-few N (onDisk H s a b) q (sound-onDisk H N s a b h) m1) (omega arith)
+  serve-few N s (back a b) h m1 =
       let q : Request F X = record { address = a; fingerprint = H .hash b; block = b; dirty = true } in
-      answer-few (sameOrNew H s b) none 0 (m + 1) (m + 1) (step H m s q) (step-few m d P s q h m1) (omega arith)
-  serve-few m d P s (invalidate a b) h m1 = (omega arith, omega arith)
-  serve-few m d P s (look a) h m1 = go (rowWithBlock H s a)
+      answer-few (sameOrNew H s b) none 0 (N .m + 1) (N .m + 1) (step H (N .m) s q) (step-few N s q h m1) (omega arith)
+  serve-few N s (invalidate a b) h m1 = (omega arith, omega arith)
+  serve-few N s (look a) h m1 = go (rowWithBlock H s a)
     where
-      go : (o : Option (AddressRow F)) → FewBy (m + 1) (lookAs H s a o)
+      go : (o : Option (AddressRow F)) → FewBy (N .m + 1) (lookAs H s a o)
       go (some r) = (omega arith, omega arith)
       go none = (omega arith, omega arith)
-  serve-few m d P s flush h m1 = let few = h .few in (omega arith, omega (arith, copies-le (λ f. true) (s .rows)))
+  serve-few N s flush h m1 = let few = h .few in (omega arith, omega (arith, copies-le (λ f. true) (s .rows)))
 
   -- a look adds nothing
-  pub look-nothing : (m : ℕ) (s : Box F X) (a : ℕ) → let o = serve H m s (look a) in (isHit (o .word) ≡ false) × (o .flashWrites ≡ 0) × (o .primaryWrites ≡ 0)
+  pub look-nothing : (N : Numbers) (s : Box F X) (a : ℕ)
+      → let o = serve H N s (look a) in (isHit (o .word) ≡ false) × (o .flashWrites ≡ 0) × (o .primaryWrites ≡ 0)
   unfolding serve lookAs
-  look-nothing m s a = go (rowWithBlock H s a)
+  look-nothing N s a = go (rowWithBlock H s a)
     where
       go : (o : Option (AddressRow F)) → let y = lookAs H s a o in (isHit (y .word) ≡ false) × (y .flashWrites ≡ 0) × (y .primaryWrites ≡ 0)
       go (some r) = (refl, refl, refl)

@@ -4,10 +4,10 @@ use mathlib.Core.List.{List, _++_, map}
 use Prim.Native.Nat.{ℕ, _≤_, _<_, _+_}
 use lib.ListN.{length}
 use Rattle.tables.specs.Records.{addressTable, blockTable, freeRow}
-use Rattle.paper.specs.Cache.{AddressRow, BlockRow, Box, Counters}
+use Rattle.paper.specs.Cache.{Numbers, AddressRow, BlockRow, Box, Counters}
 use Rattle.paper.specs.KeyedLaws.{All}
 use Rattle.paper.specs.Engine.{Fixed, engine}
-use Rattle.paper.specs.Lent.{Numbers, Lent, join, heldRow, usedRow, lentOf, boxIn}
+use Rattle.paper.specs.Lent.{Lent, join, heldRow, usedRow, lentOf, boxIn}
 use Rattle.paper.specs.Sound.{Sound}
 use Rattle.paper.specs.RowBytes.{Bytes}
 use Rattle.paper.specs.LentLaws.{free-below, used-below, block-count, Passes, passes-sound}
@@ -45,7 +45,7 @@ pub record Parts (B c : ℕ) (t : List ℕ) (bs : List (Fixed B)) : Type 0 where
   pub is : t ≡ join bs
 
 -- what a sound box writes is so
-module _ (N : Numbers) (s : Box (Fixed 32) (Fixed (N .B))) (k : Counters) (h : Sound (engine (N .B)) (N .m) (N .d) (N .P) s) where
+module _ (N : Numbers) (s : Box (Fixed 32) (Fixed (N .B))) (k : Counters) (h : Sound (engine (N .B)) N s) where
   pub sound-addrs : N .P ≤ 65536 → Addrs (N .P) (N .m) ((lentOf N s k) .n) ((lentOf N s k) .addresses) (s .rows)
   unfolding lentOf addressesOf
   sound-addrs P1 = record { count = refl; few = h .few; below = h .below; small = P1; is = refl }
@@ -67,7 +67,7 @@ module _ (N : Numbers) (t : Lent) (p : Passes N t) (bytesA : Bytes (t .addresses
   written : lentOf N (boxIn N t) (t .counters) ≡ t
   written = lent-forth N t (p .lengths) bytesA bytesB (p .addresses) (p .blocks)
 
-  sound : Sound (engine (N .B)) (N .m) (N .d) (N .P) (boxIn N t)
+  sound : Sound (engine (N .B)) N (boxIn N t)
   sound = passes-sound N t p
 
   pub passes-addrs : N .P ≤ 65536 → Addrs (N .P) (N .m) (t .n) (t .addresses) ((boxIn N t) .rows)

@@ -2,23 +2,16 @@
 -- Assumes nothing.
 use mathlib.Core.Bool.{Bool, true, false, not, _&&_, _||_, cond}
 use mathlib.Core.List.{List, [], _∷_, _++_, map}
-use mathlib.Core.Option.{Option, none, some}
+use mathlib.Core.Option.{Option, none, some, Option·map}
 use Prim.Native.Nat.{ℕ, zero, suc, _*_, _^_}
 use lib.Dec.{eqb, leb, ltb}
 use lib.ListN.{length, drop}
 use Rattle.tables.specs.Records as Table
 use Rattle.tables.specs.Records.{addressTable, heldRows, blockTable, blockRows, freeRow, freshAddresses, freshBlocks}
 use Rattle.tables.specs.Unsound.{elem, addressesUnsound, blocksUnsound, dirtyUncached}
-use Rattle.paper.specs.Cache.{AddressRow, BlockRow, Box, Call, Word, Counters, noCounts, counted, serve}
+use Rattle.paper.specs.Cache.{Numbers, AddressRow, BlockRow, Box, Call, About, about, Word, Counters, noCounts, counted, serve}
 use Rattle.paper.specs.Engine.{Fixed, fit, engine}
 use Rattle.tables.specs.Rows.{tableBytes}
-
--- "B is the block size in bytes .. P is the number of disk blocks .. m is the most addresses held .. d is the number of cached blocks"
-pub record Numbers : Type 0 where
-  pub B : ℕ
-  pub P : ℕ
-  pub m : ℕ
-  pub d : ℕ
 
 -- What is lent and passes from call to call: "n is the number of addresses held now", "disk (P × B bytes), flash (d × B), address table
 -- (m × 40), block table (d × 40) .. and the counters record". The box record is the four numbers and n.
@@ -95,23 +88,25 @@ pub data Asked : Type 0 where
   opening : Asked
   calling : Ask → Asked
 
--- the call on paper
+-- the call on paper, its block made of the bytes lent to it
+abbrev pub callWith : {X : Type 0} → (List ℕ → X) → Ask → Call X
+callWith f (read a l) = Call.read a
+callWith f (through a l) = Call.through a (f l)
+callWith f (back a l) = Call.back a (f l)
+callWith f (invalidate a l) = Call.invalidate a (f l)
+callWith f (look a) = Call.look a
+callWith f flush = Call.flush
+
 unfoldable pub callOf : (B : ℕ) → Ask → Call (Fixed B)
-callOf B (read a l) = Call.read a
-callOf B (through a l) = Call.through a (fit B l)
-callOf B (back a l) = Call.back a (fit B l)
-callOf B (invalidate a l) = Call.invalidate a (fit B l)
-callOf B (look a) = Call.look a
-callOf B flush = Call.flush
+callOf B q = callWith (fit B) q
+
+-- what is asked, the block being the bytes as they are lent
+abbrev pub aboutAsk : Ask → About (List ℕ)
+aboutAsk q = about (callWith (λ l. l) q)
 
 -- the address that is asked for; a flush has none
 abbrev pub addressOf : Ask → Option ℕ
-addressOf (read a l) = some a
-addressOf (through a l) = some a
-addressOf (back a l) = some a
-addressOf (invalidate a l) = some a
-addressOf (look a) = some a
-addressOf flush = none
+addressOf q = aboutAsk q .address
 
 -- the block lent to it
 abbrev pub lentBlock : Ask → Option (List ℕ)
@@ -158,12 +153,7 @@ unfoldable pub over : Counters → Bool
 over k = ltb (2 ^ 63) (k .reads) || ltb (2 ^ 63) (k .hits) || ltb (2 ^ 63) (k .flashWrites) || ltb (2 ^ 63) (k .primaryWrites)
 
 abbrev pub counts : Ask → Bool
-counts (read a l) = true
-counts (through a l) = true
-counts (back a l) = true
-counts (invalidate a l) = true
-counts (look a) = false
-counts flush = true
+counts q = aboutAsk q .counts
 
 -- "Checked in the order 1, 2, 3, 6, 7, 8, 9, the first that applies. Flush has no 3, look no 9, opening only 1 and 2."
 -- The number of a refusal, 0 where the call is served.
@@ -190,29 +180,22 @@ pub record After : Type 0 where
   pub block : Option (List ℕ)
   pub part : List ℕ
 
--- "the answer is copied into the lent block"; a look returns it as its part
+-- the bytes of an answer, those given where there is none
+abbrev pub bytesOr : {B : ℕ} → List ℕ → Option (Fixed B) → List ℕ
+bytesOr l none = l
+bytesOr l (some b) = b .0
+
+-- "Read a: .. the answer is copied into the lent block"; a look returns it as its part
 abbrev pub blockAfter : {B : ℕ} → Ask → Option (Fixed B) → Option (List ℕ)
-blockAfter (read a l) (some b) = some (b .0)
-blockAfter (read a l) none = some l
-blockAfter (through a l) b = some l
-blockAfter (back a l) b = some l
-blockAfter (invalidate a l) b = some l
-blockAfter (look a) b = none
-blockAfter flush b = none
+blockAfter q b = Option·map (λ l. cond (aboutAsk q .reads) (bytesOr l b) l) (lentBlock q)
 
 abbrev pub partAfter : {B : ℕ} → Ask → Option (Fixed B) → List ℕ
-partAfter (look a) (some b) = b .0
-partAfter (look a) none = []
-partAfter (read a l) b = []
-partAfter (through a l) b = []
-partAfter (back a l) b = []
-partAfter (invalidate a l) b = []
-partAfter flush b = []
+partAfter q b = cond (aboutAsk q .returns && not (aboutAsk q .reads)) (bytesOr [] b) []
 
 -- a call that is served: the paper's call on the box in the lent bytes, written down again
 unfoldable pub served : (N : Numbers) → Lent → Ask → After
 served N t q =
-    let o = serve (engine (N .B)) (N .m) (boxIn N t) (callOf (N .B) q) in
+    let o = serve (engine (N .B)) N (boxIn N t) (callOf (N .B) q) in
     record {
       answer = answered (o .word) (o .flashWrites) (o .primaryWrites);
       lent = lentOf N (o .box) (counted (t .counters) (callOf (N .B) q) o);

@@ -17,11 +17,12 @@ use Rattle.tables.specs.Index.{rowOk}
 use Rattle.tables.specs.RowLaws.{rows-length}
 use Rattle.tables.specs.RecordLaws.{zeros-all}
 use Rattle.tables.specs.OperationLaws.{Wide, wide-rows}
-use Rattle.tables.specs.Written.{low-byte, block-print-length}
-use Rattle.tables.specs.Promises.{addresses-back, blocks-back}
+use Rattle.table_laws.specs.Written.{low-byte, block-print-length}
+use Rattle.table_laws.specs.Promises.{addresses-back, blocks-back}
 use Rattle.paper.specs.KeyedLaws.{by-test, and-left, and-right}
 use Rattle.paper.specs.Engine.{fit}
-use Rattle.paper.specs.Lent.{Numbers, Lent, bit, heldRow, usedRow, asHeld, freeSlots, usedRows, boxIn, lentOf}
+use Rattle.paper.specs.Cache.{Numbers}
+use Rattle.paper.specs.Lent.{Lent, bit, heldRow, usedRow, asHeld, freeSlots, usedRows, boxIn, lentOf}
 use Rattle.paper.specs.Parts.{join-split}
 use Rattle.paper.specs.RowBytes.{Bytes, bytes-at}
 use Rattle.paper.specs.SoundTests.{addresses-good, blocks-good, print-is, held-print-is}

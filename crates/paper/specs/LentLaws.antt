@@ -17,17 +17,17 @@ use Rattle.tables.specs.Index.{rowOk, dirtyOk}
 use Rattle.tables.specs.RowLaws.{rows-length}
 use Rattle.tables.specs.ShiftLaws.{length-zeros}
 use Rattle.tables.specs.OperationLaws.{Wide, wide-rows, addr-forth}
-use Rattle.tables.specs.Checked.{dirty-checked}
-use Rattle.tables.specs.KeptLists.{both, zeros-zero}
-use Rattle.tables.specs.KeptAddresses.{addressOk-of}
-use Rattle.paper.specs.Cache.{AddressRow, BlockRow, Box, Counters}
+use Rattle.table_laws.specs.Checked.{dirty-checked}
+use Rattle.table_laws.specs.KeptLists.{both, zeros-zero}
+use Rattle.table_laws.specs.KeptAddresses.{addressOk-of}
+use Rattle.paper.specs.Cache.{Numbers, AddressRow, BlockRow, Box, Counters}
 use Rattle.paper.specs.KeyedLaws.{All, all-map, all-of-map, all-left, all-right, all-perm, or-false-left, or-false-right}
 use Rattle.paper.specs.Engine.{Fixed, fixed-≡, fit, engine}
-use Rattle.paper.specs.Lent.{Numbers, Lent, bit, heldRow, usedRow, asHeld, freeSlots, usedRows, boxIn, lentOf, otherLength, wrongBuffers}
+use Rattle.paper.specs.Lent.{Lent, bit, heldRow, usedRow, asHeld, freeSlots, usedRows, boxIn, lentOf, otherLength, wrongBuffers}
 use Rattle.paper.specs.Sound.{Sound, length-perm, length-slotsFrom}
 use Rattle.paper.specs.Faithful.{slots-below-0}
 use Rattle.paper.specs.Parts.{length-split, length-join, split-join}
-use Rattle.tables.specs.Written.{address-wide, block-wide, block-used, block-read, block-passes, held-rows, held-rest, held-length, block-rows, blocks-length}
+use Rattle.table_laws.specs.Written.{address-wide, block-wide, block-used, block-read, block-passes, held-rows, held-rest, held-length, block-rows, blocks-length}
 use Rattle.paper.specs.SoundTests.{addresses-good, good-addresses, blocks-good, good-blocks, addresses-below, addresses-apart, addresses-once, fit-is, used-apart, used-once, slots-each, each-slots, dirty-cached, cached-dirty}
 
 -- a row of the paper as a row of the tables and back
@@ -163,7 +163,7 @@ pub record Passes (N : Numbers) (t : Lent) : Type 0 where
   pub blocks : blocksUnsound (N .d) (t .blocks) ≡ false
   pub dirty : dirtyUncached (t .n) (N .d) (t .addresses) (t .blocks) ≡ false
 
-pub passes-sound : (N : Numbers) (t : Lent) → Passes N t → Sound (engine (N .B)) (N .m) (N .d) (N .P) (boxIn N t)
+pub passes-sound : (N : Numbers) (t : Lent) → Passes N t → Sound (engine (N .B)) N (boxIn N t)
 unfolding boxIn heldRows blockRows
 passes-sound N t p =
     let l = p .lengths in
@@ -188,7 +188,7 @@ passes-sound N t p =
     }
 
 -- what a sound box writes
-module _ (N : Numbers) (s : Box (Fixed 32) (Fixed (N .B))) (h : Sound (engine (N .B)) (N .m) (N .d) (N .P) s) where
+module _ (N : Numbers) (s : Box (Fixed 32) (Fixed (N .B))) (h : Sound (engine (N .B)) N s) where
   slots-below : All (λ k. k < N .d) (s .free ++ map (λ u. u .slot) (s .used))
   slots-below = all-perm (λ k. k < N .d) (Permᴰ·symm (h .slots)) (slots-below-0 (N .d))
 
@@ -229,7 +229,7 @@ module _ (N : Numbers) (s : Box (Fixed 32) (Fixed (N .B))) (h : Sound (engine (N
         let di = split-join (N .B) (N .P) (s .disk) (h .diskLength) in
         λ i. record { rows = r i; free = f i; used = u i; flash = fl i; disk = di i }
 
-    sound-again : Sound (engine (N .B)) (N .m) (N .d) (N .P) (boxIn N (lentOf N s k))
+    sound-again : Sound (engine (N .B)) N (boxIn N (lentOf N s k))
     sound-again = rw lent-back h
 
     -- no sound box gets 6, 7 or 8

@@ -3,30 +3,26 @@
 use mathlib.Core.Path.{_≡_}
 use mathlib.Core.Bool.{Bool, false, not, _&&_, _||_, cond}
 use mathlib.Core.List.{List, [], _∷_, _++_, map, List·Memᴰ}
-use mathlib.Core.Option.{Option, none, some}
+use mathlib.Core.Option.{Option, none, some, Option·map}
 use Prim.Native.Nat.{ℕ}
 use lib.Dec.{eqb}
 use lib.ListN.{length, getD, set, drop}
 use Rattle.paper.specs.Keyed.{has, without}
 use Rattle.paper.specs.KeyedLaws.{All}
-use Rattle.paper.specs.Cache.{Hashing, AddressRow, BlockRow, Box, Call, read, through, back, invalidate, look, flush, Word, hit, miss, someUncached, known}
+use Rattle.paper.specs.Cache.{Hashing, AddressRow, BlockRow, Box, Call, about, before, Word, hit, miss, someUncached, known}
 
--- Plain disk: "A read or look answers block a. Each write replaces block a by the block lent to it. A flush does nothing"
-unfoldable pub plainNext : {X : Type 0} → List X → Call X → List X
-plainNext disk (read a) = disk
-plainNext disk (look a) = disk
-plainNext disk flush = disk
-plainNext disk (through a b) = set disk a b
-plainNext disk (back a b) = set disk a b
-plainNext disk (invalidate a b) = set disk a b
+-- Plain disk: "Each write replaces block a by the block lent to it. A flush does nothing"
+abbrev pub replaced : {X : Type 0} → List X → Option ℕ → Option X → List X
+replaced disk a none = disk
+replaced disk none (some b) = disk
+replaced disk (some a) (some b) = set disk a b
 
-unfoldable pub plainBlock : {X : Type 0} → X → List X → Call X → Option X
-plainBlock blank disk (read a) = some (getD disk a blank)
-plainBlock blank disk (look a) = some (getD disk a blank)
-plainBlock blank disk flush = none
-plainBlock blank disk (through a b) = none
-plainBlock blank disk (back a b) = none
-plainBlock blank disk (invalidate a b) = none
+abbrev pub plainNext : {X : Type 0} → List X → Call X → List X
+plainNext disk c = replaced disk (about c .address) (about c .written)
+
+-- "A read or look answers block a."
+abbrev pub plainBlock : {X : Type 0} → X → List X → Call X → Option X
+plainBlock blank disk c = cond (about c .returns) (Option·map (λ a. getD disk a blank) (about c .address)) none
 
 -- Printed D-LRU: "It has two lists, empty at first, oldest first, of at most m addresses and d fingerprints. A request puts its address,
 -- then its content's fingerprint, as newest in its list. One present already is moved; into a full list it comes after the oldest has left."
@@ -49,13 +45,12 @@ unfoldable pub printedHit : {F : Type 0} (same : F → F → Bool) (content : �
 printedHit same content p a = has eqb (λ x. x) a (p .addresses) && has same (λ x. x) (content a) (p .fingerprints)
 
 -- "the blocks written are those lent to writes"
-unfoldable pub writtenBy : {X : Type 0} → Call X → List X
-writtenBy (read a) = []
-writtenBy (look a) = []
-writtenBy flush = []
-writtenBy (through a b) = b ∷ []
-writtenBy (back a b) = b ∷ []
-writtenBy (invalidate a b) = b ∷ []
+abbrev pub writtenBy : {X : Type 0} → Call X → List X
+writtenBy c = before (about c .written) []
+
+-- a call that writes no block: a read, a look or a flush
+abbrev pub NoWrite : {X : Type 0} → Call X → Type 0
+NoWrite c = about c .written ≡ none
 
 -- "it is fed the reads' addresses, which reads are refused"; "Compared after each read: held addresses in order, cached fingerprints in order
 -- and, unless it was refused, its hit or miss."
@@ -67,6 +62,10 @@ pub record Compared (F : Type 0) : Type 0 where
   pub held : List ℕ
   pub cached : List F
   pub answer : Option Word
+
+-- what a read of address a puts before a list, and no other call does
+abbrev pub ifRead : {X A : Type 0} → Call X → (ℕ → A) → List A → List A
+ifRead c f xs = cond (about c .reads) (before (Option·map f (about c .address)) xs) xs
 
 abbrev pub seenIn : {F X : Type 0} → Box F X → Option Word → Compared F
 seenIn s w = record { held = map (λ r. r .address) (s .rows); cached = map (λ u. u .fingerprint) (s .used); answer = w }

@@ -7,7 +7,9 @@ use mathlib.Core.Option.{Option, none, some, Option·map, Option·none-ne-some, 
 use Prim.Native.Nat.{ℕ, _≤_}
 use lib.Dec.{eqb}
 use lib.ListN.{length, getD}
-use Rattle.paper.specs.Cache.{Hashing, AddressRow, BlockRow, Box, BlockRows, rowOf, withoutAddress, known, cached, blockOf, cleaned, someUncached, Call, read, through, back, invalidate, look, flush, onDisk, rowWithBlock, answer, readAs, writeThrough, writeBack, dropped, writeInvalidate, lookAs, flushed, serve, fresh, freed}
+use Rattle.paper.specs.Cache.{Numbers, Hashing, AddressRow, BlockRow, Box, BlockRows, rowOf, withoutAddress, known, cached, blockOf, cleaned}
+use Rattle.paper.specs.Cache.{someUncached, Call, read, through, back, invalidate, look, flush, onDisk, rowWithBlock, answer, readAs, writeThrough}
+use Rattle.paper.specs.Cache.{writeBack, dropped, writeInvalidate, lookAs, flushed, serve, fresh, freed}
 use Rattle.paper.specs.KeyedLaws.{by-test, either, clash, or-left, or-right, or-both, eqb→≡, eqb-self, All, Distinct, has-without-other, has-without, has-without-self, lost-with}
 use Rattle.paper.specs.Machines.{someUnknown, OrphanLaw, plainNext}
 use Rattle.paper.specs.Events.{Event, Throughout}
@@ -61,14 +63,15 @@ module _ {F X : Type 0} (H : Hashing F X) where
   noWaste-flushed c rows used (inl l) = inl (λ f h. l f (sym (known-cleaned H c f rows) ∙ h))
   noWaste-flushed c rows used (inr l) = inr (λ f h. known-cleaned H c f rows ∙ l f h)
 
-  pub noWaste-serve : (m : ℕ) (s : Box F X) (c : Call X) → Distinct eqb (λ r. r .address) (s .rows) → NoWaste H (s .rows) (s .used) → NoWaste H ((serve H m s c) .box .rows) ((serve H m s c) .box .used)
+  pub noWaste-serve : (N : Numbers) (s : Box F X) (c : Call X) → Distinct eqb (λ r. r .address) (s .rows) → NoWaste H (s .rows) (s .used)
+      → NoWaste H ((serve H N s c) .box .rows) ((serve H N s c) .box .used)
   unfolding serve writeThrough writeBack answer flushed
-  noWaste-serve m s (read a) d l = noWaste-readAs m s a (rowWithBlock H s a) d l
-  noWaste-serve m s (look a) d l = noWaste-lookAs s a (rowWithBlock H s a) l
-  noWaste-serve m s (through a b) d l = noWaste-step H m (onDisk H s a b) (record { address = a; fingerprint = H .hash b; block = b; dirty = false }) d l
-  noWaste-serve m s (back a b) d l = noWaste-step H m s (record { address = a; fingerprint = H .hash b; block = b; dirty = true }) d l
-  noWaste-serve m s (invalidate a b) d l = noWaste-invalidate s a b d l
-  noWaste-serve m s flush d l = noWaste-flushed (λ f. true) (s .rows) (s .used) l
+  noWaste-serve N s (read a) d l = noWaste-readAs (N .m) s a (rowWithBlock H s a) d l
+  noWaste-serve N s (look a) d l = noWaste-lookAs s a (rowWithBlock H s a) l
+  noWaste-serve N s (through a b) d l = noWaste-step H (N .m) (onDisk H s a b) (record { address = a; fingerprint = H .hash b; block = b; dirty = false }) d l
+  noWaste-serve N s (back a b) d l = noWaste-step H (N .m) s (record { address = a; fingerprint = H .hash b; block = b; dirty = true }) d l
+  noWaste-serve N s (invalidate a b) d l = noWaste-invalidate s a b d l
+  noWaste-serve N s flush d l = noWaste-flushed (λ f. true) (s .rows) (s .used) l
 
   -- the law as the document states it: never both
   pub uncached-not : (rows : List (AddressRow F)) (used : List (BlockRow F)) → ((r : AddressRow F) → known H (r .fingerprint) rows ≡ true → cached H (r .fingerprint) used ≡ true) → someUncached H rows used ≡ false
@@ -89,19 +92,19 @@ module _ {F X : Type 0} (H : Hashing F X) where
   never-both rows used (inl l) = rw (uncached-not rows used (λ r h. l (r .fingerprint) h)) refl
   never-both rows used (inr l) = by-test (someUncached H rows used) (λ e. rw e (unknown-not rows used (λ u h. l (u .fingerprint) h))) (λ e. rw e refl)
 
-module _ {F X : Type 0} (H : Hashing F X) (m d P : ℕ) (m1 : 1 ≤ m) (d1 : 1 ≤ d) where
-  pub orphan-law : (s : Box F X) (plain : List X) (es : List (Event X)) → Sound H m d P s → NoWaste H (s .rows) (s .used) → All (ServedWithin P) es
-      → Throughout H m (λ s plain. Sound H m d P s × OrphanLaw H s) s plain es
+module _ {F X : Type 0} (H : Hashing F X) (N : Numbers) (m1 : 1 ≤ N .m) (d1 : 1 ≤ N .d) where
+  pub orphan-law : (s : Box F X) (plain : List X) (es : List (Event X)) → Sound H N s → NoWaste H (s .rows) (s .used) → All (ServedWithin (N .P)) es
+      → Throughout H N (λ s plain. Sound H N s × OrphanLaw H s) s plain es
   unfolding Throughout
   orphan-law s plain [] h l w = (h, never-both H (s .rows) (s .used) l)
   orphan-law s plain (e ∷ es) h l w =
-      let s′ = cond (e .refused) s ((serve H m s (e .call)) .box) in
+      let s′ = cond (e .refused) s ((serve H N s (e .call)) .box) in
       let plain′ = cond (e .refused) plain (plainNext plain (e .call)) in
-      let h′ : Sound H m d P s′ = by-test (e .refused) (λ r. rw r h) (λ r. rw r (sound-serve H m d P s (e .call) h m1 d1 (w .0 r))) in
-      let l′ : NoWaste H (s′ .rows) (s′ .used) = by-test (e .refused) (λ r. rw r l) (λ r. rw r (noWaste-serve H m s (e .call) (h .addresses) l)) in
+      let h′ : Sound H N s′ = by-test (e .refused) (λ r. rw r h) (λ r. rw r (sound-serve H N s (e .call) h m1 d1 (w .0 r))) in
+      let l′ : NoWaste H (s′ .rows) (s′ .used) = by-test (e .refused) (λ r. rw r l) (λ r. rw r (noWaste-serve H N s (e .call) (h .addresses) l)) in
       ((h, never-both H (s .rows) (s .used) l), orphan-law s′ plain′ es h′ l′ (w .1))
 
-  pub orphan-law-fresh : (flash disk : List X) (es : List (Event X)) → length flash ≡ d → length disk ≡ P → All (ServedWithin P) es
-      → Throughout H m (λ s plain. Sound H m d P s × OrphanLaw H s) (fresh d flash disk) disk es
+  pub orphan-law-fresh : (flash disk : List X) (es : List (Event X)) → length flash ≡ N .d → length disk ≡ N .P → All (ServedWithin (N .P)) es
+      → Throughout H N (λ s plain. Sound H N s × OrphanLaw H s) (fresh (N .d) flash disk) disk es
   orphan-law-fresh flash disk es fl dl w =
-      orphan-law (fresh d flash disk) disk es (rw dl at (sound-fresh H m d flash disk fl)) (inl (λ f h. absurd (false≢true h))) w
+      orphan-law (fresh (N .d) flash disk) disk es (sound-fresh H N flash disk fl dl) (inl (λ f h. absurd (false≢true h))) w

@@ -8,7 +8,9 @@ use Prim.Native.Nat.{ℕ, _≤_, _<_}
 use lib.Dec.{eqb}
 use lib.ListN.{set, length-set}
 use lib.Seq.{ext-getD}
-use Rattle.paper.specs.Cache.{Hashing, AddressRow, BlockRow, Box, BlockRows, held, rowOf, withoutAddress, known, cached, blockOf, copied, Call, read, through, back, invalidate, look, flush, Within, onDisk, rowWithBlock, ifCached, answer, readAs, writeThrough, writeBack, dropped, writeInvalidate, lookAs, flushed, serve, freed}
+use Rattle.paper.specs.Cache.{Numbers, Hashing, AddressRow, BlockRow, Box, BlockRows, held, rowOf, withoutAddress, known, cached, blockOf, copied, Call}
+use Rattle.paper.specs.Cache.{read, through, back, invalidate, look, flush, Within, onDisk, rowWithBlock, ifCached, answer, readAs, writeThrough}
+use Rattle.paper.specs.Cache.{writeBack, dropped, writeInvalidate, lookAs, flushed, serve, freed}
 use Rattle.paper.specs.KeyedLaws.{by-test, either, clash, or-both, or-false-left, or-false-right, and-left, eqb→≡, eqb-swap, All, Distinct, all-left, all-right, all-map, all-without, all-both, find-some, find-none}
 use Rattle.paper.specs.Machines.{plainNext, plainBlock, writtenBy}
 use Rattle.paper.specs.Events.{Event, boxBlocks, plainBlocks, written, Throughout, FlushesWhole}
@@ -48,8 +50,8 @@ module _ {F X : Type 0} (H : Hashing F X) where
       (λ c. rw c (λ e. inr (x, refl, c)))
 
   -- on a miss the disk is up to date at the address
-  miss-clean : (m d P : ℕ) (s : Box F X) (a : ℕ) → Sound H m d P s → rowWithBlock H s a ≡ none → dirtyAt any a (s .rows) ≡ false
-  miss-clean m d P s a h e =
+  miss-clean : (N : Numbers) (s : Box F X) (a : ℕ) → Sound H N s → rowWithBlock H s a ≡ none → dirtyAt any a (s .rows) ≡ false
+  miss-clean N s a h e =
       either (ifCached-none (s .used) (rowOf a (s .rows)) e)
       (λ n. absent-clean a (s .rows) (find-none eqb (λ r. r .address) a (s .rows) n))
       (λ y. row-clean a (s .rows) (y .0) (h .addresses) (y .1)
@@ -88,40 +90,46 @@ module _ {F X : Type 0} (H : Hashing F X) (In : X → Type 0) where
 
 module _ {F X : Type 0} (H : Hashing F X) (In : X → Type 0) (only : (b c : X) → In b → In c → H .hash b ≡ H .hash c → b ≡ c) where
   -- what a hit returns is the plain disk's block
-  hit-block : (m d P : ℕ) (plain : List X) (s : Box F X) (a : ℕ) (r : AddressRow F) → Sound H m d P s → Faithful H In P plain s → rowWithBlock H s a ≡ some r
+  hit-block : (N : Numbers) (plain : List X) (s : Box F X) (a : ℕ) (r : AddressRow F) → Sound H N s → Faithful H In (N .P) plain s → rowWithBlock H s a ≡ some r
       → blockOf H (r .fingerprint) (s .used) (s .flash) ≡ at H plain a
-  hit-block m d P plain s a r h f e =
+  hit-block N plain s a r h f e =
       let c = ifCached-some H (s .used) (rowOf a (s .rows)) r e in
-      let y = find-some eqb (λ r. r .address) (λ r. RowTrue H In plain r × (r .address < P)) a (s .rows) r (c .0) (all-both (RowTrue H In plain) (λ r. r .address < P) (s .rows) (f .rowsTrue) (h .below)) in
-      row-block H In only P plain (s .used) (s .flash) r (f .plainIn) (f .plainLength) (y .0 .1) (f .blocksTrue) (y .0 .0) (c .1) ∙ ap (at H plain) (sym (eqb→≡ a (r .address) (y .1)))
+      let y = find-some eqb (λ r. r .address) (λ r. RowTrue H In plain r × (r .address < N .P)) a (s .rows) r (c .0)
+      (all-both (RowTrue H In plain) (λ r. r .address < N .P) (s .rows) (f .rowsTrue) (h .below)) in
+      row-block H In only (N .P) plain (s .used) (s .flash) r (f .plainIn) (f .plainLength) (y .0 .1) (f .blocksTrue) (y .0 .0) (c .1)
+      ∙ ap (at H plain) (sym (eqb→≡ a (r .address) (y .1)))
 
-  faithful-readAs : (m d P : ℕ) (plain : List X) (s : Box F X) (a : ℕ) (o : Option (AddressRow F)) → rowWithBlock H s a ≡ o → Sound H m d P s → Faithful H In P plain s → 1 ≤ m → 1 ≤ d → a < P
-      → Faithful H In P plain ((readAs H m s a o) .box) × ((readAs H m s a o) .block ≡ some (at H plain a))
+  faithful-readAs : (N : Numbers) (plain : List X) (s : Box F X) (a : ℕ) (o : Option (AddressRow F)) → rowWithBlock H s a ≡ o → Sound H N s
+      → Faithful H In (N .P) plain s → 1 ≤ N .m → 1 ≤ N .d → a < N .P
+      → Faithful H In (N .P) plain ((readAs H (N .m) s a o) .box) × ((readAs H (N .m) s a o) .block ≡ some (at H plain a))
   unfolding readAs answer
-  faithful-readAs m d P plain s a (some r) e h f m1 d1 w =
+  faithful-readAs N plain s a (some r) e h f m1 d1 w =
       let b = blockOf H (r .fingerprint) (s .used) (s .flash) in
-      let be : b ≡ at H plain a = hit-block m d P plain s a r h f e in
+      let be : b ≡ at H plain a = hit-block N plain s a r h f e in
       let c = ifCached-some H (s .used) (rowOf a (s .rows)) r e in
       let y = find-some eqb (λ r. r .address) (RowTrue H In plain) a (s .rows) r (c .0) (f .rowsTrue) in
       let pin : In (at H plain a) = all-at In plain a (H .blank) (f .plainIn) (subst (λ n. a < n) (sym (f .plainLength)) w) in (
-        faithful-step H In only m d P plain s (record { address = a; fingerprint = r .fingerprint; block = b; dirty = r .dirty }) h (but H In a P plain s f) m1 d1 w
+        faithful-step H In only N plain s (record { address = a; fingerprint = r .fingerprint; block = b; dirty = r .dirty }) h
+            (but H In a (N .P) plain s f) m1 d1 w
             (y .0 ∙ ap (H .hash) (ap (at H plain) (sym (eqb→≡ a (r .address) (y .1))) ∙ sym be)) (subst In (sym be) pin) be
             (λ k. f .current a (row-clean H a (s .rows) r (h .addresses) (c .0) k)),
         ap {B = Option X} some be,
       )
-  faithful-readAs m d P plain s a none e h f m1 d1 w =
+  faithful-readAs N plain s a none e h f m1 d1 w =
       let b = at H (s .disk) a in
-      let be : b ≡ at H plain a = f .current a (miss-clean H m d P s a h e) in
+      let be : b ≡ at H plain a = f .current a (miss-clean H N s a h e) in
       let pin : In (at H plain a) = all-at In plain a (H .blank) (f .plainIn) (subst (λ n. a < n) (sym (f .plainLength)) w) in (
-        faithful-step H In only m d P plain s (record { address = a; fingerprint = H .hash b; block = b; dirty = false }) h (but H In a P plain s f) m1 d1 w refl (subst In (sym be) pin) be (λ k. be),
+        faithful-step H In only N plain s (record { address = a; fingerprint = H .hash b; block = b; dirty = false }) h
+            (but H In a (N .P) plain s f) m1 d1 w refl (subst In (sym be) pin) be (λ k. be),
         ap {B = Option X} some be,
       )
 
-  faithful-lookAs : (m d P : ℕ) (plain : List X) (s : Box F X) (a : ℕ) (o : Option (AddressRow F)) → rowWithBlock H s a ≡ o → Sound H m d P s → Faithful H In P plain s
-      → Faithful H In P plain ((lookAs H s a o) .box) × ((lookAs H s a o) .block ≡ some (at H plain a))
+  faithful-lookAs : (N : Numbers) (plain : List X) (s : Box F X) (a : ℕ) (o : Option (AddressRow F)) → rowWithBlock H s a ≡ o → Sound H N s
+      → Faithful H In (N .P) plain s
+      → Faithful H In (N .P) plain ((lookAs H s a o) .box) × ((lookAs H s a o) .block ≡ some (at H plain a))
   unfolding lookAs
-  faithful-lookAs m d P plain s a (some r) e h f = (f, ap {B = Option X} some (hit-block m d P plain s a r h f e))
-  faithful-lookAs m d P plain s a none e h f = (f, ap {B = Option X} some (f .current a (miss-clean H m d P s a h e)))
+  faithful-lookAs N plain s a (some r) e h f = (f, ap {B = Option X} some (hit-block N plain s a r h f e))
+  faithful-lookAs N plain s a none e h f = (f, ap {B = Option X} some (f .current a (miss-clean H N s a h e)))
 
   dropped-true : (rows : List (AddressRow F)) (b : BlockRows F) (o : Option (AddressRow F)) (flash : List X) → All (BlockTrue H In flash) (b .used) → All (BlockTrue H In flash) ((dropped H rows b o) .used)
   unfolding dropped freed
@@ -131,9 +139,10 @@ module _ {F X : Type 0} (H : Hashing F X) (In : X → Type 0) (only : (b c : X) 
       (λ e. rw e (all-without (H .same) (λ u. u .fingerprint) (BlockTrue H In flash) (r .fingerprint) (b .used) h))
       (λ e. rw e h)
 
-  faithful-invalidate : (m d P : ℕ) (plain : List X) (s : Box F X) (a : ℕ) (b : X) → Sound H m d P s → Faithful H In P plain s → In b → a < P → Faithful H In P (set plain a b) ((writeInvalidate H s a b) .box)
+  faithful-invalidate : (N : Numbers) (plain : List X) (s : Box F X) (a : ℕ) (b : X) → Sound H N s → Faithful H In (N .P) plain s → In b → a < N .P
+      → Faithful H In (N .P) (set plain a b) ((writeInvalidate H s a b) .box)
   unfolding writeInvalidate
-  faithful-invalidate m d P plain s a b h f bi w =
+  faithful-invalidate N plain s a b h f bi w =
       record {
         rowsTrue = all-map (λ r. RowTrue H In plain r × (eqb a (r .address) ≡ false)) (RowTrue H In (set plain a b)) (λ r y. row-set H In a b plain r (y .1) (y .0)) (withoutAddress a (s .rows))
             (all-without-strict eqb (λ r. r .address) (RowTrue H In plain) a (s .rows) (f .rowsTrue));
@@ -147,31 +156,40 @@ module _ {F X : Type 0} (H : Hashing F X) (In : X → Type 0) (only : (b c : X) 
             at-set-other H (s .disk) a x b n′ ∙ f .current x (dirty-without H a x (s .rows) n dy) ∙ sym (at-set-other H plain a x b n′));
       }
 
-  flushed-at : (m d P : ℕ) (plain : List X) (s : Box F X) → Sound H m d P s → Faithful H In P plain s → (x : ℕ) → at H (copied H any (s .rows) (s .used) (s .flash) (s .disk)) x ≡ at H plain x
-  flushed-at m d P plain s h f x =
-      copied-good H any (s .rows) (s .used) (s .flash) (s .disk) plain P x (h .diskLength)
-      (all-map (λ r. (RowTrue H In plain r × (r .address < P)) × DirtyCached H (s .used) r) (CopyTrue H any P (s .used) (s .flash) plain)
-      (λ r y e. (row-block H In only P plain (s .used) (s .flash) r (f .plainIn) (f .plainLength) (y .0 .1) (f .blocksTrue) (y .0 .0) (y .1 (and-left (r .dirty) true e)), y .0 .1))
-      (s .rows) (all-both (λ r. RowTrue H In plain r × (r .address < P)) (DirtyCached H (s .used)) (s .rows) (all-both (RowTrue H In plain) (λ r. r .address < P) (s .rows) (f .rowsTrue) (h .below)) (h .dirtyCached)))
+  flushed-at : (N : Numbers) (plain : List X) (s : Box F X) → Sound H N s → Faithful H In (N .P) plain s → (x : ℕ)
+      → at H (copied H any (s .rows) (s .used) (s .flash) (s .disk)) x ≡ at H plain x
+  flushed-at N plain s h f x =
+      copied-good H any (s .rows) (s .used) (s .flash) (s .disk) plain (N .P) x (h .diskLength)
+      (all-map (λ r. (RowTrue H In plain r × (r .address < N .P)) × DirtyCached H (s .used) r) (CopyTrue H any (N .P) (s .used) (s .flash) plain)
+      (λ r y e. (
+        row-block H In only (N .P) plain (s .used) (s .flash) r (f .plainIn) (f .plainLength) (y .0 .1) (f .blocksTrue) (y .0 .0)
+            (y .1 (and-left (r .dirty) true e)),
+        y .0 .1,
+      ))
+      (s .rows) (all-both (λ r. RowTrue H In plain r × (r .address < N .P)) (DirtyCached H (s .used)) (s .rows)
+      (all-both (RowTrue H In plain) (λ r. r .address < N .P) (s .rows) (f .rowsTrue) (h .below)) (h .dirtyCached)))
       (by-test (dirtyAt any x (s .rows)) (λ y. inr y) (λ y. inl (f .current x y)))
 
   -- after a flush the disk is the plain disk
-  pub flush-whole : (m d P : ℕ) (plain : List X) (s : Box F X) → Sound H m d P s → Faithful H In P plain s → (serve H m s flush) .box .disk ≡ plain
+  pub flush-whole : (N : Numbers) (plain : List X) (s : Box F X) → Sound H N s → Faithful H In (N .P) plain s → (serve H N s flush) .box .disk ≡ plain
   unfolding serve flushed
-  flush-whole m d P plain s h f =
+  flush-whole N plain s h f =
       let l = length-copied H any (s .rows) (s .used) (s .flash) (s .disk) in
-      ext-getD (H .blank) (copied H any (s .rows) (s .used) (s .flash) (s .disk)) plain (l ∙ h .diskLength ∙ sym (f .plainLength)) (λ i k. flushed-at m d P plain s h f i)
+      ext-getD (H .blank) (copied H any (s .rows) (s .used) (s .flash) (s .disk)) plain (l ∙ h .diskLength ∙ sym (f .plainLength))
+      (λ i k. flushed-at N plain s h f i)
 
-  pub faithful-serve : (m d P : ℕ) (plain : List X) (s : Box F X) (c : Call X) → Sound H m d P s → Faithful H In P plain s → 1 ≤ m → 1 ≤ d → Within P c → WritesIn H In c
-      → Faithful H In P (plainNext plain c) ((serve H m s c) .box) × ((serve H m s c) .block ≡ plainBlock (H .blank) plain c)
-  unfolding serve writeThrough writeBack answer plainNext plainBlock writtenBy flushed writeInvalidate
-  faithful-serve m d P plain s (read a) h f m1 d1 w i = faithful-readAs m d P plain s a (rowWithBlock H s a) refl h f m1 d1 w
-  faithful-serve m d P plain s (look a) h f m1 d1 w i = faithful-lookAs m d P plain s a (rowWithBlock H s a) refl h f
-  faithful-serve m d P plain s (through a b) h f m1 d1 w i =
+  pub faithful-serve : (N : Numbers) (plain : List X) (s : Box F X) (c : Call X) → Sound H N s → Faithful H In (N .P) plain s → 1 ≤ N .m → 1 ≤ N .d
+      → Within (N .P) c → WritesIn H In c
+      → Faithful H In (N .P) (plainNext plain c) ((serve H N s c) .box) × ((serve H N s c) .block ≡ plainBlock (H .blank) plain c)
+  unfolding serve writeThrough writeBack answer flushed writeInvalidate
+  faithful-serve N plain s (read a) h f m1 d1 w i = faithful-readAs N plain s a (rowWithBlock H s a) refl h f m1 d1 w
+  faithful-serve N plain s (look a) h f m1 d1 w i = faithful-lookAs N plain s a (rowWithBlock H s a) refl h f
+  faithful-serve N plain s (through a b) h f m1 d1 w i =
       let dl = subst (λ n. a < n) (sym (h .diskLength)) w in
       let pl = subst (λ n. a < n) (sym (f .plainLength)) w in
-      let bs = but-set H In a P b plain s f (i .0) in (
-        faithful-step H In only m d P (set plain a b) (onDisk H s a b) (record { address = a; fingerprint = H .hash b; block = b; dirty = false }) (sound-onDisk H m d P s a b h)
+      let bs = but-set H In a (N .P) b plain s f (i .0) in (
+        faithful-step H In only N (set plain a b) (onDisk H s a b) (record { address = a; fingerprint = H .hash b; block = b; dirty = false })
+            (sound-onDisk H N s a b h)
             (record {
               rowsTrue = bs .rowsTrue;
               blocksTrue = bs .blocksTrue;
@@ -182,20 +200,21 @@ module _ {F X : Type 0} (H : Hashing F X) (In : X → Type 0) (only : (b c : X) 
             m1 d1 w refl (i .0) (sym (at-set-same H plain a b pl)) (λ k. at-set-same H (s .disk) a b dl ∙ sym (at-set-same H plain a b pl)),
         refl,
       )
-  faithful-serve m d P plain s (back a b) h f m1 d1 w i =
+  faithful-serve N plain s (back a b) h f m1 d1 w i =
       let pl = subst (λ n. a < n) (sym (f .plainLength)) w in (
-        faithful-step H In only m d P (set plain a b) s (record { address = a; fingerprint = H .hash b; block = b; dirty = true }) h (but-set H In a P b plain s f (i .0))
+        faithful-step H In only N (set plain a b) s (record { address = a; fingerprint = H .hash b; block = b; dirty = true }) h
+            (but-set H In a (N .P) b plain s f (i .0))
             m1 d1 w refl (i .0) (sym (at-set-same H plain a b pl)) (λ k. absurd (true≢false k)),
         refl,
       )
-  faithful-serve m d P plain s (invalidate a b) h f m1 d1 w i = (faithful-invalidate m d P plain s a b h f (i .0) w, refl)
-  faithful-serve m d P plain s flush h f m1 d1 w i = (
+  faithful-serve N plain s (invalidate a b) h f m1 d1 w i = (faithful-invalidate N plain s a b h f (i .0) w, refl)
+  faithful-serve N plain s flush h f m1 d1 w i = (
     record {
       rowsTrue = all-cleaned H any (RowTrue H In plain) (RowTrue H In plain) (λ r y. y) (s .rows) (f .rowsTrue);
       blocksTrue = f .blocksTrue;
       plainIn = f .plainIn;
       plainLength = f .plainLength;
-      current = λ x dy. flushed-at m d P plain s h f x;
+      current = λ x dy. flushed-at N plain s h f x;
     },
     refl,
   )
@@ -205,28 +224,31 @@ abbrev pub ServedWithin : {X : Type 0} → ℕ → Event X → Type 0
 ServedWithin P e = e .refused ≡ false → Within P (e .call)
 
 module _ {F X : Type 0} (H : Hashing F X) (In : X → Type 0) where
-  abbrev pub Good : (m d P : ℕ) → Box F X → List X → Type 0
-  Good m d P s plain = Sound H m d P s × Faithful H In P plain s
+  abbrev pub Good : Numbers → Box F X → List X → Type 0
+  Good N s plain = Sound H N s × Faithful H In (N .P) plain s
 
-module _ {F X : Type 0} (H : Hashing F X) (In : X → Type 0) (only : (b c : X) → In b → In c → H .hash b ≡ H .hash c → b ≡ c) (m d P : ℕ) (m1 : 1 ≤ m) (d1 : 1 ≤ d) where
-  good-next : (s : Box F X) (plain : List X) (e : Event X) → Good H In m d P s plain → ServedWithin P e → All In (cond (e .refused) [] (writtenBy (e .call)))
-      → Good H In m d P (cond (e .refused) s ((serve H m s (e .call)) .box)) (cond (e .refused) plain (plainNext plain (e .call)))
+module _ {F X : Type 0} (H : Hashing F X) (In : X → Type 0) (only : (b c : X) → In b → In c → H .hash b ≡ H .hash c → b ≡ c) (N : Numbers) (m1 : 1 ≤ N .m)
+    (d1 : 1 ≤ N .d) where
+  good-next : (s : Box F X) (plain : List X) (e : Event X) → Good H In N s plain → ServedWithin (N .P) e → All In (cond (e .refused) [] (writtenBy (e .call)))
+      → Good H In N (cond (e .refused) s ((serve H N s (e .call)) .box)) (cond (e .refused) plain (plainNext plain (e .call)))
   good-next s plain e g w i =
       by-test (e .refused)
       (λ r. rw r g)
-      (λ r. rw r (sound-serve H m d P s (e .call) (g .0) m1 d1 (w r), (faithful-serve H In only m d P plain s (e .call) (g .0) (g .1) m1 d1 (w r) (rw r at i)) .0))
+      (λ r. rw r (sound-serve H N s (e .call) (g .0) m1 d1 (w r), (faithful-serve H In only N plain s (e .call) (g .0) (g .1) m1 d1 (w r) (rw r at i)) .0))
 
-  pub throughout : (s : Box F X) (plain : List X) (es : List (Event X)) → Good H In m d P s plain → All (ServedWithin P) es → All In (written es) → Throughout H m (Good H In m d P) s plain es
+  pub throughout : (s : Box F X) (plain : List X) (es : List (Event X)) → Good H In N s plain → All (ServedWithin (N .P)) es → All In (written es)
+      → Throughout H N (Good H In N) s plain es
   unfolding Throughout written
   throughout s plain [] g w i = g
   throughout s plain (e ∷ es) g w i = (
     g,
-    throughout (cond (e .refused) s ((serve H m s (e .call)) .box)) (cond (e .refused) plain (plainNext plain (e .call))) es
+    throughout (cond (e .refused) s ((serve H N s (e .call)) .box)) (cond (e .refused) plain (plainNext plain (e .call))) es
         (good-next s plain e g (w .0) (all-left In (cond (e .refused) [] (writtenBy (e .call))) (written es) i)) (w .1)
         (all-right In (cond (e .refused) [] (writtenBy (e .call))) (written es) i),
   )
 
-  pub same-blocks : (s : Box F X) (plain : List X) (es : List (Event X)) → Good H In m d P s plain → All (ServedWithin P) es → All In (written es) → boxBlocks H m s es ≡ plainBlocks (H .blank) plain es
+  pub same-blocks : (s : Box F X) (plain : List X) (es : List (Event X)) → Good H In N s plain → All (ServedWithin (N .P)) es → All In (written es)
+      → boxBlocks H N s es ≡ plainBlocks (H .blank) plain es
   unfolding boxBlocks plainBlocks written
   same-blocks s plain [] g w i = refl
   same-blocks s plain (e ∷ es) g w i =
@@ -236,15 +258,16 @@ module _ {F X : Type 0} (H : Hashing F X) (In : X → Type 0) (only : (b c : X) 
       by-test (e .refused)
       (λ r. rw r (same-blocks s plain es g (w .1) i₁))
       (λ r. rw r (ap₂ {C = List (Option X)} (λ x l. x ∷ l)
-      ((faithful-serve H In only m d P plain s (e .call) (g .0) (g .1) m1 d1 (w .0 r) (rw r at i₀)) .1)
-      (same-blocks ((serve H m s (e .call)) .box) (plainNext plain (e .call)) es (rw r at next) (w .1) i₁)))
+      ((faithful-serve H In only N plain s (e .call) (g .0) (g .1) m1 d1 (w .0 r) (rw r at i₀)) .1)
+      (same-blocks ((serve H N s (e .call)) .box) (plainNext plain (e .call)) es (rw r at next) (w .1) i₁)))
 
-  pub flushes-whole : (s : Box F X) (plain : List X) (es : List (Event X)) → Good H In m d P s plain → All (ServedWithin P) es → All In (written es) → FlushesWhole H m s plain es
+  pub flushes-whole : (s : Box F X) (plain : List X) (es : List (Event X)) → Good H In N s plain → All (ServedWithin (N .P)) es → All In (written es)
+      → FlushesWhole H N s plain es
   unfolding FlushesWhole written
   flushes-whole s plain [] g w i = tt
   flushes-whole s plain (e ∷ es) g w i = (
-    (λ r c. rw c (flush-whole H In only m d P plain s (g .0) (g .1))),
-    flushes-whole (cond (e .refused) s ((serve H m s (e .call)) .box)) (cond (e .refused) plain (plainNext plain (e .call))) es
+    (λ r c. rw c (flush-whole H In only N plain s (g .0) (g .1))),
+    flushes-whole (cond (e .refused) s ((serve H N s (e .call)) .box)) (cond (e .refused) plain (plainNext plain (e .call))) es
         (good-next s plain e g (w .0) (all-left In (cond (e .refused) [] (writtenBy (e .call))) (written es) i)) (w .1)
         (all-right In (cond (e .refused) [] (writtenBy (e .call))) (written es) i),
   )

@@ -14,8 +14,9 @@ use Rattle.tables.specs.Unsound as Unsound
 use Rattle.paper.specs.Cache as Cache
 use Rattle.paper.specs.KeyedLaws.{by-test}
 use Rattle.paper.specs.Engine.{Fixed, fit, engine}
+use Rattle.paper.specs.Cache.{Numbers}
 use Rattle.paper.specs.Lent as Lent
-use Rattle.paper.specs.Lent.{Numbers, Lent, Ask, opening, calling, refusal, opened, fresh, split, call}
+use Rattle.paper.specs.Lent.{Lent, Ask, opening, calling, refusal, opened, fresh, split, call}
 use Rattle.paper.specs.Machines.{NoTwoShare, writtenBy}
 use Rattle.paper.specs.Demand3.{EachServed, ShowsPlain, refusals, written}
 use Rattle.paper.specs.RefusalLaws.{opened-is}
@@ -41,7 +42,14 @@ opens = refl
 
 -- no call is refused
 pub all-served : refusals numbers (opened numbers memory) asked ≡ 0 ∷ 0 ∷ 0 ∷ []
-unfolding Ch Maj Σ0 Σ1 σ0 σ1 K H0 M next W T1 T2 round rounds sum8 compress blocks bytes32 bytes64 padded pad digest sha256 refusals written refusal opened fresh call split Lent.unfit Lent.wrongBuffers Lent.over Lent.served Lent.kept Lent.unopened Lent.boxIn Lent.lentOf Lent.freeSlots Lent.usedRows Lent.callOf fit writtenBy Rows.rows Rows.flat Rows.zeros Records.addressBytes Records.blockBytes Records.readAddress Records.readBlock Records.addressTable Records.heldRows Records.blockTable Records.blockRows Records.freshAddresses Records.freshBlocks Find.any Find.all Find.same Unsound.elem Unsound.twice Unsound.count Unsound.addressesUnsound Unsound.freeAfterUsed Unsound.eachOnce Unsound.usedTwice Unsound.blocksUnsound Unsound.dirtyUncached Cache.oldestOut Cache.step1 Cache.freed Cache.step3 Cache.oldestUnknown Cache.victim Cache.takenUsed Cache.taken Cache.stored Cache.step4 Cache.step Cache.ifCached Cache.answer Cache.readAs Cache.writeThrough Cache.writeBack Cache.dropped Cache.writeInvalidate Cache.lookAs Cache.flushed Cache.serve Cache.counted
+unfolding Ch Maj Σ0 Σ1 σ0 σ1 K H0 M next W T1 T2 round rounds sum8 compress blocks bytes32 bytes64 padded pad digest sha256 refusals written refusal
+    opened fresh call split Lent.unfit Lent.wrongBuffers Lent.over Lent.served Lent.kept Lent.unopened Lent.boxIn Lent.lentOf Lent.freeSlots
+    Lent.usedRows Lent.callOf fit Rows.rows Rows.flat Rows.zeros Records.addressBytes Records.blockBytes Records.readAddress Records.readBlock
+    Records.addressTable Records.heldRows Records.blockTable Records.blockRows Records.freshAddresses Records.freshBlocks Find.any Find.all Find.same
+    Unsound.elem Unsound.twice Unsound.count Unsound.addressesUnsound Unsound.freeAfterUsed Unsound.eachOnce Unsound.usedTwice Unsound.blocksUnsound
+    Unsound.dirtyUncached Cache.oldestOut Cache.step1 Cache.freed Cache.step3 Cache.oldestUnknown Cache.victim Cache.takenUsed Cache.taken
+    Cache.stored Cache.step4 Cache.step Cache.ifCached Cache.answer Cache.readAs Cache.writeThrough Cache.writeBack Cache.dropped
+    Cache.writeInvalidate Cache.lookAs Cache.flushed Cache.serve Cache.counted
 all-served = refl
 
 -- the blocks that the premise is about: the one on disk, and the one written
@@ -58,7 +66,7 @@ unfolding written
 unwritten t q qs e = rw e (by-test (eqb (refusal numbers t (calling q)) 0) (λ y. rw y refl) (λ y. rw y refl))
 
 written-is : written numbers (opened numbers memory) asked ≡ block 1 ∷ []
-unfolding written writtenBy Lent.callOf
+unfolding written Lent.callOf
 written-is =
     let t₁ = (call numbers (opened numbers memory) (Ask.back 0 (filled 1))) .lent in
     let t₂ = (call numbers t₁ (Ask.read 0 (filled 0))) .lent in

@@ -11,7 +11,9 @@ use lib.ListN.{length, length-append, length-map}
 use borrow.Author.Tests.{eqb-false}
 use Rattle.tables.specs.Records.{slotsFrom}
 use Rattle.paper.specs.Keyed.{has, without}
-use Rattle.paper.specs.Cache.{Hashing, AddressRow, BlockRow, Box, RowOut, BlockRows, Stepped, Outcome, newest, blockRow, held, rowOf, withoutAddress, known, cached, withoutBlock, slotOf, blockOf, cleaned, copied, isLost, someUncached, read, rowWithBlock, answer, readAs, serve, fresh, step, step1, step3, step4, oldestUnknown, stored, hit, miss}
+use Rattle.paper.specs.Cache.{Numbers, Hashing, AddressRow, BlockRow, Box, RowOut, BlockRows, Stepped, Outcome, newest, blockRow, held, rowOf}
+use Rattle.paper.specs.Cache.{withoutAddress, known, cached, withoutBlock, slotOf, blockOf, cleaned, copied, isLost, someUncached, read, rowWithBlock}
+use Rattle.paper.specs.Cache.{answer, readAs, serve, fresh, step, step1, step3, step4, oldestUnknown, stored, hit, miss}
 use Rattle.paper.specs.KeyedLaws.{by-test, either, by-option, clash, or-left, or-right, or-false-right, eqb→≡, same-sym-false, All, Distinct, all-append, all-map, all-without, all-both, has-without-other, has-without, without-absent, has-snoc-cases, has-snoc-left, has-snoc-self, find-some, find-none, has-append, find-has}
 use Rattle.paper.specs.Machines.{contentOf, put, Printed, printedNext, printedHit, Read, Compared, printedIn, printedTrace}
 use Rattle.paper.specs.Events.{cacheTrace}
@@ -148,11 +150,12 @@ module _ {F X : Type 0} (H : Hashing F X) where
       star-nested : (q : F) (l D : List F) → Nested D (order (H .same) (q ∷ l)) → Nested D (order (H .same) l)
       star-nested q l D = by-test (has (H .same) (λ x. x) q l) (λ z. rw z (λ y. y)) (λ z. rw z (λ y. nested-swap (order (H .same) l) D (nested-tail q (order (H .same) l) D (nested-swap D (q ∷ order (H .same) l) y))))
 
-  read-step1 : (content : ℕ → F) (disk : List X) (m d P : ℕ) (s : Box F X) (a : ℕ) → Sound H m d P s → ReadInv content disk s → 1 ≤ m → ReadOut content m a s (step1 H m s a)
+  read-step1 : (content : ℕ → F) (disk : List X) (N : Numbers) (s : Box F X) (a : ℕ) → Sound H N s → ReadInv content disk s → 1 ≤ N .m
+      → ReadOut content (N .m) a s (step1 H (N .m) s a)
   unfolding put
-  read-step1 content disk m d P s a h v m1 =
+  read-step1 content disk N s a h v m1 =
       let new = newest a (content a) false in
-      by-step1 H m s a (ReadOut content m a s)
+      by-step1 H (N .m) s a (ReadOut content (N .m) a s)
       (λ e. record {
         addresses = map-append (λ (r : AddressRow F). r .address) (withoutAddress a (s .rows)) (new ∷ [])
             ∙ rw (has-map eqb (λ (r : AddressRow F). r .address) a (s .rows) ∙ e, put) (ap (λ l. l ++ (a ∷ [])) (without-map eqb (λ (r : AddressRow F). r .address) a (s .rows)));
@@ -169,11 +172,13 @@ module _ {F X : Type 0} (H : Hashing F X) where
             let qe : content a ≡ q = ap content (eqb→≡ a (r .address) (y .1)) ∙ sym (y .0) ∙ Option·some-injective (r .fingerprint) q (rw z at p) in
             clash {b = known H (content a) (withoutAddress a (s .rows) ++ (newest a (content a) false ∷ []))} (has-snoc-self (H .same) (λ r. r .fingerprint) (H .same→≡) (H .same-refl) (withoutAddress a (s .rows)) new) (rw (← qe) at n));
       })
-      (λ e r rs p n. read-eldest content disk m a s v e r rs p n)
+      (λ e r rs p n. read-eldest content disk (N .m) a s v e r rs p n)
       (λ e p. record {
         addresses = map-append (λ (r : AddressRow F). r .address) (s .rows) (new ∷ [])
             ∙ rw (has-map eqb (λ (r : AddressRow F). r .address) a (s .rows) ∙ e, put)
-            (rw (ap (λ k. eqb k m) (length-map (s .rows) (λ r. r .address)) ∙ either p (λ y. y) (λ y. by-test (eqb (length (s .rows)) m) (λ z. absurd (omega (arith, eqb→≡ (length (s .rows)) m z, ap length y))) (λ z. z))) refl);
+            (rw (ap (λ k. eqb k (N .m)) (length-map (s .rows) (λ r. r .address))
+            ∙ either p (λ y. y) (λ y. by-test (eqb (length (s .rows)) (N .m)) (λ z. absurd (omega (arith, eqb→≡ (length (s .rows)) (N .m) z, ap length y)))
+            (λ z. z))) refl);
         clean = v .clean;
         contents = v .contents;
         sameDisk = refl;
@@ -287,24 +292,27 @@ module _ {F X : Type 0} (H : Hashing F X) where
           }
 
   -- the step of a read
-  read-step : (content : ℕ → F) (disk : List X) (m d P : ℕ) (s : Box F X) (a : ℕ) (b : X) → Sound H m d P s → ReadInv content disk s → 1 ≤ m → 1 ≤ d
-      → let t = step H m s (record { address = a; fingerprint = content a; block = b; dirty = false }) in
-      (map (λ r. r .address) (t .box .rows) ≡ put eqb m a (map (λ r. r .address) (s .rows))) × (prints (t .box .used) ≡ put (H .same) d (content a) (prints (s .used))) × ReadInv content disk (t .box)
+  read-step : (content : ℕ → F) (disk : List X) (N : Numbers) (s : Box F X) (a : ℕ) (b : X) → Sound H N s → ReadInv content disk s → 1 ≤ N .m → 1 ≤ N .d
+      → let t = step H (N .m) s (record { address = a; fingerprint = content a; block = b; dirty = false }) in
+      (map (λ r. r .address) (t .box .rows) ≡ put eqb (N .m) a (map (λ r. r .address) (s .rows)))
+      × (prints (t .box .used) ≡ put (H .same) (N .d) (content a) (prints (s .used))) × ReadInv content disk (t .box)
   unfolding step
-  read-step content disk m d P s a b h v m1 d1 =
-      let o = step1 H m s a in
+  read-step content disk N s a b h v m1 d1 =
+      let o = step1 H (N .m) s a in
       let g = content a in
       let new = newest a g false in
       let rows = o .rows ++ (new ∷ []) in
-      let out = read-step1 content disk m d P s a h v m1 in
+      let out = read-step1 content disk N s a h v m1 in
       let bs : BlockRows F = record { free = s .free; used = s .used } in
       let keep : step3 H (o .gone) (o .rows) rows bs ≡ bs
       = by-step3 H (o .gone) (o .rows) rows bs (λ t. t ≡ bs) (λ q p c n u. absurd (out .keeps q p c n u)) (λ q p w. refl) (λ p. refl) in
       let cl : All (λ r. r .dirty ≡ false) rows = all-append (λ r. r .dirty ≡ false) (o .rows) (new ∷ []) (out .clean) (refl, tt) in
       let co : All (λ r. r .fingerprint ≡ content (r .address)) rows = all-append (λ r. r .fingerprint ≡ content (r .address)) (o .rows) (new ∷ []) (out .contents) (refl, tt) in
-      let e = read-step4 d rows (s .free) (s .used) (s .flash) (o .disk) g b (o .primary) (out .star) cl (out .orderIs) (out .nested) (h .fingerprints) (h .slots) d1 in
+      let e = read-step4 (N .d) rows (s .free) (s .used) (s .flash) (o .disk) g b (o .primary) (out .star) cl (out .orderIs) (out .nested) (h .fingerprints)
+      (h .slots) d1 in
       subst (λ t. let u = step4 H rows t (s .flash) (o .disk) g b (o .primary) in
-      (map (λ r. r .address) (u .box .rows) ≡ put eqb m a (map (λ r. r .address) (s .rows))) × (prints (u .box .used) ≡ put (H .same) d g (prints (s .used))) × ReadInv content disk (u .box))
+      (map (λ r. r .address) (u .box .rows) ≡ put eqb (N .m) a (map (λ r. r .address) (s .rows)))
+      × (prints (u .box .used) ≡ put (H .same) (N .d) g (prints (s .used))) × ReadInv content disk (u .box))
       (sym keep) (
         ap (map (λ r. r .address)) (e .sameRows) ∙ out .addresses,
         e .blocks,
@@ -324,10 +332,11 @@ module _ {F X : Type 0} (H : Hashing F X) where
   ReadSame disk m d s a o =
       (viewed (o .box) ≡ printedNext (H .same) m d (contentOf H disk) (viewed s) a) × (o .word ≡ cond (printedHit (H .same) (contentOf H disk) (viewed s) a) hit miss) × ReadInv (contentOf H disk) disk (o .box)
 
-  read-same : (disk : List X) (m d P : ℕ) (s : Box F X) (a : ℕ) (o : Option (AddressRow F)) → rowWithBlock H s a ≡ o → Sound H m d P s → ReadInv (contentOf H disk) disk s → 1 ≤ m → 1 ≤ d
-      → ReadSame disk m d s a (readAs H m s a o)
+  read-same : (disk : List X) (N : Numbers) (s : Box F X) (a : ℕ) (o : Option (AddressRow F)) → rowWithBlock H s a ≡ o → Sound H N s
+      → ReadInv (contentOf H disk) disk s → 1 ≤ N .m → 1 ≤ N .d
+      → ReadSame disk (N .m) (N .d) s a (readAs H (N .m) s a o)
   unfolding readAs answer ReadSame printedNext printedHit
-  read-same disk m d P s a (some r) e h v m1 d1 =
+  read-same disk N s a (some r) e h v m1 d1 =
       let b = blockOf H (r .fingerprint) (s .used) (s .flash) in
       let c = ifCached-some H (s .used) (rowOf a (s .rows)) r e in
       let y = find-some eqb (λ r. r .address) (λ r. (r .fingerprint ≡ contentOf H disk (r .address)) × (r .dirty ≡ false)) a (s .rows) r (c .0)
@@ -335,52 +344,61 @@ module _ {F X : Type 0} (H : Hashing F X) where
       let ge : r .fingerprint ≡ contentOf H disk a = y .0 .0 ∙ ap (contentOf H disk) (sym (eqb→≡ a (r .address) (y .1))) in
       let ha : has eqb (λ x. x) a (map (λ r. r .address) (s .rows)) ≡ true = has-map eqb (λ (r : AddressRow F). r .address) a (s .rows) ∙ find-has eqb (λ (r : AddressRow F). r .address) a (s .rows) r (c .0) in
       let hc : has (H .same) (λ x. x) (contentOf H disk a) (prints (s .used)) ≡ true = has-map (H .same) (λ (u : BlockRow F). u .fingerprint) (contentOf H disk a) (s .used) ∙ (rw ge at (c .1)) in
-      let t = read-step (contentOf H disk) disk m d P s a b h v m1 d1 in
-      let re : step H m s (record { address = a; fingerprint = contentOf H disk a; block = b; dirty = false }) ≡ step H m s (record { address = a; fingerprint = r .fingerprint; block = b; dirty = r .dirty })
-      = ap₂ (λ f w. step H m s (record { address = a; fingerprint = f; block = b; dirty = w })) (sym ge) (sym (y .0 .1)) in
-      subst (λ u. (viewed (u .box) ≡ printedNext (H .same) m d (contentOf H disk) (viewed s) a) × (hit ≡ cond (printedHit (H .same) (contentOf H disk) (viewed s) a) hit miss) × ReadInv (contentOf H disk) disk (u .box)) re
+      let t = read-step (contentOf H disk) disk N s a b h v m1 d1 in
+      let re : step H (N .m) s (record { address = a; fingerprint = contentOf H disk a; block = b; dirty = false })
+      ≡ step H (N .m) s (record { address = a; fingerprint = r .fingerprint; block = b; dirty = r .dirty })
+      = ap₂ (λ f w. step H (N .m) s (record { address = a; fingerprint = f; block = b; dirty = w })) (sym ge) (sym (y .0 .1)) in
+      subst (λ u. (viewed (u .box) ≡ printedNext (H .same) (N .m) (N .d) (contentOf H disk) (viewed s) a)
+      × (hit ≡ cond (printedHit (H .same) (contentOf H disk) (viewed s) a) hit miss) × ReadInv (contentOf H disk) disk (u .box)) re
       (ap₂ {C = Printed F} (λ x z. record { addresses = x; fingerprints = z }) (t .0) (t .1), rw (ha, hc) refl, t .2)
-  read-same disk m d P s a none e h v m1 d1 =
+  read-same disk N s a none e h v m1 d1 =
       let b = at H (s .disk) a in
       let ge : contentOf H disk a ≡ H .hash b = ap (λ l. H .hash (at H l a)) (sym (v .sameDisk)) in
-      let t = read-step (contentOf H disk) disk m d P s a b h v m1 d1 in
-      let re : step H m s (record { address = a; fingerprint = contentOf H disk a; block = b; dirty = false }) ≡ step H m s (record { address = a; fingerprint = H .hash b; block = b; dirty = false })
-      = ap (λ f. step H m s (record { address = a; fingerprint = f; block = b; dirty = false })) ge in
+      let t = read-step (contentOf H disk) disk N s a b h v m1 d1 in
+      let re : step H (N .m) s (record { address = a; fingerprint = contentOf H disk a; block = b; dirty = false })
+      ≡ step H (N .m) s (record { address = a; fingerprint = H .hash b; block = b; dirty = false })
+      = ap (λ f. step H (N .m) s (record { address = a; fingerprint = f; block = b; dirty = false })) ge in
       let nh : printedHit (H .same) (contentOf H disk) (viewed s) a ≡ false
       = either (ifCached-none H (s .used) (rowOf a (s .rows)) e)
       (λ n. rw (has-map eqb (λ (r : AddressRow F). r .address) a (s .rows) ∙ find-none eqb (λ (r : AddressRow F). r .address) a (s .rows) n) refl)
       (λ z. let y = find-some eqb (λ r. r .address) (λ r. r .fingerprint ≡ contentOf H disk (r .address)) a (s .rows) (z .0) (z .1) (v .contents) in
       let ce : z .0 .fingerprint ≡ contentOf H disk a = y .0 ∙ ap (contentOf H disk) (sym (eqb→≡ a (z .0 .address) (y .1))) in
       rw (has-map (H .same) (λ (u : BlockRow F). u .fingerprint) (contentOf H disk a) (s .used) ∙ (rw ce at (z .2))) (and-false (has eqb (λ x. x) a (map (λ r. r .address) (s .rows))))) in
-      subst (λ u. (viewed (u .box) ≡ printedNext (H .same) m d (contentOf H disk) (viewed s) a) × (miss ≡ cond (printedHit (H .same) (contentOf H disk) (viewed s) a) hit miss) × ReadInv (contentOf H disk) disk (u .box)) re
+      subst (λ u. (viewed (u .box) ≡ printedNext (H .same) (N .m) (N .d) (contentOf H disk) (viewed s) a)
+      × (miss ≡ cond (printedHit (H .same) (contentOf H disk) (viewed s) a) hit miss) × ReadInv (contentOf H disk) disk (u .box)) re
       (ap₂ {C = Printed F} (λ x z. record { addresses = x; fingerprints = z }) (t .0) (t .1), ap (λ z. cond z hit miss) (sym nh), t .2)
 
-  pub read-printed : (disk : List X) (m d P : ℕ) (s : Box F X) (a : ℕ) → Sound H m d P s → ReadInv (contentOf H disk) disk s → 1 ≤ m → 1 ≤ d
-      → let o = serve H m s (read a) in
-      (viewed (o .box) ≡ printedNext (H .same) m d (contentOf H disk) (viewed s) a) × (o .word ≡ cond (printedHit (H .same) (contentOf H disk) (viewed s) a) hit miss) × ReadInv (contentOf H disk) disk (o .box)
+  pub read-printed : (disk : List X) (N : Numbers) (s : Box F X) (a : ℕ) → Sound H N s → ReadInv (contentOf H disk) disk s → 1 ≤ N .m → 1 ≤ N .d
+      → let o = serve H N s (read a) in
+      (viewed (o .box) ≡ printedNext (H .same) (N .m) (N .d) (contentOf H disk) (viewed s) a)
+      × (o .word ≡ cond (printedHit (H .same) (contentOf H disk) (viewed s) a) hit miss) × ReadInv (contentOf H disk) disk (o .box)
   unfolding serve ReadSame
-  read-printed disk m d P s a h v m1 d1 = read-same disk m d P s a (rowWithBlock H s a) refl h v m1 d1
+  read-printed disk N s a h v m1 d1 = read-same disk N s a (rowWithBlock H s a) refl h v m1 d1
 
   -- the whole list
-  reads-printed : (disk : List X) (m d P : ℕ) (s : Box F X) (p : Printed F) (es : List Read) → viewed s ≡ p → Sound H m d P s → ReadInv (contentOf H disk) disk s → 1 ≤ m → 1 ≤ d
-      → All (λ e. e .refused ≡ false → e .address < P) es → cacheTrace H m s es ≡ printedTrace (H .same) m d (contentOf H disk) p es
+  reads-printed : (disk : List X) (N : Numbers) (s : Box F X) (p : Printed F) (es : List Read) → viewed s ≡ p → Sound H N s → ReadInv (contentOf H disk) disk s
+      → 1 ≤ N .m → 1 ≤ N .d
+      → All (λ e. e .refused ≡ false → e .address < N .P) es → cacheTrace H N s es ≡ printedTrace (H .same) (N .m) (N .d) (contentOf H disk) p es
   unfolding cacheTrace printedTrace
-  reads-printed disk m d P s p [] q h v m1 d1 w = refl
-  reads-printed disk m d P s p (e ∷ es) q h v m1 d1 w =
+  reads-printed disk N s p [] q h v m1 d1 w = refl
+  reads-printed disk N s p (e ∷ es) q h v m1 d1 w =
       by-test (e .refused)
-      (λ r. rw r (ap₂ {C = List (Compared F)} (λ x l. x ∷ l) (ap (λ z. printedIn z none) q) (reads-printed disk m d P s p es q h v m1 d1 (w .1))))
+      (λ r. rw r (ap₂ {C = List (Compared F)} (λ x l. x ∷ l) (ap (λ z. printedIn z none) q) (reads-printed disk N s p es q h v m1 d1 (w .1))))
       (λ r. rw r (
-      let o = serve H m s (read (e .address)) in
-      let t = read-printed disk m d P s (e .address) h v m1 d1 in
-      let next : viewed (o .box) ≡ printedNext (H .same) m d (contentOf H disk) p (e .address) = t .0 ∙ ap (λ z. printedNext (H .same) m d (contentOf H disk) z (e .address)) q in
+      let o = serve H N s (read (e .address)) in
+      let t = read-printed disk N s (e .address) h v m1 d1 in
+      let next : viewed (o .box) ≡ printedNext (H .same) (N .m) (N .d) (contentOf H disk) p (e .address) = t .0
+      ∙ ap (λ z. printedNext (H .same) (N .m) (N .d) (contentOf H disk) z (e .address)) q in
       let word : o .word ≡ cond (printedHit (H .same) (contentOf H disk) p (e .address)) hit miss = t .1 ∙ ap (λ z. cond (printedHit (H .same) (contentOf H disk) z (e .address)) hit miss) q in
       ap₂ {C = List (Compared F)} (λ x l. x ∷ l)
       (ap₂ (λ z k. printedIn z (some k)) next word)
-      (reads-printed disk m d P (o .box) (printedNext (H .same) m d (contentOf H disk) p (e .address)) es next (sound-serve H m d P s (read (e .address)) h m1 d1 (w .0 r)) (t .2) m1 d1 (w .1))))
+      (reads-printed disk N (o .box) (printedNext (H .same) (N .m) (N .d) (contentOf H disk) p (e .address)) es next
+      (sound-serve H N s (read (e .address)) h m1 d1 (w .0 r)) (t .2) m1 d1 (w .1))))
 
   -- for every list of reads, from a fresh box over any disk and flash
-  pub printed-law : (m d P : ℕ) (flash disk : List X) (es : List Read) → 1 ≤ m → 1 ≤ d → length flash ≡ d → length disk ≡ P → All (λ e. e .refused ≡ false → e .address < P) es
-      → cacheTrace H m (fresh d flash disk) es ≡ printedTrace (H .same) m d (contentOf H disk) (record { addresses = []; fingerprints = [] }) es
-  printed-law m d P flash disk es m1 d1 fl dl w =
-      reads-printed disk m d P (fresh d flash disk) (record { addresses = []; fingerprints = [] }) es refl (rw dl at (sound-fresh H m d flash disk fl))
+  pub printed-law : (N : Numbers) (flash disk : List X) (es : List Read) → 1 ≤ N .m → 1 ≤ N .d → length flash ≡ N .d → length disk ≡ N .P
+      → All (λ e. e .refused ≡ false → e .address < N .P) es
+      → cacheTrace H N (fresh (N .d) flash disk) es ≡ printedTrace (H .same) (N .m) (N .d) (contentOf H disk) (record { addresses = []; fingerprints = [] }) es
+  printed-law N flash disk es m1 d1 fl dl w =
+      reads-printed disk N (fresh (N .d) flash disk) (record { addresses = []; fingerprints = [] }) es refl (sound-fresh H N flash disk fl dl)
       (record { clean = tt; contents = tt; sameDisk = refl; nested = inl ([], refl) }) m1 d1 w

@@ -2,102 +2,92 @@
 use mathlib.Core.Path.{_≡_, refl, sym, ap, _∙_, subst}
 use mathlib.Core.Bool.{Bool, true, false, cond}
 use mathlib.Core.List.{List, [], _∷_}
-use mathlib.Core.Option.{Option, none, some}
+use mathlib.Core.Option.{Option, none, some, Option·map, Option·some-ne-none}
 use mathlib.Core.Logic.{inl}
 use Prim.Native.Nat.{ℕ, _≤_, _<_}
 use lib.ListN.{length}
-use Rattle.paper.specs.Cache.{Hashing, AddressRow, Box, Call, read, through, back, invalidate, look, flush, Within, serve, fresh, lookAs, flushed, rowWithBlock}
+use Rattle.paper.specs.Cache.{Numbers, Hashing, AddressRow, Box, Call, read, through, back, invalidate, look, flush, about, before, Below, Within, serve}
+use Rattle.paper.specs.Cache.{fresh}
+use Rattle.paper.specs.Cache.{lookAs, flushed, rowWithBlock}
 use Rattle.paper.specs.KeyedLaws.{All, by-test}
-use Rattle.paper.specs.Machines.{contentOf, Read, Compared, seenIn, printedTrace}
+use Rattle.paper.specs.Machines.{contentOf, NoWrite, Read, Compared, ifRead, seenIn, printedTrace}
 use Rattle.paper.specs.Events.{Event, cacheTrace}
 use Rattle.paper.specs.Sound.{Sound, sound-serve, sound-fresh}
 use Rattle.paper.specs.PlainDisk.{ServedWithin}
 use Rattle.paper.specs.Printed.{ReadInv, read-printed, printed-law, cleaned-clean, copied-clean}
-
-abbrev pub NoWrite : {X : Type 0} → Call X → Type 0
-NoWrite (read a) = Unit {0}
-NoWrite (look a) = Unit {0}
-NoWrite flush = Unit {0}
-NoWrite (through a b) = ⊥
-NoWrite (back a b) = ⊥
-NoWrite (invalidate a b) = ⊥
-
--- what a read puts into a list, and no other call does
-abbrev pub ifRead : {X A : Type 0} → Call X → (ℕ → A) → List A → List A
-ifRead (read a) f l = f a ∷ l
-ifRead (look a) f l = l
-ifRead flush f l = l
-ifRead (through a b) f l = l
-ifRead (back a b) f l = l
-ifRead (invalidate a b) f l = l
 
 abbrev pub readsOf : {X : Type 0} → List (Event X) → List Read
 readsOf [] = []
 readsOf (e ∷ es) = ifRead (e .call) (λ a. record { address = a; refused = e .refused }) (readsOf es)
 
 -- the box and the answer after each read of a list of calls
-unfoldable pub traceOf : {F X : Type 0} (H : Hashing F X) → ℕ → Box F X → List (Event X) → List (Compared F)
-traceOf H m s [] = []
-traceOf H m s (e ∷ es) =
-    let s′ = cond (e .refused) s ((serve H m s (e .call)) .box) in
-    ifRead (e .call) (λ a. seenIn s′ (cond (e .refused) none (some ((serve H m s (e .call)) .word)))) (traceOf H m s′ es)
+unfoldable pub traceOf : {F X : Type 0} (H : Hashing F X) → Numbers → Box F X → List (Event X) → List (Compared F)
+traceOf H N s [] = []
+traceOf H N s (e ∷ es) =
+    let s′ = cond (e .refused) s ((serve H N s (e .call)) .box) in
+    ifRead (e .call) (λ a. seenIn s′ (cond (e .refused) none (some ((serve H N s (e .call)) .word)))) (traceOf H N s′ es)
 
 module _ {F X : Type 0} (H : Hashing F X) where
   -- looks and flushes change nothing where only reads were served
-  pub look-same : (m : ℕ) (s : Box F X) (a : ℕ) → (serve H m s (look a)) .box ≡ s
+  pub look-same : (N : Numbers) (s : Box F X) (a : ℕ) → (serve H N s (look a)) .box ≡ s
   unfolding serve lookAs
-  look-same m s a = go (rowWithBlock H s a)
+  look-same N s a = go (rowWithBlock H s a)
     where
       go : (o : Option (AddressRow F)) → (lookAs H s a o) .box ≡ s
       go (some r) = refl
       go none = refl
 
-  flush-same : (m : ℕ) (disk : List X) (s : Box F X) → ReadInv H (contentOf H disk) disk s → (serve H m s flush) .box ≡ s
+  flush-same : (N : Numbers) (disk : List X) (s : Box F X) → ReadInv H (contentOf H disk) disk s → (serve H N s flush) .box ≡ s
   unfolding serve flushed
-  flush-same m disk s v =
+  flush-same N disk s v =
       let r = cleaned-clean H (λ f. true) (s .rows) (v .clean) in
       let d = copied-clean H (λ f. true) (s .rows) (s .used) (s .flash) (s .disk) (v .clean) in
       λ i. record { rows = r i; free = s .free; used = s .used; flash = s .flash; disk = d i }
 
-  module _ (disk : List X) (m d P : ℕ) (m1 : 1 ≤ m) (d1 : 1 ≤ d) where
+  module _ (disk : List X) (N : Numbers) (m1 : 1 ≤ N .m) (d1 : 1 ≤ N .d) where
     abbrev Same : List (Event X) → Type 0
-    Same es = (s : Box F X) → Sound H m d P s → ReadInv H (contentOf H disk) disk s → traceOf H m s es ≡ cacheTrace H m s (readsOf es)
+    Same es = (s : Box F X) → Sound H N s → ReadInv H (contentOf H disk) disk s → traceOf H N s es ≡ cacheTrace H N s (readsOf es)
 
-    quiet-call : (c : Call X) (r : Bool) (es : List (Event X)) (s : Box F X) → NoWrite c → (r ≡ false → Within P c) → Sound H m d P s → ReadInv H (contentOf H disk) disk s → Same es
-        → let s′ = cond r s ((serve H m s c) .box) in
-        ifRead c (λ a. seenIn s′ (cond r none (some ((serve H m s c) .word)))) (traceOf H m s′ es) ≡ cacheTrace H m s (ifRead c (λ a. record { address = a; refused = r }) (readsOf es))
+    quiet-call : (c : Call X) (r : Bool) (es : List (Event X)) (s : Box F X) → NoWrite c → (r ≡ false → Within (N .P) c) → Sound H N s
+        → ReadInv H (contentOf H disk) disk s → Same es
+        → let s′ = cond r s ((serve H N s c) .box) in
+        ifRead c (λ a. seenIn s′ (cond r none (some ((serve H N s c) .word)))) (traceOf H N s′ es)
+        ≡ cacheTrace H N s (ifRead c (λ a. record { address = a; refused = r }) (readsOf es))
     unfolding cacheTrace
     quiet-call (read a) r es s n w h v ih =
         by-test r
         (λ e. rw e (ap {B = List (Compared F)} (λ l. seenIn s none ∷ l) (ih s h v)))
-        (λ e. rw e (ap {B = List (Compared F)} (λ l. seenIn ((serve H m s (read a)) .box) (some ((serve H m s (read a)) .word)) ∷ l)
-        (ih ((serve H m s (read a)) .box) (sound-serve H m d P s (read a) h m1 d1 (w e)) ((read-printed H disk m d P s a h v m1 d1) .2))))
-    quiet-call (look a) r es s n w h v ih = by-test r (λ e. rw e (ih s h v)) (λ e. rw e (subst (λ x. traceOf H m x es ≡ cacheTrace H m s (readsOf es)) (sym (look-same m s a)) (ih s h v)))
-    quiet-call flush r es s n w h v ih = by-test r (λ e. rw e (ih s h v)) (λ e. rw e (subst (λ x. traceOf H m x es ≡ cacheTrace H m s (readsOf es)) (sym (flush-same m disk s v)) (ih s h v)))
-    quiet-call (through a b) r es s n w h v ih = absurd n
-    quiet-call (back a b) r es s n w h v ih = absurd n
-    quiet-call (invalidate a b) r es s n w h v ih = absurd n
+        (λ e. rw e (ap {B = List (Compared F)} (λ l. seenIn ((serve H N s (read a)) .box) (some ((serve H N s (read a)) .word)) ∷ l)
+        (ih ((serve H N s (read a)) .box) (sound-serve H N s (read a) h m1 d1 (w e)) ((read-printed H disk N s a h v m1 d1) .2))))
+    quiet-call (look a) r es s n w h v ih
+        = by-test r (λ e. rw e (ih s h v)) (λ e. rw e (subst (λ x. traceOf H N x es ≡ cacheTrace H N s (readsOf es)) (sym (look-same N s a)) (ih s h v)))
+    quiet-call flush r es s n w h v ih
+        = by-test r (λ e. rw e (ih s h v)) (λ e. rw e (subst (λ x. traceOf H N x es ≡ cacheTrace H N s (readsOf es)) (sym (flush-same N disk s v)) (ih s h v)))
+    quiet-call (through a b) r es s n w h v ih = absurd (Option·some-ne-none b n)
+    quiet-call (back a b) r es s n w h v ih = absurd (Option·some-ne-none b n)
+    quiet-call (invalidate a b) r es s n w h v ih = absurd (Option·some-ne-none b n)
 
-    quiet : (es : List (Event X)) → All (λ e. NoWrite (e .call)) es → All (ServedWithin P) es → Same es
+    quiet : (es : List (Event X)) → All (λ e. NoWrite (e .call)) es → All (ServedWithin (N .P)) es → Same es
     unfolding traceOf cacheTrace
     quiet [] n w s h v = refl
     quiet (e ∷ es) n w s h v = quiet-call (e .call) (e .refused) es s (n .0) (w .0) h v (quiet es (n .1) (w .1))
 
     -- for every list with no write, from a fresh box
-    pub printed-quiet : (flash : List X) (es : List (Event X)) → length flash ≡ d → length disk ≡ P → All (λ e. NoWrite (e .call)) es → All (ServedWithin P) es
-        → traceOf H m (fresh d flash disk) es ≡ printedTrace (H .same) m d (contentOf H disk) (record { addresses = []; fingerprints = [] }) (readsOf es)
+    pub printed-quiet : (flash : List X) (es : List (Event X)) → length flash ≡ N .d → length disk ≡ N .P → All (λ e. NoWrite (e .call)) es
+        → All (ServedWithin (N .P)) es
+        → traceOf H N (fresh (N .d) flash disk) es
+        ≡ printedTrace (H .same) (N .m) (N .d) (contentOf H disk) (record { addresses = []; fingerprints = [] }) (readsOf es)
     printed-quiet flash es fl dl n w =
-        quiet es n w (fresh d flash disk) (rw dl at (sound-fresh H m d flash disk fl)) (record { clean = tt; contents = tt; sameDisk = refl; nested = inl ([], refl) })
-        ∙ printed-law H m d P flash disk (readsOf es) m1 d1 fl dl (reads-within es w)
+        quiet es n w (fresh (N .d) flash disk) (sound-fresh H N flash disk fl dl)
+        (record { clean = tt; contents = tt; sameDisk = refl; nested = inl ([], refl) })
+        ∙ printed-law H N flash disk (readsOf es) m1 d1 fl dl (reads-within es w)
       where
-        one : (c : Call X) (r : Bool) (l : List Read) → (r ≡ false → Within P c) → All (λ e. e .refused ≡ false → e .address < P) l → All (λ e. e .refused ≡ false → e .address < P) (ifRead c (λ a. record { address = a; refused = r }) l)
-        one (read a) r l w h = (w, h)
-        one (look a) r l w h = h
-        one flush r l w h = h
-        one (through a b) r l w h = h
-        one (back a b) r l w h = h
-        one (invalidate a b) r l w h = h
+        one : (reads : Bool) (a : Option ℕ) (r : Bool) (l : List Read) → (r ≡ false → Below (N .P) a) → All (λ e. e .refused ≡ false → e .address < N .P) l
+            → All (λ e. e .refused ≡ false → e .address < N .P) (cond reads (before (Option·map (λ a. record { address = a; refused = r }) a) l) l)
+        one false a r l w h = h
+        one true none r l w h = h
+        one true (some a) r l w h = (w, h)
 
-        reads-within : (es : List (Event X)) → All (ServedWithin P) es → All (λ e. e .refused ≡ false → e .address < P) (readsOf es)
+        reads-within : (es : List (Event X)) → All (ServedWithin (N .P)) es → All (λ e. e .refused ≡ false → e .address < N .P) (readsOf es)
         reads-within [] w = tt
-        reads-within (e ∷ es) w = one (e .call) (e .refused) (readsOf es) (w .0) (reads-within es (w .1))
+        reads-within (e ∷ es) w = one (about (e .call) .reads) (about (e .call) .address) (e .refused) (readsOf es) (w .0) (reads-within es (w .1))

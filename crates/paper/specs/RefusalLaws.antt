@@ -9,7 +9,9 @@ use native.Mathlib.Omega.{arith}
 use borrow.Author.Tests.{ne-eqb}
 use Rattle.tables.specs.Unsound.{addressesUnsound, blocksUnsound, dirtyUncached}
 use Rattle.paper.specs.KeyedLaws.{by-test}
-use Rattle.paper.specs.Lent.{Numbers, Lent, Ask, opening, calling, addressOf, lentBlock, unfit, wrongBuffers, wrongBlock, outside, over, counts, refusal, refused, served, kept, call, fresh, unopened, opened}
+use Rattle.paper.specs.Cache.{Numbers}
+use Rattle.paper.specs.Lent.{Lent, Ask, opening, calling, addressOf, lentBlock, unfit, wrongBuffers, wrongBlock, outside, over, counts, refusal, refused}
+use Rattle.paper.specs.Lent.{served, kept, call, fresh, unopened, opened}
 
 -- the number of the first of seven tests that holds
 firstOf : (a b c d e f g : Bool) → ℕ

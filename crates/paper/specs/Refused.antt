@@ -13,10 +13,10 @@ use Rattle.tables.specs.Records.{AddressRow, BlockRow, addressRow, blockRow, fr
 use Rattle.tables.specs.Find as Find
 use Rattle.tables.specs.Unsound as Unsound
 use Rattle.paper.specs.Cache as Cache
-use Rattle.paper.specs.Cache.{hit, fromCache, fromDisk, done, Counters, noCounts}
+use Rattle.paper.specs.Cache.{Numbers, hit, fromCache, fromDisk, done, Counters, noCounts}
 use Rattle.paper.specs.Engine as Engine
 use Rattle.paper.specs.Lent as Lent
-use Rattle.paper.specs.Lent.{Numbers, Lent, Ask, Asked, opening, calling, Answer, refused, answered, After, unfit, refusal, call, opened}
+use Rattle.paper.specs.Lent.{Lent, Ask, Asked, opening, calling, Answer, refused, answered, After, unfit, refusal, call, opened}
 
 abbrev numbers : ℕ → ℕ → ℕ → ℕ → Numbers
 numbers B P m d = record { B = B; P = P; m = m; d = d }
@@ -116,7 +116,19 @@ starting a = opening
 
 -- 1. "B 64 and 4,096 open, 32, 96 and 8,192 give 1." The lengths are right.
 abbrev opens : ℕ → ℕ → Case
-opens B k = record { numbers = numbers B 1 1 1; lent = record { n = 0; disk = replicate B 0; flash = replicate B 0; addresses = replicate 40 0; blocks = replicate 40 0; counters = noCounts }; asked = opening; number = k }
+opens B k = record {
+  numbers = numbers B 1 1 1;
+  lent = record {
+    n = 0;
+    disk = replicate B 0;
+    flash = replicate B 0;
+    addresses = replicate 40 0;
+    blocks = replicate 40 0;
+    counters = noCounts;
+  };
+  asked = opening;
+  number = k;
+}
 
 abbrev sizes : List Case
 sizes = opens 64 0 ∷ opens 4096 0 ∷ opens 32 1 ∷ opens 96 1 ∷ opens 8192 1 ∷ []
@@ -316,7 +328,8 @@ pub record Called : Type 0 where
 abbrev leaves : Answer → Lent → Option (List ℕ) → List ℕ → After
 leaves w t b p = record { answer = w; lent = t; block = b; part = p }
 
--- "A refused call returns its number and the box record as given ..; every buffer and counter keeps its bytes", the lent block too; "a refused look's part is empty"
+-- "A refused call returns its number and the box record as given ..; every buffer and counter keeps its bytes", the lent block too; "a refused look's
+-- part is empty"
 abbrev keeps : Numbers → Lent → Ask → ℕ → Option (List ℕ) → Called
 keeps N t q k b = record { numbers = N; lent = t; ask = q; after = leaves (refused k) t b [] }
 

@@ -11,7 +11,10 @@ use lib.ListN.{length, set, getD, length-set, length-append}
 use borrow.Author.Tests.{not-true, eqb-false}
 use Rattle.tables.specs.Records.{slotsFrom}
 use Rattle.paper.specs.Keyed.{has, without}
-use Rattle.paper.specs.Cache.{Hashing, AddressRow, BlockRow, Box, RowOut, BlockRows, Request, newest, blockRow, held, rowOf, withoutAddress, known, cached, withoutBlock, slotOf, blockOf, cleaned, copied, isLost, step, step1, step3, step4, freed, oldestUnknown, stored, Call, read, through, back, invalidate, look, flush, Within, onDisk, rowWithBlock, answer, readAs, writeThrough, writeBack, dropped, writeInvalidate, lookAs, flushed, serve, fresh}
+use Rattle.paper.specs.Cache.{Numbers, Hashing, AddressRow, BlockRow, Box, RowOut, BlockRows, Request, newest, blockRow, held, rowOf, withoutAddress}
+use Rattle.paper.specs.Cache.{known, cached, withoutBlock, slotOf, blockOf, cleaned, copied, isLost, step, step1, step3, step4, freed, oldestUnknown}
+use Rattle.paper.specs.Cache.{stored, Call, read, through, back, invalidate, look, flush, Within, onDisk, rowWithBlock, answer, readAs, writeThrough}
+use Rattle.paper.specs.Cache.{writeBack, dropped, writeInvalidate, lookAs, flushed, serve, fresh}
 use Rattle.paper.specs.KeyedLaws.{by-test, either, clash, or-left, or-right, or-false-right, and-left, and-right, eqb→≡, eqb-self, All, Distinct, all-append, all-map, all-without, all-both, has-without-other, has-without, has-without-self, without-absent, distinct-without, distinct-snoc}
 use Rattle.paper.specs.Cases.{by-step1, by-step3, by-step4, Chosen}
 use Rattle.paper.specs.Orphans.{apart, cached-in, cached-add, cached-self, oldestUnknown-some}
@@ -105,36 +108,36 @@ module _ {F X : Type 0} (H : Hashing F X) where
 abbrev pub DirtyCached : {F X : Type 0} (H : Hashing F X) → List (BlockRow F) → AddressRow F → Type 0
 DirtyCached H used r = r .dirty ≡ true → cached H (r .fingerprint) used ≡ true
 
--- What holds of the box in every state reached: no address held twice, each below P, at most m of them; no fingerprint used twice; slots each of
--- 0 to d − 1 once, free or used; a dirty row's fingerprint cached; d blocks of flash and P of disk.
-pub record Sound {F X : Type 0} (H : Hashing F X) (m d P : ℕ) (s : Box F X) : Type 0 where
+-- What holds of the box in every state reached: no address held twice, each below (P), at most (m) of them; no fingerprint used twice; slots each of
+-- 0 to (d) − 1 once, free or used; a dirty row's fingerprint cached; (d) blocks of flash and (P) of disk.
+pub record Sound {F X : Type 0} (H : Hashing F X) (N : Numbers) (s : Box F X) : Type 0 where
   pub addresses : Distinct eqb (λ r. r .address) (s .rows)
-  pub below : All (λ r. r .address < P) (s .rows)
-  pub few : length (s .rows) ≤ m
+  pub below : All (λ r. r .address < N .P) (s .rows)
+  pub few : length (s .rows) ≤ N .m
   pub fingerprints : Distinct (H .same) (λ u. u .fingerprint) (s .used)
-  pub slots : List·Permᴰ (s .free ++ map (λ u. u .slot) (s .used)) (slotsFrom 0 d)
+  pub slots : List·Permᴰ (s .free ++ map (λ u. u .slot) (s .used)) (slotsFrom 0 (N .d))
   pub dirtyCached : All (DirtyCached H (s .used)) (s .rows)
-  pub flashLength : length (s .flash) ≡ d
-  pub diskLength : length (s .disk) ≡ P
+  pub flashLength : length (s .flash) ≡ N .d
+  pub diskLength : length (s .disk) ≡ N .P
 
 module _ {F X : Type 0} (H : Hashing F X) where
   -- after step 1
-  pub record Out (m d P a : ℕ) (s : Box F X) (o : RowOut F X) : Type 0 where
+  pub record Out (N : Numbers) (a : ℕ) (s : Box F X) (o : RowOut F X) : Type 0 where
     pub addresses : Distinct eqb (λ r. r .address) (o .rows)
     pub absent : held a (o .rows) ≡ false
-    pub below : All (λ r. r .address < P) (o .rows)
-    pub few : length (o .rows) < m
+    pub below : All (λ r. r .address < N .P) (o .rows)
+    pub few : length (o .rows) < N .m
     pub dirtyCached : All (DirtyCached H (s .used)) (o .rows)
-    pub diskLength : length (o .disk) ≡ P
+    pub diskLength : length (o .disk) ≡ N .P
 
-  pub sound-step1 : (m d P : ℕ) (s : Box F X) (a : ℕ) → Sound H m d P s → 1 ≤ m → Out m d P a s (step1 H m s a)
-  sound-step1 m d P s a h m1 =
+  pub sound-step1 : (N : Numbers) (s : Box F X) (a : ℕ) → Sound H N s → 1 ≤ N .m → Out N a s (step1 H (N .m) s a)
+  sound-step1 N s a h m1 =
       let few = h .few in
-      by-step1 H m s a (Out m d P a s)
+      by-step1 H (N .m) s a (Out N a s)
       (λ e. record {
         addresses = distinct-without eqb (λ r. r .address) a (s .rows) (h .addresses);
         absent = has-without-self eqb (λ r. r .address) a (s .rows);
-        below = all-without eqb (λ r. r .address) (λ r. r .address < P) a (s .rows) (h .below);
+        below = all-without eqb (λ r. r .address) (λ r. r .address < N .P) a (s .rows) (h .below);
         few = omega (arith, length-without-lt eqb (λ r. r .address) a (s .rows) e);
         dirtyCached = all-without eqb (λ r. r .address) (DirtyCached H (s .used)) a (s .rows) (h .dirtyCached);
         diskLength = h .diskLength;
@@ -142,8 +145,8 @@ module _ {F X : Type 0} (H : Hashing F X) where
       (λ e r rs p n. record {
         addresses = (subst (Distinct eqb (λ r. r .address)) p (h .addresses)) .1;
         absent = or-false-right (eqb a (r .address)) (held a rs) (rw p at e);
-        below = (subst (All (λ r. r .address < P)) p (h .below)) .1;
-        few = omega (arith, eqb→≡ (length (s .rows)) m n, ap length p);
+        below = (subst (All (λ r. r .address < N .P)) p (h .below)) .1;
+        few = omega (arith, eqb→≡ (length (s .rows)) (N .m) n, ap length p);
         dirtyCached = (subst (All (DirtyCached H (s .used))) p (h .dirtyCached)) .1;
         diskLength = length-copied H (λ f. true) (r ∷ []) (s .used) (s .flash) (s .disk) ∙ h .diskLength;
       })
@@ -151,7 +154,7 @@ module _ {F X : Type 0} (H : Hashing F X) where
         addresses = h .addresses;
         absent = e;
         below = h .below;
-        few = either p (λ n. omega (arith, eqb-false (length (s .rows)) m n)) (λ q. omega (arith, ap length q));
+        few = either p (λ n. omega (arith, eqb-false (length (s .rows)) (N .m) n)) (λ q. omega (arith, ap length q));
         dirtyCached = h .dirtyCached;
         diskLength = h .diskLength;
       })
@@ -190,13 +193,14 @@ module _ {F X : Type 0} (H : Hashing F X) where
       rw (map-append (λ (u : BlockRow F). u .slot) used (blockRow g k ∷ []))
       (List·Permᴰ·trans (Permᴰ·append-left free (Permᴰ·symm (perm-snoc k (map (λ u. u .slot) used)))) (Permᴰ·middle k free (map (λ u. u .slot) used)))
 
-  pub sound-step4 : (m d P : ℕ) (rows : List (AddressRow F)) (free : List ℕ) (used : List (BlockRow F)) (flash disk : List X) (g : F) (b : X) (w : ℕ)
-      → Distinct eqb (λ r. r .address) rows → All (λ r. r .address < P) rows → length rows ≤ m → Blocks d g rows (record { free = free; used = used })
-      → length flash ≡ d → length disk ≡ P → 1 ≤ d
-      → Sound H m d P ((step4 H rows (record { free = free; used = used }) flash disk g b w) .box)
+  pub sound-step4 : (N : Numbers) (rows : List (AddressRow F)) (free : List ℕ) (used : List (BlockRow F)) (flash disk : List X) (g : F) (b : X) (w : ℕ)
+      → Distinct eqb (λ r. r .address) rows → All (λ r. r .address < N .P) rows → length rows ≤ N .m
+      → Blocks (N .d) g rows (record { free = free; used = used })
+      → length flash ≡ N .d → length disk ≡ N .P → 1 ≤ N .d
+      → Sound H N ((step4 H rows (record { free = free; used = used }) flash disk g b w) .box)
   unfolding stored
-  sound-step4 m d P rows free used flash disk g b w da bl fw h fl dl d1 =
-      by-step4 H rows free used flash disk g b w (λ t. Sound H m d P (t .box))
+  sound-step4 N rows free used flash disk g b w da bl fw h fl dl d1 =
+      by-step4 H rows free used flash disk g b w (λ t. Sound H N (t .box))
       (λ c. record {
         addresses = da;
         below = bl;
@@ -215,10 +219,10 @@ module _ {F X : Type 0} (H : Hashing F X) where
       })
       (λ c k ks p. record {
         addresses = distinct-cleaned H (isLost H none) rows da;
-        below = all-cleaned H (isLost H none) (λ r. r .address < P) (λ r. r .address < P) (λ r y. y) rows bl;
+        below = all-cleaned H (isLost H none) (λ r. r .address < N .P) (λ r. r .address < N .P) (λ r y. y) rows bl;
         few = rw (length-cleaned H (isLost H none) rows) fw;
         fingerprints = distinct-snoc (H .same) (λ u. u .fingerprint) (H .same→≡) (H .same-refl) (blockRow g k) used (h .fingerprints) c;
-        slots = List·Permᴰ·trans (slots-newest ks used g k) (subst (λ l. List·Permᴰ (l ++ map (λ u. u .slot) used) (slotsFrom 0 d)) p (h .slots));
+        slots = List·Permᴰ·trans (slots-newest ks used g k) (subst (λ l. List·Permᴰ (l ++ map (λ u. u .slot) used) (slotsFrom 0 (N .d))) p (h .slots));
         dirtyCached = all-cleaned H (isLost H none) (λ r. r .dirty ≡ true → (cached H (r .fingerprint) used ≡ true) ⊎ (r .fingerprint ≡ g)) (DirtyCached H (used ++ (blockRow g k ∷ [])))
             (λ r y e. either (y (and-left (r .dirty) true e)) (λ t. cached-add H (r .fingerprint) g k used t) (λ t. cached-self H (r .fingerprint) g k used t))
             rows (h .dirtyCached);
@@ -230,12 +234,13 @@ module _ {F X : Type 0} (H : Hashing F X) where
       let cs = chosen-slot H rows used u ch in
       record {
         addresses = distinct-cleaned H (isLost H (some v)) rows da;
-        below = all-cleaned H (isLost H (some v)) (λ r. r .address < P) (λ r. r .address < P) (λ r y. y) rows bl;
+        below = all-cleaned H (isLost H (some v)) (λ r. r .address < N .P) (λ r. r .address < N .P) (λ r y. y) rows bl;
         few = rw (length-cleaned H (isLost H (some v)) rows) fw;
         fingerprints = distinct-snoc (H .same) (λ u. u .fingerprint) (H .same→≡) (H .same-refl) (blockRow g (u .slot)) (withoutBlock H v used) (distinct-without (H .same) (λ u. u .fingerprint) v used (h .fingerprints))
             (by-test (cached H g (withoutBlock H v used)) (λ t. clash (has-without-other (H .same) (λ u. u .fingerprint) (H .same) (λ u. u .fingerprint) g v used t) c) (λ f. f));
         slots = List·Permᴰ·trans (slots-newest [] (withoutBlock H v used) g (u .slot))
-            (List·Permᴰ·trans (rw (cs .0) at (Permᴰ·symm (perm-take H v used (h .fingerprints) (cs .1)))) (subst (λ l. List·Permᴰ (l ++ map (λ u. u .slot) used) (slotsFrom 0 d)) p (h .slots)));
+            (List·Permᴰ·trans (rw (cs .0) at (Permᴰ·symm (perm-take H v used (h .fingerprints) (cs .1))))
+            (subst (λ l. List·Permᴰ (l ++ map (λ u. u .slot) used) (slotsFrom 0 (N .d))) p (h .slots)));
         dirtyCached = all-cleaned H (isLost H (some v)) (λ r. r .dirty ≡ true → (cached H (r .fingerprint) used ≡ true) ⊎ (r .fingerprint ≡ g)) (DirtyCached H (withoutBlock H v used ++ (blockRow g (u .slot) ∷ [])))
             (λ r y e. either (y (and-left (r .dirty) (not (H .same v (r .fingerprint))) e))
             (λ t. cached-in H v (r .fingerprint) g (u .slot) used t (not-true (H .same v (r .fingerprint)) (and-right (r .dirty) (not (H .same v (r .fingerprint))) e)))
@@ -244,33 +249,33 @@ module _ {F X : Type 0} (H : Hashing F X) where
         flashLength = length-set flash (u .slot) b ∙ fl;
         diskLength = length-copied H (isLost H (some v)) rows used flash disk ∙ dl;
       })
-      (λ p q. absurd (some-slot d free used d1 (h .slots) p q))
+      (λ p q. absurd (some-slot (N .d) free used d1 (h .slots) p q))
 
-  pub sound-step : (m d P : ℕ) (s : Box F X) (q : Request F X) → Sound H m d P s → 1 ≤ m → 1 ≤ d → q .address < P → Sound H m d P ((step H m s q) .box)
+  pub sound-step : (N : Numbers) (s : Box F X) (q : Request F X) → Sound H N s → 1 ≤ N .m → 1 ≤ N .d → q .address < N .P → Sound H N ((step H (N .m) s q) .box)
   unfolding step
-  sound-step m d P s q h m1 d1 ap =
+  sound-step N s q h m1 d1 ap =
       let a = q .address in
       let g = q .fingerprint in
-      let o = step1 H m s a in
+      let o = step1 H (N .m) s a in
       let new = newest a g (q .dirty) in
       let rows = o .rows ++ (new ∷ []) in
-      let out = sound-step1 m d P s a h m1 in
+      let out = sound-step1 N s a h m1 in
       let t = step3 H (o .gone) (o .rows) rows (record { free = s .free; used = s .used }) in
       let dirty : All (λ r. r .dirty ≡ true → (cached H (r .fingerprint) (s .used) ≡ true) ⊎ (r .fingerprint ≡ g)) rows
       = all-append (λ r. r .dirty ≡ true → (cached H (r .fingerprint) (s .used) ≡ true) ⊎ (r .fingerprint ≡ g)) (o .rows) (new ∷ [])
       (all-map (DirtyCached H (s .used)) (λ r. r .dirty ≡ true → (cached H (r .fingerprint) (s .used) ≡ true) ⊎ (r .fingerprint ≡ g)) (λ r y e. inl (y e)) (o .rows) (out .dirtyCached))
       ((λ e. inr refl), tt) in
-      sound-step4 m d P rows (t .free) (t .used) (s .flash) (o .disk) g (q .block) (o .primary)
+      sound-step4 N rows (t .free) (t .used) (s .flash) (o .disk) g (q .block) (o .primary)
       (distinct-snoc eqb (λ r. r .address) eqb→≡ eqb-self new (o .rows) (out .addresses) (out .absent))
-      (all-append (λ r. r .address < P) (o .rows) (new ∷ []) (out .below) (ap, tt))
+      (all-append (λ r. r .address < N .P) (o .rows) (new ∷ []) (out .below) (ap, tt))
       (let e = length-append (o .rows) (new ∷ []) in let f = out .few in omega arith)
-      (sound-step3 d (o .gone) (o .rows) rows (record { free = s .free; used = s .used }) g
+      (sound-step3 (N .d) (o .gone) (o .rows) rows (record { free = s .free; used = s .used }) g
       (record { fingerprints = h .fingerprints; slots = h .slots; dirtyCached = dirty }))
       (h .flashLength) (out .diskLength) d1
 
   -- the calls
-  pub sound-onDisk : (m d P : ℕ) (s : Box F X) (a : ℕ) (b : X) → Sound H m d P s → Sound H m d P (onDisk H s a b)
-  sound-onDisk m d P s a b h =
+  pub sound-onDisk : (N : Numbers) (s : Box F X) (a : ℕ) (b : X) → Sound H N s → Sound H N (onDisk H s a b)
+  sound-onDisk N s a b h =
       record {
         addresses = h .addresses;
         below = h .below;
@@ -282,15 +287,20 @@ module _ {F X : Type 0} (H : Hashing F X) where
         diskLength = length-set (s .disk) a b ∙ h .diskLength;
       }
 
-  sound-readAs : (m d P : ℕ) (s : Box F X) (a : ℕ) (o : Option (AddressRow F)) → Sound H m d P s → 1 ≤ m → 1 ≤ d → a < P → Sound H m d P ((readAs H m s a o) .box)
+  sound-readAs : (N : Numbers) (s : Box F X) (a : ℕ) (o : Option (AddressRow F)) → Sound H N s → 1 ≤ N .m → 1 ≤ N .d → a < N .P
+      → Sound H N ((readAs H (N .m) s a o) .box)
   unfolding readAs answer
-  sound-readAs m d P s a (some r) h m1 d1 ap = sound-step m d P s (record { address = a; fingerprint = r .fingerprint; block = blockOf H (r .fingerprint) (s .used) (s .flash); dirty = r .dirty }) h m1 d1 ap
-  sound-readAs m d P s a none h m1 d1 ap = sound-step m d P s (record { address = a; fingerprint = H .hash (getD (s .disk) a (H .blank)); block = getD (s .disk) a (H .blank); dirty = false }) h m1 d1 ap
+  sound-readAs N s a (some r) h m1 d1 ap
+      = sound-step N s (record { address = a; fingerprint = r .fingerprint; block = blockOf H (r .fingerprint) (s .used) (s .flash); dirty = r .dirty })
+      h m1 d1 ap
+  sound-readAs N s a none h m1 d1 ap
+      = sound-step N s (record { address = a; fingerprint = H .hash (getD (s .disk) a (H .blank)); block = getD (s .disk) a (H .blank); dirty = false })
+      h m1 d1 ap
 
-  sound-lookAs : (m d P : ℕ) (s : Box F X) (a : ℕ) (o : Option (AddressRow F)) → Sound H m d P s → Sound H m d P ((lookAs H s a o) .box)
+  sound-lookAs : (N : Numbers) (s : Box F X) (a : ℕ) (o : Option (AddressRow F)) → Sound H N s → Sound H N ((lookAs H s a o) .box)
   unfolding lookAs
-  sound-lookAs m d P s a (some r) h = h
-  sound-lookAs m d P s a none h = h
+  sound-lookAs N s a (some r) h = h
+  sound-lookAs N s a none h = h
 
   pub sound-dropped : (d : ℕ) (rows : List (AddressRow F)) (free : List ℕ) (used : List (BlockRow F)) (o : Option (AddressRow F))
       → Distinct (H .same) (λ u. u .fingerprint) used → List·Permᴰ (free ++ map (λ u. u .slot) used) (slotsFrom 0 d) → All (DirtyCached H used) rows
@@ -312,15 +322,16 @@ module _ {F X : Type 0} (H : Hashing F X) where
       ))
       (λ c. rw c (df, sl, dc))))
 
-  sound-invalidate : (m d P : ℕ) (s : Box F X) (a : ℕ) (b : X) → Sound H m d P s → Sound H m d P ((writeInvalidate H s a b) .box)
+  sound-invalidate : (N : Numbers) (s : Box F X) (a : ℕ) (b : X) → Sound H N s → Sound H N ((writeInvalidate H s a b) .box)
   unfolding writeInvalidate
-  sound-invalidate m d P s a b h =
+  sound-invalidate N s a b h =
       let rows = withoutAddress a (s .rows) in
-      let t = sound-dropped d rows (s .free) (s .used) (rowOf a (s .rows)) (h .fingerprints) (h .slots) (all-without eqb (λ r. r .address) (DirtyCached H (s .used)) a (s .rows) (h .dirtyCached)) in
+      let t = sound-dropped (N .d) rows (s .free) (s .used) (rowOf a (s .rows)) (h .fingerprints) (h .slots)
+      (all-without eqb (λ r. r .address) (DirtyCached H (s .used)) a (s .rows) (h .dirtyCached)) in
       let few = h .few in
       record {
         addresses = distinct-without eqb (λ r. r .address) a (s .rows) (h .addresses);
-        below = all-without eqb (λ r. r .address) (λ r. r .address < P) a (s .rows) (h .below);
+        below = all-without eqb (λ r. r .address) (λ r. r .address < N .P) a (s .rows) (h .below);
         few = omega (arith, length-without-le eqb (λ (r : AddressRow F). r .address) a (s .rows));
         fingerprints = t .0;
         slots = t .1;
@@ -329,12 +340,12 @@ module _ {F X : Type 0} (H : Hashing F X) where
         diskLength = length-set (s .disk) a b ∙ h .diskLength;
       }
 
-  sound-flushed : (m d P : ℕ) (s : Box F X) → Sound H m d P s → Sound H m d P ((flushed H s) .box)
+  sound-flushed : (N : Numbers) (s : Box F X) → Sound H N s → Sound H N ((flushed H s) .box)
   unfolding flushed
-  sound-flushed m d P s h =
+  sound-flushed N s h =
       record {
         addresses = distinct-cleaned H (λ f. true) (s .rows) (h .addresses);
-        below = all-cleaned H (λ f. true) (λ r. r .address < P) (λ r. r .address < P) (λ r y. y) (s .rows) (h .below);
+        below = all-cleaned H (λ f. true) (λ r. r .address < N .P) (λ r. r .address < N .P) (λ r y. y) (s .rows) (h .below);
         few = rw (length-cleaned H (λ f. true) (s .rows)) (h .few);
         fingerprints = h .fingerprints;
         slots = h .slots;
@@ -343,15 +354,25 @@ module _ {F X : Type 0} (H : Hashing F X) where
         diskLength = length-copied H (λ f. true) (s .rows) (s .used) (s .flash) (s .disk) ∙ h .diskLength;
       }
 
-  pub sound-serve : (m d P : ℕ) (s : Box F X) (c : Call X) → Sound H m d P s → 1 ≤ m → 1 ≤ d → Within P c → Sound H m d P ((serve H m s c) .box)
+  pub sound-serve : (N : Numbers) (s : Box F X) (c : Call X) → Sound H N s → 1 ≤ N .m → 1 ≤ N .d → Within (N .P) c → Sound H N ((serve H N s c) .box)
   unfolding serve writeThrough writeBack answer
-  sound-serve m d P s (read a) h m1 d1 w = sound-readAs m d P s a (rowWithBlock H s a) h m1 d1 w
-  sound-serve m d P s (through a b) h m1 d1 w = sound-step m d P (onDisk H s a b) (record { address = a; fingerprint = H .hash b; block = b; dirty = false }) (sound-onDisk m d P s a b h) m1 d1 w
-  sound-serve m d P s (back a b) h m1 d1 w = sound-step m d P s (record { address = a; fingerprint = H .hash b; block = b; dirty = true }) h m1 d1 w
-  sound-serve m d P s (invalidate a b) h m1 d1 w = sound-invalidate m d P s a b h
-  sound-serve m d P s (look a) h m1 d1 w = sound-lookAs m d P s a (rowWithBlock H s a) h
-  sound-serve m d P s flush h m1 d1 w = sound-flushed m d P s h
+  sound-serve N s (read a) h m1 d1 w = sound-readAs N s a (rowWithBlock H s a) h m1 d1 w
+  sound-serve N s (through a b) h m1 d1 w
+      = sound-step N (onDisk H s a b) (record { address = a; fingerprint = H .hash b; block = b; dirty = false }) (sound-onDisk N s a b h) m1 d1 w
+  sound-serve N s (back a b) h m1 d1 w = sound-step N s (record { address = a; fingerprint = H .hash b; block = b; dirty = true }) h m1 d1 w
+  sound-serve N s (invalidate a b) h m1 d1 w = sound-invalidate N s a b h
+  sound-serve N s (look a) h m1 d1 w = sound-lookAs N s a (rowWithBlock H s a) h
+  sound-serve N s flush h m1 d1 w = sound-flushed N s h
 
-  pub sound-fresh : (m d : ℕ) (flash disk : List X) → length flash ≡ d → Sound H m d (length disk) (fresh d flash disk)
-  sound-fresh m d flash disk e =
-      record { addresses = tt; below = tt; few = omega arith; fingerprints = tt; slots = Permᴰ·append-nil (slotsFrom 0 d); dirtyCached = tt; flashLength = e; diskLength = refl }
+  pub sound-fresh : (N : Numbers) (flash disk : List X) → length flash ≡ N .d → length disk ≡ N .P → Sound H N (fresh (N .d) flash disk)
+  sound-fresh N flash disk fl dl =
+      record {
+        addresses = tt;
+        below = tt;
+        few = omega arith;
+        fingerprints = tt;
+        slots = Permᴰ·append-nil (slotsFrom 0 (N .d));
+        dirtyCached = tt;
+        flashLength = fl;
+        diskLength = dl;
+      }

@@ -14,11 +14,11 @@ use Rattle.tables.specs.Find.{all, every, findFrom, absent, same, caches, isUse
 use Rattle.tables.specs.Unsound.{elem, addressesUnsound, blocksUnsound}
 use Rattle.tables.specs.Sound.{distinct, tailOk, addressOk, isZero, soundAddresses, rowAddress, rowSlot}
 use Rattle.tables.specs.Index.{unique, rowOk, dirtyOk}
-use Rattle.tables.specs.Written.{address-print-length, block-print-length}
+use Rattle.table_laws.specs.Written.{address-print-length, block-print-length}
 use Rattle.tables.specs.OperationLaws.{Wide}
-use Rattle.tables.specs.Checked.{addresses-checked, blocks-checked}
-use Rattle.tables.specs.KeptLists.{both}
-use Rattle.tables.specs.KeptAddresses.{Addrs, addrs-parts, parts-addrs}
+use Rattle.table_laws.specs.Checked.{addresses-checked, blocks-checked}
+use Rattle.table_laws.specs.KeptLists.{both}
+use Rattle.table_laws.specs.KeptAddresses.{Addrs, addrs-parts, parts-addrs}
 use Rattle.paper.specs.Cache.{cached}
 use Rattle.paper.specs.KeyedLaws.{All, Distinct, by-test, and-left, and-right}
 use Rattle.paper.specs.Keyed.{has}

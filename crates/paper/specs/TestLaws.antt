@@ -12,8 +12,8 @@ use Rattle.tables.specs.Records.{slotsFrom}
 use Rattle.tables.specs.Find.{all, same}
 use Rattle.tables.specs.Unsound.{elem, count, eachOnce}
 use Rattle.tables.specs.Sound.{distinct}
-use Rattle.tables.specs.Checked.{each-once}
-use Rattle.tables.specs.KeptLists.{both}
+use Rattle.table_laws.specs.Checked.{each-once}
+use Rattle.table_laws.specs.KeptLists.{both}
 use Rattle.paper.specs.KeyedLaws.{All, all-map, by-test, either, clash, or-left, or-right, or-both, or-cases, and-left, and-right}
 use Rattle.paper.specs.Engine.{same→≡, same-refl}
 use Rattle.paper.specs.Sound.{length-perm, length-slotsFrom}

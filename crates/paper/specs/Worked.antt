@@ -9,7 +9,9 @@ use lib.Dec.{eqb}
 use lib.ListN.{replicate}
 use Rattle.tables.specs.Records.{slotsFrom}
 use Rattle.paper.specs.KeyedLaws.{eqb→≡, eqb-self}
-use Rattle.paper.specs.Cache.{Hashing, AddressRow, Box, Outcome, newest, Call, read, through, back, invalidate, look, flush, Word, hit, miss, sameBlock, newBlock, fromCache, fromDisk, done, fresh, serve, Counters, noCounts, counted}
+use Rattle.paper.specs.Cache.{Numbers, Hashing, AddressRow, Box, Outcome, newest, Call, about, before, read, through, back, invalidate, look, flush, Word}
+use Rattle.paper.specs.Cache.{hit}
+use Rattle.paper.specs.Cache.{miss, sameBlock, newBlock, fromCache, fromDisk, done, fresh, serve, Counters, noCounts, counted}
 use Rattle.paper.specs.Cache.{step, step1, step3, step4, oldestOut, freed, oldestUnknown, victim, takenUsed, taken, stored, ifCached, answer, readAs, writeThrough, writeBack, dropped, writeInvalidate, lookAs, flushed}
 
 abbrev pub labels : Hashing ℕ ℕ
@@ -51,35 +53,49 @@ pub record State : Type 0 where
   pub disk : List ℕ
   pub counters : Counters
 
--- An example: m, d, and the state that is expected
+-- "box 64 8 m d"
+abbrev pub boxOf : (m d : ℕ) → Numbers
+boxOf m d = record { B = 64; P = 8; m = m; d = d }
+
+-- An example: the numbers of the box, and the state that is expected
 pub record Example : Type 0 where
-  pub m : ℕ
-  pub d : ℕ
+  pub numbers : Numbers
   pub seen : State
 
-abbrev example : ℕ → ℕ → State → Example
-example m d s = record { m = m; d = d; seen = s }
-
--- the block that a call returns, if any, before those of later calls
-abbrev before : Option ℕ → List ℕ → List ℕ
-before none ks = ks
-before (some k) ks = k ∷ ks
+abbrev example : (m d : ℕ) → State → Example
+example m d s = record { numbers = boxOf m d; seen = s }
 
 abbrev after : Call ℕ → Outcome ℕ ℕ → State → State
-after c o t = record { said = says c (o .word) (o .flashWrites) (o .primaryWrites) ∷ t .said; returned = before (o .block) (t .returned); rows = t .rows; blocks = t .blocks; flash = t .flash; disk = t .disk; counters = t .counters }
+after c o t = record {
+  said = says c (o .word) (o .flashWrites) (o .primaryWrites) ∷ t .said;
+  returned = before (o .block) (t .returned);
+  rows = t .rows;
+  blocks = t .blocks;
+  flash = t .flash;
+  disk = t .disk;
+  counters = t .counters;
+}
 
 -- what the cache says and leaves when it is fed the calls one after the other
-abbrev pub plays : ℕ → Box ℕ ℕ → Counters → List (Call ℕ) → State
-plays m s k [] =
-    record { said = []; returned = []; rows = s .rows; blocks = map freeIn (s .free) ++ map (λ u. blockIn (u .fingerprint) (u .slot)) (s .used); flash = s .flash; disk = s .disk; counters = k }
-plays m s k (c ∷ cs) = let o = serve labels m s c in after c o (plays m (o .box) (counted k c o) cs)
+abbrev pub plays : Numbers → Box ℕ ℕ → Counters → List (Call ℕ) → State
+plays N s k [] =
+    record {
+      said = [];
+      returned = [];
+      rows = s .rows;
+      blocks = map freeIn (s .free) ++ map (λ u. blockIn (u .fingerprint) (u .slot)) (s .used);
+      flash = s .flash;
+      disk = s .disk;
+      counters = k;
+    }
+plays N s k (c ∷ cs) = let o = serve labels N s c in after c o (plays N (o .box) (counted k c o) cs)
 
--- a fresh box over 8 disk blocks, of which block k has content k, and a flash that is filled with 99
-abbrev pub start : ℕ → Box ℕ ℕ
-start d = fresh d (replicate d 99) (slotsFrom 0 8)
+-- a fresh box over disk blocks of which block k has content k, and a flash that is filled with 99
+abbrev pub start : Numbers → Box ℕ ℕ
+start N = fresh (N .d) (replicate (N .d) 99) (slotsFrom 0 (N .P))
 
 abbrev pub play : Example → State
-play e = plays (e .m) (start (e .d)) noCounts (map (λ x. x .call) (e .seen .said))
+play e = plays (e .numbers) (start (e .numbers)) noCounts (map (λ x. x .call) (e .seen .said))
 
 -- "Input: `box 64 8 3 2`, `R 1`, `R 2`, `B 3 01`, `R 3`, `R 4`, `R 2`, `F`, `L 3`."
 abbrev replay : List Said
@@ -261,7 +277,8 @@ more =
     })
     -- Step 3 frees slot 1, then slot 2, since address 1 is without its block. Slot 2 comes in front.
     ∷ example 4 3 (record {
-      said = says (read 1) miss 1 0 ∷ says (read 2) miss 1 0 ∷ says (read 3) miss 1 0 ∷ says (read 4) miss 1 0 ∷ says (through 2 4) sameBlock 0 1 ∷ says (through 3 4) sameBlock 0 1 ∷ [];
+      said = says (read 1) miss 1 0 ∷ says (read 2) miss 1 0 ∷ says (read 3) miss 1 0 ∷ says (read 4) miss 1 0 ∷ says (through 2 4) sameBlock 0 1
+          ∷ says (through 3 4) sameBlock 0 1 ∷ [];
       returned = 1 ∷ 2 ∷ 3 ∷ 4 ∷ [];
       rows = clean 1 1 ∷ clean 4 4 ∷ clean 2 4 ∷ clean 3 4 ∷ [];
       blocks = freeIn 2 ∷ freeIn 1 ∷ blockIn 4 0 ∷ [];
@@ -272,7 +289,8 @@ more =
     -- Write invalidate's word is "same" while the content is cached before the call, whoever has it, and "new" after. The first I keeps
     -- block 5 for address 1, the second frees it.
     ∷ example 2 2 (record {
-      said = says (through 0 5) newBlock 1 1 ∷ says (through 1 5) sameBlock 0 1 ∷ says (invalidate 0 5) sameBlock 0 1 ∷ says (invalidate 1 5) sameBlock 0 1 ∷ says (invalidate 1 5) newBlock 0 1 ∷ [];
+      said = says (through 0 5) newBlock 1 1 ∷ says (through 1 5) sameBlock 0 1 ∷ says (invalidate 0 5) sameBlock 0 1 ∷ says (invalidate 1 5) sameBlock 0 1
+          ∷ says (invalidate 1 5) newBlock 0 1 ∷ [];
       returned = [];
       rows = [];
       blocks = freeIn 0 ∷ freeIn 1 ∷ [];
@@ -363,22 +381,14 @@ letter (through a b) = T
 letter (back a b) = B
 letter (invalidate a b) = I
 
-abbrev address : Call ℕ → Option ℕ
-address (read a) = some a
-address (look a) = some a
-address flush = none
-address (through a b) = some a
-address (back a b) = some a
-address (invalidate a b) = some a
-
 abbrev prints : ℕ → List Said → Counters → List Printed
 prints i [] k = counts (k .reads) (k .hits) (k .flashWrites) (k .primaryWrites) ∷ []
-prints i (x ∷ xs) k = line i (letter (x .call)) (address (x .call)) (x .word) (x .flashWrites) (x .primaryWrites) ∷ prints (suc i) xs k
+prints i (x ∷ xs) k = line i (letter (x .call)) (about (x .call) .address) (x .word) (x .flashWrites) (x .primaryWrites) ∷ prints (suc i) xs k
 
 abbrev output : State → List Printed
 output t = prints 1 (t .said) (t .counters)
 
-pub replay-prints : output (plays 3 (start 2) noCounts (read 1 ∷ read 2 ∷ back 3 1 ∷ read 3 ∷ read 4 ∷ read 2 ∷ flush ∷ look 3 ∷ []))
+pub replay-prints : output (plays (boxOf 3 2) (start (boxOf 3 2)) noCounts (read 1 ∷ read 2 ∷ back 3 1 ∷ read 3 ∷ read 4 ∷ read 2 ∷ flush ∷ look 3 ∷ []))
     ≡ line 1 R (some 1) miss 1 0
     ∷ line 2 R (some 2) miss 1 0
     ∷ line 3 B (some 3) sameBlock 0 0

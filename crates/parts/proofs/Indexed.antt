@@ -2,12 +2,11 @@
 use mathlib.Core.Path.{_≡_, refl, sym, ap, _∙_}
 use mathlib.Core.Bool.{Bool, true, false, not, _&&_}
 use mathlib.Core.List.{List, [], _∷_, map}
-use Prim.Native.Nat.{ℕ, _≤_}
+use Prim.Native.Nat.{ℕ, zero, suc, _≤_}
 use lib.Dec.{eqb}
 use lib.ListN.{take}
 use Rattle.tables.specs.Rows.{rows}
 use Rattle.tables.specs.RowLaws.{take-rows}
-use Rattle.tables.specs.PlaceLaws.{map-take}
 use Rattle.tables.specs.Find.{all, findFrom, absent, caches, hasFingerprint}
 use Rattle.tables.specs.Index.{cachedIn, unknownIn}
 use Rattle.tables.specs.declared.Found.{Found}
@@ -18,6 +17,11 @@ use Rattle.paper.specs.Index.{indexWhere, index-map}
 use Rattle.paper.specs.Layout.{Addrs, Blocks}
 use Rattle.parts.specs.TableLaws.{addrBytes, usedBytes, rows-addrs, rows-blocks, length-blocks, fp-of, fp-used, flag-used, placed, placed-first, isAt, absent-is, fp-known, fp-cached, all-any}
 use Rattle.tables.specs.Records.{readAddress, readBlock}
+
+map-take : {A B : Type 0} (f : A → B) (k : ℕ) (xs : List A) → take k (map f xs) ≡ map f (take k xs)
+map-take f zero xs = refl
+map-take f (suc k) [] = refl
+map-take f (suc k) (x ∷ xs) = ap (λ l. f x ∷ l) (map-take f k xs)
 
 not-not : (b : Bool) → not (not b) ≡ b
 not-not true = refl

@@ -112,11 +112,6 @@ module _ (b : BoxRecord) (c : Fixed 32 → Bool) (disk₀ flash addrs₀ blocks 
       let e2 = rw y at e1 in
       λ j. record { count = (ap₂ _+_ ci (ap (λ (x : Copied). x .count) e2) ∙ sym (rw y at ks)) j; disk = (ap (λ (x : Copied). x .disk) e2 ∙ ap join (sym (rw y at cs))) j; addrs = (ap (λ (x : Copied). x .addrs) e2 ∙ ap (addressesOf (b .rows)) (rows-no (engine (b .size)) c (s .rows) i noRow li y)) j })
 
-  -- row i is as it was, and so its slot
-  pub slot-part : i < b .held → slotOf (engine (b .size)) (getD (partBox b c s i .rows) i noRow .fingerprint) (partBox b c s i .used) ≡ slotOf (engine (b .size)) (getD (s .rows) i noRow .fingerprint) (s .used)
-  unfolding partBox
-  slot-part l = ap (λ (r : AddressRow (Fixed 32)). slotOf (engine (b .size)) (r .fingerprint) (s .used)) (row-part (engine (b .size)) c (s .rows) i noRow (omega (arith, h .rows-are .count)))
-
 -- none is done
 pub part-none : (b : BoxRecord) (c : Fixed 32 → Bool) (disk flash addrs blocks : List ℕ) (s : Box (Fixed 32) (Fixed (b .size))) → Rep b disk flash addrs blocks s → _≡_ {A = Copied} (record { count = 0; disk = disk; addrs = addrs }) (copiedRows b c s 0)
 unfolding copiedRows partBox

@@ -1,11 +1,10 @@
--- What the rows are asked for: the row that is taken, and whether the places that are kept are right.
+-- What the rows are asked for: the row that is taken, and the slot of a row.
 use mathlib.Core.Bool.{Bool, not, cond}
 use mathlib.Core.List.{List, [], _∷_}
 use Prim.Native.Nat.{ℕ}
 use lib.Dec.{ltb}
-use lib.ListN.{length, take}
-use Rattle.tables.specs.Rows.{rows, rowAt}
-use Rattle.tables.specs.Index.{Places}
+use lib.ListN.{length}
+use Rattle.tables.specs.Rows.{rowAt}
 use Rattle.paper.specs.Cache.{AddressRow, BlockRow, blockRow, known}
 use Rattle.paper.specs.Engine.{Fixed, fit, engine}
 use Rattle.paper.specs.Index.{indexWhere}
@@ -23,10 +22,6 @@ orFirst j n = cond (ltb j n) j 0
 unfoldable pub victimPlace : ℕ → List (AddressRow (Fixed 32)) → List ℕ → List (BlockRow (Fixed 32)) → ℕ
 victimPlace B rows (k ∷ free) used = 0
 victimPlace B rows [] used = orFirst (indexWhere (λ u. not (known (engine B) (u .fingerprint) rows)) used) (length used)
-
--- `places` has the place of the block row of each of the first n address rows
-abbrev pub Placed : (n d : ℕ) → (addrs blocks places : List ℕ) → Type 0
-Placed n d addrs blocks places = Places (rows d blocks) (rows n addrs) (take n places)
 
 -- the slot of the block row at a place, 0 where there is none
 abbrev pub slotIn : List ℕ → ℕ → ℕ → ℕ

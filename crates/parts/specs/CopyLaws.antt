@@ -13,7 +13,6 @@ use Rattle.block.specs.Blocks.{part, splice}
 use Rattle.parts.specs.declared.BoxRecord.{BoxRecord}
 use Rattle.tables.specs.Rows.{rows, rowAt}
 use Rattle.tables.specs.Index.{code, placeIn}
-use Rattle.tables.specs.PlaceLaws.{place-at}
 use Rattle.tables.specs.declared.Found.{Found}
 use Rattle.tables.specs.declared.Found.the-variants.{At, Nothing}
 use Rattle.paper.specs.KeyedLaws.{All, by-test}
@@ -23,7 +22,7 @@ use Rattle.paper.specs.Lent.{join}
 use Rattle.paper.specs.Parts.{length-join, join-set}
 use Rattle.paper.specs.Layout.{Addrs, Blocks, Parts}
 use Rattle.parts.specs.Rep.{Rep, Copied, copiedRow, noRow}
-use Rattle.parts.specs.Asked.{slotIn, Placed}
+use Rattle.parts.specs.Asked.{slotIn}
 use Rattle.paper.specs.Index.{indexWhere, slotOf-yes, slotOf-no}
 use Rattle.parts.specs.MoveLaws.{row-is, slot-is, address-is, address-below, dirty-is, cleaned-row}
 use Rattle.tables.specs.Find.{findFrom, hasFingerprint, caches, isDirty}
@@ -93,7 +92,7 @@ pub copied-chosen : (b : BoxRecord) (chosen : Fixed 32 → Bool) (s : Box (Fixed
 unfolding copiedRow
 copied-chosen b chosen s i e = rw e refl
 
--- slot_for
+-- the slot of a fingerprint, by its place
 module _ (B d : ℕ) (t : List ℕ) (free : List ℕ) (used : List (BlockRow (Fixed 32))) (f : Fixed 32) (h : Blocks d t free used) (j : ℕ) (e : j ≡ length free + indexWhere (λ u. engine 0 .same f (u .fingerprint)) used) where
   pub slot-none : d ≤ j → 0 ≡ slotOf (engine B) f used
   slot-none b = sym (slotOf-no (engine B) f used (omega (arith, h .count, e)))
@@ -108,20 +107,19 @@ module _ (B d : ℕ) (t : List ℕ) (free : List ℕ) (used : List (BlockRow (Fi
   pub slot-placed : slotIn t d j ≡ slotOf (engine B) f used
   slot-placed = by-test (ltb j d) (λ y. rw y (slot-some (ltb-true j d y) (readBlock (rowAt t j) .slot) refl)) (λ y. rw y (slot-none (ltb-false j d y)))
 
--- the same by what `places` has for a row: its block row, or 256
+-- the same by the place of a row's block row, or 256
 slot-coded : (B d : ℕ) (t free : List ℕ) (used : List (BlockRow (Fixed 32))) (g : List ℕ) (q : Fixed 32) → Blocks d t free used → d ≤ 256 → q .0 ≡ g → (f : Found) → findFrom (caches g) 0 (rows d t) ≡ f
     → slotIn t d (code f) ≡ slotOf (engine B) q used
 slot-coded B d t free used g q h b e (At i) x = slot-placed B d t free used q h i (block-index d t free used h g q e (At i) x)
 slot-coded B d t free used g q h b e Nothing x = rw (le-ltb 256 d b) (slot-none B d t free used q h d (block-index d t free used h g q e Nothing x) (omega arith))
 
-pub slot-of-row : (B P m n d : ℕ) (addrs blocks places : List ℕ) (l : List (AddressRow (Fixed 32))) (free : List ℕ) (used : List (BlockRow (Fixed 32))) → Addrs P m n addrs l → Blocks d blocks free used → d ≤ 256
-    → Placed n d addrs blocks places → (i : ℕ) → i < n → slotIn blocks d (getD places i 0) ≡ slotOf (engine B) (getD l i noRow .fingerprint) used
+pub slot-of-row : (B P m n d : ℕ) (addrs blocks : List ℕ) (l : List (AddressRow (Fixed 32))) (free : List ℕ) (used : List (BlockRow (Fixed 32))) → Addrs P m n addrs l → Blocks d blocks free used → d ≤ 256
+    → (i : ℕ) → i < n → slotIn blocks d (placeIn (rows d blocks) (rowAt addrs i)) ≡ slotOf (engine B) (getD l i noRow .fingerprint) used
 unfolding placeIn
-slot-of-row B P m n d addrs blocks places l free used h k b p i li =
+slot-of-row B P m n d addrs blocks l free used h k b i li =
     let r : AddressRow (Fixed 32) = getD l i noRow in
-    let e : getD places i 0 ≡ code (findFrom (caches (readAddress (addrBytes r) .fingerprint)) 0 (rows d blocks))
-    = place-at (rows d blocks) n addrs places p i li ∙ ap (placeIn (rows d blocks)) (row-is P m n addrs l h i li noRow) in
-    ap (slotIn blocks d) e ∙ slot-coded B d blocks free used (readAddress (addrBytes r) .fingerprint) (r .fingerprint) k b (sym (fp-of r)) (findFrom (caches (readAddress (addrBytes r) .fingerprint)) 0 (rows d blocks)) refl
+    ap (λ t. slotIn blocks d (placeIn (rows d blocks) t)) (row-is P m n addrs l h i li noRow)
+    ∙ slot-coded B d blocks free used (readAddress (addrBytes r) .fingerprint) (r .fingerprint) k b (sym (fp-of r)) (findFrom (caches (readAddress (addrBytes r) .fingerprint)) 0 (rows d blocks)) refl
 
 -- a row's block and its place on the disk are there
 pub copy-fits : (b : BoxRecord) (disk flash addrs blocks : List ℕ) (s : Box (Fixed 32) (Fixed (b .size))) → Rep b disk flash addrs blocks s → (i : ℕ) → i < b .held → (a k : ℕ) → a ≡ readAddress (rowAt addrs i) .address → k < b .slots

@@ -15,7 +15,7 @@ use Rattle.tables.specs.Operations.{rowOut, rowAdded, rowCleaned, rowNewest, ro
 use Rattle.tables.specs.SoundLaws.{map-at}
 use Rattle.tables.specs.ShiftLaws.{length-zeros}
 use Rattle.tables.specs.OperationLaws.{map-++, map-removeAt, map-set}
-use Rattle.tables.specs.Written.{cleanRow, address-address, address-dirty, block-slot, held-at, held-out, held-added, held-cleaned, block-at, blocks-newest, blocks-freed, blocks-filled}
+use Rattle.table_laws.specs.Written.{cleanRow, address-address, address-dirty, block-slot, held-at, held-out, held-added, held-cleaned, block-at, blocks-newest, blocks-freed, blocks-filled}
 use Rattle.paper.specs.KeyedLaws.{All}
 use Rattle.paper.specs.Cache.{AddressRow, BlockRow, newest, blockRow}
 use Rattle.paper.specs.Engine.{Fixed}

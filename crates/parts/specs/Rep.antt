@@ -2,14 +2,27 @@
 use mathlib.Core.Path.{_≡_}
 use mathlib.Core.Bool.{Bool, false, _&&_, cond}
 use mathlib.Core.List.{List, [], _++_}
-use Prim.Native.Nat.{ℕ}
-use lib.ListN.{getD, set, take, drop}
+use Prim.Native.Nat.{ℕ, _≤_}
+use lib.ListN.{length, getD, set, take, drop}
+use Rattle.tables.specs.Rows.{tableBytes}
 use Rattle.parts.specs.declared.BoxRecord.{BoxRecord}
-use Rattle.paper.specs.Cache.{AddressRow, Box, newest, slotOf, blockOf, copied, copies, cleaned}
+use Rattle.paper.specs.Cache.{Numbers, AddressRow, Box, newest, slotOf, blockOf, copied, copies, cleaned}
 use Rattle.paper.specs.Engine.{Fixed, fit}
 use Rattle.paper.specs.Lent.{join}
 use Rattle.paper.specs.Layout.{Addrs, Blocks, Parts, addressesOf}
 use Rattle.paper.specs.Engine.{engine}
+
+-- the four numbers of a box record
+abbrev pub numbersOf : BoxRecord → Numbers
+numbersOf b = record { B = b .size; P = b .blocks; m = b .rows; d = b .slots }
+
+-- the tables have the lengths of the box, and the rows held are in it
+abbrev pub Sized : BoxRecord → (addrs blocks : List ℕ) → Type 0
+Sized b addrs blocks = (b .held ≤ b .rows) × (length addrs ≡ tableBytes (b .rows)) × (length blocks ≡ tableBytes (b .slots))
+
+-- a box record with another number of rows held
+abbrev pub withHeld : BoxRecord → ℕ → BoxRecord
+withHeld b n = record { size = b .size; blocks = b .blocks; rows = b .rows; slots = b .slots; held = n }
 
 pub record Rep (b : BoxRecord) (disk flash addrs blocks : List ℕ) (s : Box (Fixed 32) (Fixed (b .size))) : Type 0 where
   pub rows-are : Addrs (b .blocks) (b .rows) (b .held) addrs (s .rows)
@@ -23,7 +36,8 @@ Lent b disk flash addrs blocks = (s : Box (Fixed 32) (Fixed (b .size))) × Rep b
 
 -- .. of some box in which the block of the fingerprint g is in slot k
 abbrev pub LentWith : (b : BoxRecord) → List ℕ → List ℕ → List ℕ → List ℕ → List ℕ → ℕ → Type 0
-LentWith b disk flash addrs blocks g k = (s : Box (Fixed 32) (Fixed (b .size))) × (v : Fixed 32) × Rep b disk flash addrs blocks s × (v .0 ≡ g) × (slotOf (engine (b .size)) v (s .used) ≡ k)
+LentWith b disk flash addrs blocks g k = (s : Box (Fixed 32) (Fixed (b .size))) × (v : Fixed 32) × Rep b disk flash addrs blocks s × (v .0 ≡ g)
+    × (slotOf (engine (b .size)) v (s .used) ≡ k)
 
 -- a row that stands for none
 abbrev pub noRow : AddressRow (Fixed 32)
@@ -63,4 +77,8 @@ module _ (b : BoxRecord) (chosen : Fixed 32 → Bool) (s : Box (Fixed 32) (Fixed
       }
 
   unfoldable pub copiedRows : ℕ → Copied
-  copiedRows i = record { count = copies (engine (b .size)) chosen (take i (s .rows)); disk = join (partBox i .disk); addrs = addressesOf (b .rows) (partBox i .rows) }
+  copiedRows i = record {
+    count = copies (engine (b .size)) chosen (take i (s .rows));
+    disk = join (partBox i .disk);
+    addrs = addressesOf (b .rows) (partBox i .rows);
+  }

@@ -15,7 +15,7 @@ use Rattle.tables.specs.Records.{addressBytes, blockBytes, freeRow, readAddress
 use Rattle.tables.specs.Records as R
 use Rattle.tables.specs.OperationLaws.{map-++}
 use Rattle.tables.specs.ShiftLaws.{length-zeros}
-use Rattle.tables.specs.Written.{address-address, address-print, block-print, block-used, held-rows, block-rows}
+use Rattle.table_laws.specs.Written.{address-address, address-print, block-print, block-used, held-rows, block-rows}
 use Rattle.paper.specs.Keyed.{has}
 use Rattle.paper.specs.KeyedLaws.{All, by-test, eqb→≡, eqb-self, eqb-swap}
 use Rattle.paper.specs.Cache.{AddressRow, BlockRow, known, cached}

@@ -1,19 +1,18 @@
 // Blocks of dirty rows copied to the disk, and the rows made clean.
 use crate::BoxRecord;
-use crate::rows;
+use checks::known;
 use tables::FlashSlot;
 use tables::find;
 use tables::row;
 ghost use mathlib.Core.Path.{_≡_};
 ghost use mathlib.Core.Bool.{true};
-ghost use mathlib.Core.List.{List};
-ghost use Prim.Native.Nat.{ℕ, _<_, _≤_};
+ghost use Prim.Native.Nat.{_<_, _≤_};
 ghost use lib.ListN.{length, getD};
-ghost use Rattle.paper.specs.Cache.{BlockRow, Box, slotOf};
+ghost use Rattle.paper.specs.Cache.{Box, slotOf};
 ghost use Rattle.paper.specs.Engine.{Fixed, engine};
-ghost use Rattle.paper.specs.Layout.{Blocks};
-ghost use Rattle.parts.specs.Rep.{Rep, Lent, LentWith, noRow, copiedRow, copiedRows};
-ghost use Rattle.parts.specs.Asked.{slotIn, Placed};
+ghost use Rattle.parts.specs.Rep.{Sized, Rep, Lent, LentWith, noRow, copiedRow, copiedRows};
+ghost use Rattle.parts.specs.Asked.{slotIn};
+ghost use Rattle.tables.specs.Index.{Indexed};
 ghost use Rattle.tables.specs.Rows.{tableBytes};
 
 // The slot of the block row at `place` among `d`, 0 where there is none.
@@ -25,14 +24,6 @@ pub fn slot_in(t: &[u8], d: usize, place: usize) -> FlashSlot
         return FlashSlot(0);
     }
     row::slot_at(t, place)
-}
-
-// The slot of the fingerprint `g`, 0 where it is not cached.
-pub fn slot_for(t: &[u8], d: usize, g: &[u8]) -> FlashSlot
-    requires { ⌜ (length (now t) ≡ tableBytes d) × (length (now g) ≡ 32) ⌝ }
-    ensures { λ r. ⌜ ((B : ℕ) (free : List ℕ) (used : List (BlockRow (Fixed 32))) (f : Fixed 32) → Blocks d (now (t .entry)) free used → f .0 ≡ now (g .entry) → r .0 ≡ slotOf (engine B) f used) ⌝ }
-{
-    slot_in(t, d, rows::place_of(t, d, g))
 }
 
 // Copies the block of row `i`, which is in `slot`, to its disk address and makes the row clean, if it is dirty. How many blocks that is.
@@ -57,11 +48,11 @@ pub fn copy_row(
     }
     let a = row::address_at(addrs, i);
     block::put_address(block::in_slot(flash, slot, b.size), disk, a, b.size);
-    tables::put::set_clean(addrs, i);
+    row::set_clean(addrs, i);
     1
 }
 
-// The same, where the slot has to be found.
+// The same, where the slot has to be found; `heads` is the index of the block rows.
 pub fn flush_row(
     b: BoxRecord,
     i: usize,
@@ -69,9 +60,11 @@ pub fn flush_row(
     flash: &[u8],
     addrs: &mut [u8],
     blocks: &[u8],
+    heads: &[u16],
 ) -> usize
-    requires { ⌜ (i < b .held) × (0 < b .slots) × (b .held ≤ b .rows) × (length (now addrs) ≡ tableBytes (b .rows)) × (length (now blocks) ≡ tableBytes (b .slots)) ⌝ }
+    requires { ⌜ (i < b .held) × (0 < b .slots) × (b .slots ≤ 256) × Sized b (now addrs) (now blocks) ⌝ }
     requires { ⌜ Lent b (now disk) (now flash) (now addrs) (now blocks) ⌝ }
+    requires { ⌜ Indexed (b .slots) (now blocks) (now heads) ⌝ }
     ensures { λ r. ⌜ r ≤ 1 ⌝ }
     ensures { λ r. ⌜ ((s : Box (Fixed 32) (Fixed (b .size))) → Rep b (now (disk .entry)) (now (flash .entry)) (now (addrs .entry)) (now (blocks .entry)) s
         → record { count = r; disk = now (disk .exit); addrs = now (addrs .exit) } ≡ copiedRow b (λ f. true) s i) ⌝ }
@@ -79,7 +72,11 @@ pub fn flush_row(
     if !row::is_dirty(addrs, i) {
         return 0;
     }
-    let slot = slot_for(blocks, b.slots, row::address_fingerprint(addrs, i));
+    let slot = slot_in(
+        blocks,
+        b.slots,
+        known::place_of(addrs, i, blocks, b.slots, heads),
+    );
     copy_row(b, i, disk, flash, addrs, blocks, slot)
 }
 
@@ -110,18 +107,18 @@ pub fn clean_row(
     copy_row(b, i, disk, flash, addrs, blocks, slot)
 }
 
-// The same of every held row, oldest first; `places` has the place of the block row of each.
+// The same of every held row, oldest first.
 pub fn flush_rows(
     b: BoxRecord,
     disk: &mut [u8],
     flash: &[u8],
     addrs: &mut [u8],
     blocks: &[u8],
-    places: &[u16],
+    heads: &[u16],
 ) -> usize
-    requires { ⌜ (0 < b .slots) × (b .slots ≤ 256) × (b .held ≤ b .rows) × (length (now addrs) ≡ tableBytes (b .rows)) × (length (now blocks) ≡ tableBytes (b .slots)) × (b .held ≤ length (now places)) ⌝ }
+    requires { ⌜ (0 < b .slots) × (b .slots ≤ 256) × Sized b (now addrs) (now blocks) ⌝ }
     requires { ⌜ Lent b (now disk) (now flash) (now addrs) (now blocks) ⌝ }
-    requires { ⌜ Placed (b .held) (b .slots) (now addrs) (now blocks) (now places) ⌝ }
+    requires { ⌜ Indexed (b .slots) (now blocks) (now heads) ⌝ }
     ensures { λ r. ⌜ r ≤ b .held ⌝ }
     ensures { λ r. ⌜ ((s : Box (Fixed 32) (Fixed (b .size))) → Rep b (now (disk .entry)) (now (flash .entry)) (now (addrs .entry)) (now (blocks .entry)) s
         → record { count = r; disk = now (disk .exit); addrs = now (addrs .exit) } ≡ copiedRows b (λ f. true) s (b .held)) ⌝ }
@@ -129,8 +126,7 @@ pub fn flush_rows(
     let mut count = 0;
     let mut i = 0;
     while i < b.held {
-        let slot = slot_in(blocks, b.slots, places[i] as usize);
-        count += copy_row(b, i, disk, flash, addrs, blocks, slot);
+        count += flush_row(b, i, disk, flash, addrs, blocks, heads);
         i += 1;
     }
     count

@@ -11,21 +11,22 @@ ghost use Prim.Native.Nat.{ℕ, _+_, _<_, _≤_};
 ghost use lib.ListN.{length, take, getD};
 ghost use lib.Dec.{eqb, ltb};
 ghost use Rattle.tables.specs.Rows.{rowAt, rows, tableBytes};
-ghost use Rattle.tables.specs.Find.{every, findFrom, caches, isDirty};
-ghost use Rattle.tables.specs.Index.{unique, code};
+ghost use Rattle.tables.specs.Find.{every, isDirty};
+ghost use Rattle.tables.specs.Index.{Indexed, unique};
 ghost use Rattle.paper.specs.Cache.{AddressRow, BlockRow, known, someUncached};
 ghost use Rattle.paper.specs.Engine.{Fixed, engine};
 ghost use Rattle.paper.specs.Lent.{bit};
-ghost use Rattle.parts.specs.Rep.{noRow};
+ghost use Rattle.parts.specs.Rep.{Sized, noRow};
 ghost use Rattle.paper.specs.Index.{indexWhere};
 ghost use Rattle.paper.specs.Layout.{Addrs, Blocks};
-ghost use Rattle.parts.specs.Asked.{victimPlace, Placed, full};
+ghost use Rattle.parts.specs.Asked.{victimPlace, full};
 ghost use Rattle.tables.specs.Records.{readAddress};
 
 // The index of the row of `a` among `n` held rows.
 pub fn row_of(t: &[u8], n: usize, a: SourceAddress) -> usize
     requires { ⌜ tableBytes n ≤ length (now t) ⌝ }
-    ensures { λ r. ⌜ ((P m : ℕ) (rows : List (AddressRow (Fixed 32))) → Addrs P m n (now (t .entry)) rows → r ≡ indexWhere (λ x. eqb (a .0) (x .address)) rows) ⌝ }
+    ensures { λ r. ⌜ ((P m : ℕ) (rows : List (AddressRow (Fixed 32))) → Addrs P m n (now (t .entry)) rows → r
+        ≡ indexWhere (λ x. eqb (a .0) (x .address)) rows) ⌝ }
 {
     match find::find_address(t, n, a) {
         Found::At(i) => i,
@@ -36,7 +37,8 @@ pub fn row_of(t: &[u8], n: usize, a: SourceAddress) -> usize
 // Whether one of `n` held rows has the fingerprint `g`.
 pub fn knows(t: &[u8], n: usize, g: &[u8]) -> bool
     requires { ⌜ (tableBytes n ≤ length (now t)) × (length (now g) ≡ 32) ⌝ }
-    ensures { λ r. ⌜ ((P m : ℕ) (rows : List (AddressRow (Fixed 32))) (f : Fixed 32) → Addrs P m n (now (t .entry)) rows → f .0 ≡ now (g .entry) → r ≡ known (engine 0) f rows) ⌝ }
+    ensures { λ r. ⌜ ((P m : ℕ) (rows : List (AddressRow (Fixed 32))) (f : Fixed 32) → Addrs P m n (now (t .entry)) rows → f .0 ≡ now (g .entry) → r
+        ≡ known (engine 0) f rows) ⌝ }
 {
     match find::find_fingerprint(t, n, g) {
         Found::At(_) => true,
@@ -47,7 +49,8 @@ pub fn knows(t: &[u8], n: usize, g: &[u8]) -> bool
 // The place of the used row of `g` among `d` block rows.
 pub fn place_of(t: &[u8], d: usize, g: &[u8]) -> usize
     requires { ⌜ (tableBytes d ≤ length (now t)) × (length (now g) ≡ 32) ⌝ }
-    ensures { λ r. ⌜ ((free : List ℕ) (used : List (BlockRow (Fixed 32))) (f : Fixed 32) → Blocks d (now (t .entry)) free used → f .0 ≡ now (g .entry) → r ≡ length free + indexWhere (λ u. engine 0 .same f (u .fingerprint)) used) ⌝ }
+    ensures { λ r. ⌜ ((free : List ℕ) (used : List (BlockRow (Fixed 32))) (f : Fixed 32) → Blocks d (now (t .entry)) free used → f .0 ≡ now (g .entry) → r
+        ≡ length free + indexWhere (λ u. engine 0 .same f (u .fingerprint)) used) ⌝ }
 {
     match find::find_cached(t, d, g) {
         Found::At(i) => i,
@@ -55,51 +58,43 @@ pub fn place_of(t: &[u8], d: usize, g: &[u8]) -> usize
     }
 }
 
-// What `places` has for a row of `g`: the place of its block row among `d`, or 256.
-pub fn entry_of(t: &[u8], d: usize, g: &[u8]) -> u16
-    requires { ⌜ (tableBytes d ≤ length (now t)) × (length (now g) ≡ 32) × (d ≤ 256) ⌝ }
-    ensures { λ r. ⌜ r ≡ code (findFrom (caches (now (g .entry))) 0 (rows d (now (t .entry)))) ⌝ }
-{
-    match find::find_cached(t, d, g) {
-        Found::At(i) => i as u16,
-        Found::Nothing => 256,
-    }
-}
-
 // Whether one of the first `k` held rows has a fingerprint that is not cached.
-pub fn uncached(addrs: &[u8], k: usize, blocks: &[u8], d: usize, places: &[u16]) -> bool
-    requires { ⌜ (k ≤ length (now places)) × (d ≤ 256) ⌝ }
-    requires { ⌜ Placed k d (now addrs) (now blocks) (now places) ⌝ }
-    ensures { λ r. ⌜ ((B P m n : ℕ) (rows : List (AddressRow (Fixed 32))) (free : List ℕ) (used : List (BlockRow (Fixed 32))) → Addrs P m n (now (addrs .entry)) rows → Blocks d (now (blocks .entry)) free used → k ≤ n → r ≡ someUncached (engine B) (take k rows) used) ⌝ }
+pub fn uncached(addrs: &[u8], k: usize, blocks: &[u8], d: usize, heads: &[u16]) -> bool
+    requires { ⌜ (tableBytes k ≤ length (now addrs)) × (length (now blocks) ≡ tableBytes d) × (d ≤ 256) ⌝ }
+    requires { ⌜ Indexed d (now blocks) (now heads) ⌝ }
+    ensures { λ r. ⌜ ((B P m n : ℕ) (rows : List (AddressRow (Fixed 32))) (free : List ℕ) (used : List (BlockRow (Fixed 32)))
+        → Addrs P m n (now (addrs .entry)) rows → Blocks d (now (blocks .entry)) free used → k ≤ n → r ≡ someUncached (engine B) (take k rows) used) ⌝ }
 {
-    !checks::known::all_cached(addrs, k, blocks, d, places)
+    !checks::known::all_cached(addrs, k, blocks, d, heads)
 }
 
 // The place of the first of `d` used block rows whose fingerprint none of `n` held rows has.
-pub fn unknown_place(addrs: &[u8], n: usize, blocks: &[u8], d: usize, places: &[u16]) -> usize
-    requires { ⌜ (length (now blocks) ≡ tableBytes d) × (d ≤ 256) × (n ≤ length (now places)) ⌝ }
+pub fn unknown_place(addrs: &[u8], n: usize, blocks: &[u8], d: usize, heads: &[u16]) -> usize
+    requires { ⌜ (length (now blocks) ≡ tableBytes d) × (d ≤ 256) × (tableBytes n ≤ length (now addrs)) ⌝ }
     requires { ⌜ every unique (rows d (now blocks)) ≡ true ⌝ }
-    requires { ⌜ Placed n d (now addrs) (now blocks) (now places) ⌝ }
-    ensures { λ r. ⌜ ((B P m : ℕ) (rows : List (AddressRow (Fixed 32))) (used : List (BlockRow (Fixed 32))) → Addrs P m n (now (addrs .entry)) rows → Blocks d (now (blocks .entry)) [] used → r ≡ indexWhere (λ u. not (known (engine B) (u .fingerprint) rows)) used) ⌝ }
+    requires { ⌜ Indexed d (now blocks) (now heads) ⌝ }
+    ensures { λ r. ⌜ ((B P m : ℕ) (rows : List (AddressRow (Fixed 32))) (used : List (BlockRow (Fixed 32))) → Addrs P m n (now (addrs .entry)) rows
+        → Blocks d (now (blocks .entry)) [] used → r ≡ indexWhere (λ u. not (known (engine B) (u .fingerprint) rows)) used) ⌝ }
 {
-    match checks::known::oldest_unknown(addrs, n, blocks, d, places) {
+    match checks::known::oldest_unknown(addrs, n, blocks, d, heads) {
         Found::At(j) => j,
         Found::Nothing => d,
     }
 }
 
 // The place of the block row that step 4 takes.
-pub fn victim(addrs: &[u8], n: usize, blocks: &[u8], d: usize, places: &[u16]) -> usize
-    requires { ⌜ (length (now blocks) ≡ tableBytes d) × (0 < d) × (d ≤ 256) × (n ≤ length (now places)) ⌝ }
+pub fn victim(addrs: &[u8], n: usize, blocks: &[u8], d: usize, heads: &[u16]) -> usize
+    requires { ⌜ (length (now blocks) ≡ tableBytes d) × (0 < d) × (d ≤ 256) × (tableBytes n ≤ length (now addrs)) ⌝ }
     requires { ⌜ every unique (rows d (now blocks)) ≡ true ⌝ }
-    requires { ⌜ (full (now blocks) ≡ true → Placed n d (now addrs) (now blocks) (now places)) ⌝ }
+    requires { ⌜ (full (now blocks) ≡ true → Indexed d (now blocks) (now heads)) ⌝ }
     ensures { λ r. ⌜ r < d ⌝ }
-    ensures { λ r. ⌜ ((B P m : ℕ) (rows : List (AddressRow (Fixed 32))) (free : List ℕ) (used : List (BlockRow (Fixed 32))) → Addrs P m n (now (addrs .entry)) rows → Blocks d (now (blocks .entry)) free used → r ≡ victimPlace B rows free used) ⌝ }
+    ensures { λ r. ⌜ ((B P m : ℕ) (rows : List (AddressRow (Fixed 32))) (free : List ℕ) (used : List (BlockRow (Fixed 32)))
+        → Addrs P m n (now (addrs .entry)) rows → Blocks d (now (blocks .entry)) free used → r ≡ victimPlace B rows free used) ⌝ }
 {
     if !row::is_used(blocks, 0) {
         return 0;
     }
-    let j = unknown_place(addrs, n, blocks, d, places);
+    let j = unknown_place(addrs, n, blocks, d, heads);
     if j < d {
         return j;
     }
@@ -129,8 +124,9 @@ pub fn dirty_at(t: &[u8], i: usize) -> u8
 
 // The place of the block row of row `i`'s fingerprint, the count of block rows where there is no row `i` or it is not cached.
 pub fn place_of_row(b: BoxRecord, i: usize, addrs: &[u8], blocks: &[u8]) -> usize
-    requires { ⌜ (b .held ≤ b .rows) × (length (now addrs) ≡ tableBytes (b .rows)) × (length (now blocks) ≡ tableBytes (b .slots)) ⌝ }
-    ensures { λ r. ⌜ ((P m : ℕ) (rows : List (AddressRow (Fixed 32))) (free : List ℕ) (used : List (BlockRow (Fixed 32))) → Addrs P m (b .held) (now (addrs .entry)) rows → Blocks (b .slots) (now (blocks .entry)) free used
+    requires { ⌜ Sized b (now addrs) (now blocks) ⌝ }
+    ensures { λ r. ⌜ ((P m : ℕ) (rows : List (AddressRow (Fixed 32))) (free : List ℕ) (used : List (BlockRow (Fixed 32)))
+        → Addrs P m (b .held) (now (addrs .entry)) rows → Blocks (b .slots) (now (blocks .entry)) free used
         → r ≡ cond (ltb i (b .held)) (length free + indexWhere (λ u. engine 0 .same (getD rows i noRow .fingerprint) (u .fingerprint)) used) (b .slots)) ⌝ }
 {
     if i < b.held {

@@ -1,6 +1,6 @@
 -- A call that is not refused, from what its refusal says and what its steps leave. Assumes nothing.
-use mathlib.Core.Path.{_≡_, refl, sym, ap, _∙_}
-use mathlib.Core.Bool.{Bool, true, false, _||_, cond}
+use mathlib.Core.Path.{_≡_, refl, sym, ap, _∙_, subst}
+use mathlib.Core.Bool.{Bool, true, false, _&&_, _||_, cond}
 use mathlib.Core.List.{List, [], _∷_}
 use mathlib.Core.Option.{Option, none, some}
 use Prim.Native.Nat.{ℕ, suc, _≤_, _<_, _+_, _*_, _^_}
@@ -11,9 +11,9 @@ use borrow.Author.Tests.{ltb-false, leb-false, eqb-true, not-false}
 use Rattle.counters.specs.declared.Counters as Code
 use Rattle.counters.specs.Added.{added}
 use Rattle.paper.specs.KeyedLaws.{or-false-left, or-false-right}
-use Rattle.paper.specs.Cache.{AddressRow, Box, Call, Outcome, Word, hit, miss, sameBlock, newBlock, Counters, counted, oneIf, isRead, isHit, answer, cached, serve, readAs, rowWithBlock, writeThrough, writeBack, writeInvalidate}
+use Rattle.paper.specs.Cache.{Numbers, AddressRow, Box, Call, Outcome, Word, hit, miss, sameBlock, newBlock, Counters, counted, oneIf, isRead, isHit, answer, cached, serve, readAs, rowWithBlock, writeThrough, writeBack, writeInvalidate}
 use Rattle.paper.specs.Engine.{Fixed, fit, engine}
-use Rattle.paper.specs.Lent.{Numbers, Lent, Ask, calling, refusal, callOf, boxIn, lentOf, served, answered, blockAfter, partAfter, wrongBuffers, wrongBlock, lentBlock, outside, addressOf, over}
+use Rattle.paper.specs.Lent.{Lent, Ask, calling, refusal, callOf, boxIn, lentOf, served, answered, blockAfter, partAfter, wrongBuffers, wrongBlock, lentBlock, outside, addressOf, counts, over}
 use Rattle.paper.specs.RowBytes.{Bytes}
 use Rattle.paper.specs.LentLaws.{passes-sound, fit-whole}
 use Rattle.paper.specs.RefusalLaws.{exactly, served-is, refused-keeps}
@@ -22,11 +22,14 @@ use Rattle.paper.specs.Layout.{addressesOf, blocksOf, passes-addrs, passes-bloc
 use Rattle.parts.specs.declared.BoxRecord.{BoxRecord}
 use Rattle.policy.specs.declared.Word as CodeWord
 use Rattle.policy.specs.declared.Answer.the-variants.{Refused, Answered}
-use Rattle.parts.specs.Rep.{Rep}
+use Rattle.parts.specs.Rep.{numbersOf, Sized, Rep, withHeld}
 use Rattle.step.specs.Steps.{Out4, out4, Sure}
-use Rattle.serve.specs.Calls.{Leaves, leaves, isYes, returned}
-use Rattle.refusals.specs.Given.{numbersOf, countersOf, lent}
-use Rattle.policy.specs.Contract.{wordOf, Told, told, called}
+use Rattle.serve.specs.declared.Served as CodeServed
+use Rattle.serve.specs.declared.Write.{Write}
+use Rattle.serve.specs.declared.Write.the-variants.{Through, Back, Invalidate}
+use Rattle.serve.specs.Calls.{Access, LentSound, Leaves, left, leaves, writing, isYes, returned}
+use Rattle.refusals.specs.Given.{countersOf, lent}
+use Rattle.policy.specs.Contract.{wordOf, Told, told, called, askOf}
 use Rattle.tables.specs.Rows.{tableBytes}
 
 -- bytes below 256, one by one
@@ -56,10 +59,7 @@ module _ (b : BoxRecord) (disk flash addrs blocks : List ℕ) (k : Counters) (q 
         disk-is = passes-disk N t (finds .passes) x y;
       }
 
-  pub sizes : Bytes addrs → Bytes blocks → (0 < b .rows) × (0 < b .slots) × (b .held ≤ b .rows) × (length addrs ≡ tableBytes (b .rows)) × (length blocks ≡ tableBytes (b .slots)) × (b .rows ≤ 1024) × (length disk ≡ b .blocks * b .size)
-  sizes x y = (finds .fits .m-least, finds .fits .d-least, rep x y .rows-are .few, finds .passes .lengths .addresses, finds .passes .lengths .blocks, finds .fits .m-most, finds .passes .lengths .disk)
-
-  pub block-fits : (l : List ℕ) → lentBlock q ≡ some l → length l ≡ b .size
+  block-fits : (l : List ℕ) → lentBlock q ≡ some l → length l ≡ b .size
   block-fits l p =
       let x = exactly (numbersOf b) (lent b disk flash addrs blocks k) q .gives-0 .0 e in
       eqb-true (length l) (b .size) (not-false (eqb (length l) (b .size)) (sym (ap (wrongBlock (b .size)) p) ∙ or-false-right (wrongBuffers (numbersOf b) (lent b disk flash addrs blocks k)) (wrongBlock (b .size) (lentBlock q)) (x .1)))
@@ -68,6 +68,19 @@ module _ (b : BoxRecord) (disk flash addrs blocks : List ℕ) (k : Counters) (q 
   address-fits a p =
       let x = exactly (numbersOf b) (lent b disk flash addrs blocks k) q .gives-0 .0 e in
       leb-false (b .blocks) a (sym (ap (outside (b .blocks)) p) ∙ x .2)
+
+  -- what a served call finds: tables of the box's lengths, a sound box, a disk of its length, and its counters
+  pub sized : Bytes addrs → Bytes blocks → Sized b addrs blocks
+  sized x y = (rep x y .rows-are .few, finds .passes .lengths .addresses, finds .passes .lengths .blocks)
+
+  pub access : Bytes addrs → Bytes blocks → (a : ℕ) (l : List ℕ) → addressOf q ≡ some a → lentBlock q ≡ some l → Access b a l addrs blocks
+  access x y a l ea el = (finds .fits .m-least, finds .fits .d-least, block-fits l el, address-fits a ea, finds .fits .m-most, sized x y)
+
+  abbrev pub sound : Bytes addrs → Bytes blocks → LentSound b disk flash addrs blocks
+  sound x y = (boxIn (numbersOf b) (lent b disk flash addrs blocks k), rep x y, sure)
+
+  pub disk-fits : length disk ≡ b .blocks * b .size
+  disk-fits = finds .passes .lengths .disk
 
   -- the paper's call, from what the steps leave, the word and the counts
   pub finish : (w : CodeWord.Word) (said : Bool) (held f p r h : ℕ) (c : Code.Counters) (own disk′ flash′ addrs′ blocks′ block′ : List ℕ) (one : Option (List ℕ))
@@ -78,7 +91,7 @@ module _ (b : BoxRecord) (disk flash addrs blocks : List ℕ) (k : Counters) (q 
       → h ≡ oneIf (isHit ((outcome (numbersOf b) (lent b disk flash addrs blocks k) q) .word))
       → one ≡ blockAfter q ((outcome (numbersOf b) (lent b disk flash addrs blocks k) q) .block)
       → partAfter q ((outcome (numbersOf b) (lent b disk flash addrs blocks k) q) .block) ≡ []
-      → told (record { answer = Answered w f p; box_record = (record { size = b .size; blocks = b .blocks; rows = b .rows; slots = b .slots; held = held }); counters = added c r h f p }) disk′ flash′ addrs′ blocks′ one
+      → told (record { answer = Answered w f p; box_record = withHeld b held; counters = added c r h f p }) disk′ flash′ addrs′ blocks′ one
       ≡ called b (lent b disk flash addrs blocks k) q
   unfolding leaves out4 addressesOf blocksOf lentOf served counted
   finish w said held f p r h c own disk′ flash′ addrs′ blocks′ block′ one ek x ew er eh eo ep =
@@ -111,14 +124,15 @@ module _ (b : BoxRecord) (disk flash addrs blocks : List ℕ) (k : Counters) (q 
 
 -- a refused call
 pub keep : (b : BoxRecord) (disk flash addrs blocks : List ℕ) (c : Code.Counters) (q : Ask) (number : ℕ) → number ≡ refusal (numbersOf b) (lent b disk flash addrs blocks (countersOf c)) (calling q) → (number ≡ 0 → ⊥)
-    → told (record { answer = Refused number; box_record = b; counters = c }) disk flash addrs blocks (lentBlock q) ≡ called b (lent b disk flash addrs blocks (countersOf c)) q
+    → (one : Option (List ℕ)) → one ≡ lentBlock q
+    → told (record { answer = Refused number; box_record = b; counters = c }) disk flash addrs blocks one ≡ called b (lent b disk flash addrs blocks (countersOf c)) q
 unfolding Rattle.paper.specs.Lent.kept
-keep b disk flash addrs blocks c q number e n =
+keep b disk flash addrs blocks c q number e n one eo =
     let N = numbersOf b in
     let t = lent b disk flash addrs blocks (countersOf c) in
     let last = sym (refused-keeps N t q (λ z. n (e ∙ z))) in
     _∙_ {A = Told}
-    (λ i. record { numbers = N; after = record { answer = Rattle.paper.specs.Lent.refused (e i); lent = t; block = lentBlock q; part = [] } })
+    (λ i. record { numbers = N; after = record { answer = Rattle.paper.specs.Lent.refused (e i); lent = t; block = eo i; part = [] } })
     (λ i. record { numbers = N; after = last i })
 
 -- no counter is above 2 to the power 63
@@ -154,28 +168,22 @@ or-new : (b : Bool) → _≡_ {A = Word} (cond b sameBlock newBlock) (cond (isYe
 or-new true = refl
 or-new false = refl
 
-module _ (B m : ℕ) (s : Box (Fixed 32) (Fixed B)) (a : ℕ) where
+module _ (N : Numbers) (s : Box (Fixed 32) (Fixed (N .B))) (a : ℕ) where
   -- a read's word is hit or miss
-  pub read-says : (serve (engine B) m s (Call.read a)) .word ≡ cond (isYes ((serve (engine B) m s (Call.read a)) .word)) hit miss
+  pub read-says : (serve (engine (N .B)) N s (Call.read a)) .word ≡ cond (isYes ((serve (engine (N .B)) N s (Call.read a)) .word)) hit miss
   unfolding serve readAs answer
-  read-says = go (rowWithBlock (engine B) s a)
+  read-says = go (rowWithBlock (engine (N .B)) s a)
     where
-      go : (o : Option (AddressRow (Fixed 32))) → (readAs (engine B) m s a o) .word ≡ cond (isYes ((readAs (engine B) m s a o) .word)) hit miss
+      go : (o : Option (AddressRow (Fixed 32))) → (readAs (engine (N .B)) (N .m) s a o) .word ≡ cond (isYes ((readAs (engine (N .B)) (N .m) s a o) .word)) hit miss
       go (some r) = refl
       go none = refl
 
   -- a write's word is same or new
-  pub through-says : (x : Fixed B) → (serve (engine B) m s (Call.through a x)) .word ≡ cond (isYes ((serve (engine B) m s (Call.through a x)) .word)) sameBlock newBlock
-  unfolding serve writeThrough answer
-  through-says x = or-new (cached (engine B) (engine B .hash x) (s .used))
-
-  pub back-says : (x : Fixed B) → (serve (engine B) m s (Call.back a x)) .word ≡ cond (isYes ((serve (engine B) m s (Call.back a x)) .word)) sameBlock newBlock
-  unfolding serve writeBack answer
-  back-says x = or-new (cached (engine B) (engine B .hash x) (s .used))
-
-  pub invalidate-says : (x : Fixed B) → (serve (engine B) m s (Call.invalidate a x)) .word ≡ cond (isYes ((serve (engine B) m s (Call.invalidate a x)) .word)) sameBlock newBlock
-  unfolding serve writeInvalidate
-  invalidate-says x = or-new (cached (engine B) (engine B .hash x) (s .used))
+  pub write-says : (kind : Write) (x : Fixed (N .B)) → (serve (engine (N .B)) N s (writing kind a x)) .word ≡ cond (isYes ((serve (engine (N .B)) N s (writing kind a x)) .word)) sameBlock newBlock
+  unfolding serve writeThrough writeBack writeInvalidate answer
+  write-says Through x = or-new (cached (engine (N .B)) (engine (N .B) .hash x) (s .used))
+  write-says Back x = or-new (cached (engine (N .B)) (engine (N .B) .hash x) (s .used))
+  write-says Invalidate x = or-new (cached (engine (N .B)) (engine (N .B) .hash x) (s .used))
 
 -- a word that is one of two, from what the code says of it
 pub said-is : (w u v : Word) (said : Bool) → w ≡ cond (isYes w) u v → said ≡ isYes w → cond said u v ≡ w
@@ -215,32 +223,38 @@ module _ (b : BoxRecord) (own : List ℕ) (o : Outcome (Fixed 32) (Fixed (b .siz
 
 -- ---- the writes
 
--- the four accesses have one refusal
-module _ (N : Numbers) (t : Lent) (a : ℕ) (l : List ℕ) where
-  pub through-refused : refusal N t (calling (Ask.read a l)) ≡ refusal N t (calling (Ask.through a l))
-  unfolding refusal
-  through-refused = refl
+-- what a write of any kind asks: an access with its address and its block, which it keeps; no read
+pub record AsksWrite (kind : Write) (B a : ℕ) (l : List ℕ) : Type 0 where
+  pub call : callOf B (askOf kind a l) ≡ writing kind a (fit B l)
+  pub refusal-is : (N : Numbers) (t : Lent) → refusal N t (calling (Ask.read a l)) ≡ refusal N t (calling (askOf kind a l))
+  pub address : addressOf (askOf kind a l) ≡ some a
+  pub block : lentBlock (askOf kind a l) ≡ some l
+  pub counted : (k : Counters) → over k ≡ counts (askOf kind a l) && over k
+  pub no-read : isRead (callOf B (askOf kind a l)) ≡ false
+  pub block-kept : (o : Option (Fixed B)) → some l ≡ blockAfter (askOf kind a l) o
+  pub no-part : (o : Option (Fixed B)) → partAfter (askOf kind a l) o ≡ []
 
-  pub back-refused : refusal N t (calling (Ask.read a l)) ≡ refusal N t (calling (Ask.back a l))
-  unfolding refusal
-  back-refused = refl
-
-  pub invalidate-refused : refusal N t (calling (Ask.read a l)) ≡ refusal N t (calling (Ask.invalidate a l))
-  unfolding refusal
-  invalidate-refused = refl
+pub asks-write : (kind : Write) (B a : ℕ) (l : List ℕ) → AsksWrite kind B a l
+unfolding callOf refusal
+asks-write Through B a l = record { call = refl; refusal-is = λ N t. refl; address = refl; block = refl; counted = λ k. refl; no-read = refl; block-kept = λ o. refl; no-part = λ o. refl }
+asks-write Back B a l = record { call = refl; refusal-is = λ N t. refl; address = refl; block = refl; counted = λ k. refl; no-read = refl; block-kept = λ o. refl; no-part = λ o. refl }
+asks-write Invalidate B a l = record { call = refl; refusal-is = λ N t. refl; address = refl; block = refl; counted = λ k. refl; no-read = refl; block-kept = λ o. refl; no-part = λ o. refl }
 
 -- a write, from what its steps leave
-module _ (b : BoxRecord) (disk flash addrs blocks : List ℕ) (c : Code.Counters) (q : Ask) (e : refusal (numbersOf b) (lent b disk flash addrs blocks (countersOf c)) (calling q) ≡ 0) where
-  pub written : (w : CodeWord.Word) (said : Bool) (held f p : ℕ) (own disk′ flash′ addrs′ blocks′ block′ : List ℕ) (one : Option (List ℕ))
-      → _≡_ {A = Leaves} (record { yes = said; held = held; left = (record { flashed = f; primary = p; disk = disk′; flash = flash′; addrs = addrs′; blocks = blocks′ }); block = block′ }) (leaves b own (outcome (numbersOf b) (lent b disk flash addrs blocks (countersOf c)) q))
-      → wordOf w ≡ cond said sameBlock newBlock
-      → (outcome (numbersOf b) (lent b disk flash addrs blocks (countersOf c)) q) .word ≡ cond (isYes ((outcome (numbersOf b) (lent b disk flash addrs blocks (countersOf c)) q) .word)) sameBlock newBlock
-      → isRead (callOf (b .size) q) ≡ false
-      → one ≡ blockAfter q ((outcome (numbersOf b) (lent b disk flash addrs blocks (countersOf c)) q) .block)
-      → partAfter q ((outcome (numbersOf b) (lent b disk flash addrs blocks (countersOf c)) q) .block) ≡ []
-      → told (record { answer = Answered w f p; box_record = (record { size = b .size; blocks = b .blocks; rows = b .rows; slots = b .slots; held = held }); counters = added c 0 0 f p }) disk′ flash′ addrs′ blocks′ one
-      ≡ called b (lent b disk flash addrs blocks (countersOf c)) q
-  written w said held f p own disk′ flash′ addrs′ blocks′ block′ one x ew says er eo ep =
-      let o = outcome (numbersOf b) (lent b disk flash addrs blocks (countersOf c)) q in
-      finish b disk flash addrs blocks (countersOf c) q e w said held f p 0 0 c own disk′ flash′ addrs′ blocks′ block′ one refl x
-      (ew ∙ said-is (o .word) sameBlock newBlock said says (yes-of b own o x)) (sym (ap oneIf er)) (no-hit (o .word) says) eo ep
+module _ (b : BoxRecord) (disk flash addrs blocks : List ℕ) (c : Code.Counters) (kind : Write) (a : ℕ) (l : List ℕ) (e : refusal (numbersOf b) (lent b disk flash addrs blocks (countersOf c)) (calling (askOf kind a l)) ≡ 0) where
+  pub written : (w : CodeWord.Word) (r : CodeServed.Served) (disk′ flash′ addrs′ blocks′ : List ℕ)
+      → left r disk′ flash′ addrs′ blocks′ l ≡ leaves b l (serve (engine (b .size)) (numbersOf b) (boxIn (numbersOf b) (lent b disk flash addrs blocks (countersOf c))) (writing kind a (fit (b .size) l)))
+      → wordOf w ≡ cond (r .yes) sameBlock newBlock
+      → told (record { answer = Answered w (r .flashed) (r .primary); box_record = withHeld b (r .held); counters = added c 0 0 (r .flashed) (r .primary) }) disk′ flash′ addrs′ blocks′ (some l)
+      ≡ called b (lent b disk flash addrs blocks (countersOf c)) (askOf kind a l)
+  written w r disk′ flash′ addrs′ blocks′ x ew =
+      let q = askOf kind a l in
+      let k = countersOf c in
+      let o = outcome (numbersOf b) (lent b disk flash addrs blocks k) q in
+      let f = asks-write kind (b .size) a l in
+      let on : Call (Fixed (b .size)) → Outcome (Fixed 32) (Fixed (b .size)) = serve (engine (b .size)) (numbersOf b) (boxIn (numbersOf b) (lent b disk flash addrs blocks k)) in
+      let says : o .word ≡ cond (isYes (o .word)) sameBlock newBlock
+      = subst (λ (z : Call (Fixed (b .size))). (on z) .word ≡ cond (isYes ((on z) .word)) sameBlock newBlock) (sym (f .call)) (write-says (numbersOf b) (boxIn (numbersOf b) (lent b disk flash addrs blocks k)) a kind (fit (b .size) l)) in
+      let y : left r disk′ flash′ addrs′ blocks′ l ≡ leaves b l o = x ∙ ap (λ (z : Call (Fixed (b .size))). leaves b l (on z)) (sym (f .call)) in
+      finish b disk flash addrs blocks k q e w (r .yes) (r .held) (r .flashed) (r .primary) 0 0 c l disk′ flash′ addrs′ blocks′ l (some l) refl y
+      (ew ∙ said-is (o .word) sameBlock newBlock (r .yes) says (yes-of b l o y)) (sym (ap oneIf (f .no-read))) (no-hit (o .word) says) (f .block-kept (o .block)) (f .no-part (o .block))

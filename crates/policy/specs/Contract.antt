@@ -4,14 +4,17 @@ use mathlib.Core.List.{List, []}
 use mathlib.Core.Option.{Option}
 use Prim.Native.Nat.{ℕ}
 use Rattle.parts.specs.declared.BoxRecord.{BoxRecord}
-use Rattle.refusals.specs.Given.{numbersOf, countersOf, lent}
+use Rattle.parts.specs.Rep.{numbersOf}
+use Rattle.refusals.specs.Given.{countersOf, lent}
 use Rattle.policy.specs.declared.Word as CodeWord
 use Rattle.policy.specs.declared.Word.the-variants.{Hit, Miss, Same, New, Cache, Disk, Done}
 use Rattle.policy.specs.declared.Answer as CodeAnswer
 use Rattle.policy.specs.declared.Answer.the-variants.{Refused, Answered}
 use Rattle.policy.specs.declared.calls.Outcome.{Outcome}
-use Rattle.paper.specs.Cache.{Word, hit, miss, sameBlock, newBlock, fromCache, fromDisk, done}
-use Rattle.paper.specs.Lent.{Numbers, Lent, Ask, Answer, refused, answered, After, call}
+use Rattle.serve.specs.declared.Write.{Write}
+use Rattle.serve.specs.declared.Write.the-variants.{Through, Back, Invalidate}
+use Rattle.paper.specs.Cache.{Numbers, Word, hit, miss, sameBlock, newBlock, fromCache, fromDisk, done}
+use Rattle.paper.specs.Lent.{Lent, Ask, Answer, refused, answered, After, call}
 
 -- "Where an answer is an enum, the promises use a definition. That definition gives this paper's number and values for each of the enum's cases."
 abbrev pub wordOf : CodeWord.Word → Word
@@ -36,9 +39,20 @@ abbrev pub told : Outcome → (disk flash addresses blocks : List ℕ) → Optio
 told r disk flash addresses blocks block =
     record {
       numbers = numbersOf (r .box_record);
-      after = record { answer = answerOf (r .answer); lent = lent (r .box_record) disk flash addresses blocks (countersOf (r .counters)); block = block; part = [] };
+      after = record {
+        answer = answerOf (r .answer);
+        lent = lent (r .box_record) disk flash addresses blocks (countersOf (r .counters));
+        block = block;
+        part = [];
+      };
     }
 
 -- the paper's call on what is lent
 abbrev pub called : BoxRecord → Lent → Ask → Told
 called b t q = record { numbers = numbersOf b; after = call (numbersOf b) t q }
+
+-- a write of each kind, as it is asked
+abbrev pub askOf : Write → ℕ → List ℕ → Ask
+askOf Through a l = Ask.through a l
+askOf Back a l = Ask.back a l
+askOf Invalidate a l = Ask.invalidate a l

@@ -1,19 +1,22 @@
 // The calls: each takes any numbers, any slices and any counters.
 use crate::Answer;
 use crate::Word;
+use checks::index;
 use counters::Counters;
 use parts::BoxRecord;
 use serve::Served;
+use serve::Write;
 use tables::SourceAddress;
 ghost use mathlib.Core.Path.{_≡_};
 ghost use mathlib.Core.Bool.{cond};
 ghost use mathlib.Core.Option.{Option};
 ghost use Prim.Native.Nat.{_+_, _<_, _^_};
+ghost use Rattle.parts.specs.Rep.{withHeld};
 ghost use Rattle.paper.specs.Cache.{hit, miss, sameBlock, newBlock};
 ghost use Rattle.paper.specs.Lent.{Ask};
 ghost use Rattle.counters.specs.Added.{added};
 ghost use Rattle.refusals.specs.Given.{lent, countersOf};
-ghost use Rattle.policy.specs.Contract.{told, called, wordOf};
+ghost use Rattle.policy.specs.Contract.{told, called, wordOf, askOf};
 ghost use Rattle.policy.specs.declared.Answer.the-variants.{Refused, Answered};
 
 // What a call gives back: its answer, the box record and the counters.
@@ -37,16 +40,15 @@ fn refused(number: u32, b: BoxRecord, c: Counters) -> Outcome
 // What a served call gives back: its word, what it told, and the counters with its own counts.
 fn answered(b: BoxRecord, w: Word, s: Served, c: Counters, reads: u64, hits: u64) -> Outcome
     requires { ⌜ (c .reads + reads < 2 ^ 64) × (c .hits + hits < 2 ^ 64) × (c .flash + s .flashed < 2 ^ 64) × (c .primary + s .primary < 2 ^ 64) ⌝ }
-    ensures { λ r. ⌜ r ≡ record { answer = Answered w (s .flashed) (s .primary); box_record = (record { size = b .size; blocks = b .blocks; rows = b .rows; slots = b .slots; held = s .held }); counters = added c reads hits (s .flashed) (s .primary) } ⌝ }
+    ensures { λ r. ⌜ r ≡ record {
+      answer = Answered w (s .flashed) (s .primary);
+      box_record = withHeld b (s .held);
+      counters = added c reads hits (s .flashed) (s .primary);
+    } ⌝ }
 {
     let k = counters::counted(c, reads, hits, s.flashed as u64, s.primary as u64);
-    let next = BoxRecord {
-        size: b.size,
-        blocks: b.blocks,
-        rows: b.rows,
-        slots: b.slots,
-        held: s.held,
-    };
+    let mut next = b;
+    next.held = s.held;
     Outcome {
         answer: Answer::Answered(w, s.flashed, s.primary),
         box_record: next,
@@ -96,19 +98,22 @@ pub fn read(
     block: &mut [u8],
 ) -> Outcome
     ensures { λ r. ⌜ told r (now (disk .exit)) (now (flash .exit)) (now (addresses .exit)) (now (blocks .exit)) (Option.some (now (block .exit)))
-        ≡ called b (lent b (now (disk .entry)) (now (flash .entry)) (now (addresses .entry)) (now (blocks .entry)) (countersOf c)) (Ask.read (a .0) (now (block .entry))) ⌝ }
+        ≡ called b (lent b (now (disk .entry)) (now (flash .entry)) (now (addresses .entry)) (now (blocks .entry)) (countersOf c))
+        (Ask.read (a .0) (now (block .entry))) ⌝ }
 {
-    let mut places = [0u16; 1024];
-    let number = refusals::of_access(b, a, disk, flash, addresses, blocks, c, block, &mut places);
+    let mut heads = [0u16; index::ENTRIES];
+    let number = refusals::of_access(b, a, disk, flash, addresses, blocks, c, block, &mut heads);
     if number != 0 {
         return refused(number, b, c);
     }
-    let s = serve::serve_read(b, a, disk, flash, addresses, blocks, block, &mut places);
+    let s = serve::serve_read(b, a, disk, flash, addresses, blocks, block, &heads);
     answered(b, read_word(s.yes), s, c, 1, one_if(s.yes))
 }
 
-// Write through: the lent block goes to the disk and into the cache.
-pub fn write_through(
+// Write of any kind: through, the lent block goes to the disk and into the cache; back, into the cache, and to the disk later;
+// invalidate, to the disk, and its address out of the cache.
+pub fn write(
+    kind: Write,
     b: BoxRecord,
     a: SourceAddress,
     disk: &mut [u8],
@@ -119,60 +124,15 @@ pub fn write_through(
     block: &[u8],
 ) -> Outcome
     ensures { λ r. ⌜ told r (now (disk .exit)) (now (flash .exit)) (now (addresses .exit)) (now (blocks .exit)) (Option.some (now (block .entry)))
-        ≡ called b (lent b (now (disk .entry)) (now (flash .entry)) (now (addresses .entry)) (now (blocks .entry)) (countersOf c)) (Ask.through (a .0) (now (block .entry))) ⌝ }
+        ≡ called b (lent b (now (disk .entry)) (now (flash .entry)) (now (addresses .entry)) (now (blocks .entry)) (countersOf c))
+        (askOf kind (a .0) (now (block .entry))) ⌝ }
 {
-    let mut places = [0u16; 1024];
-    let number = refusals::of_access(b, a, disk, flash, addresses, blocks, c, block, &mut places);
+    let mut heads = [0u16; index::ENTRIES];
+    let number = refusals::of_access(b, a, disk, flash, addresses, blocks, c, block, &mut heads);
     if number != 0 {
         return refused(number, b, c);
     }
-    let s = serve::serve_through(b, a, disk, flash, addresses, blocks, block, &mut places);
-    answered(b, write_word(s.yes), s, c, 0, 0)
-}
-
-// Write back: the lent block goes into the cache, the disk later.
-pub fn write_back(
-    b: BoxRecord,
-    a: SourceAddress,
-    disk: &mut [u8],
-    flash: &mut [u8],
-    addresses: &mut [u8],
-    blocks: &mut [u8],
-    c: Counters,
-    block: &[u8],
-) -> Outcome
-    ensures { λ r. ⌜ told r (now (disk .exit)) (now (flash .exit)) (now (addresses .exit)) (now (blocks .exit)) (Option.some (now (block .entry)))
-        ≡ called b (lent b (now (disk .entry)) (now (flash .entry)) (now (addresses .entry)) (now (blocks .entry)) (countersOf c)) (Ask.back (a .0) (now (block .entry))) ⌝ }
-{
-    let mut places = [0u16; 1024];
-    let number = refusals::of_access(b, a, disk, flash, addresses, blocks, c, block, &mut places);
-    if number != 0 {
-        return refused(number, b, c);
-    }
-    let s = serve::serve_back(b, a, disk, flash, addresses, blocks, block, &mut places);
-    answered(b, write_word(s.yes), s, c, 0, 0)
-}
-
-// Write invalidate: the lent block goes to the disk, and the address out of the cache.
-pub fn write_invalidate(
-    b: BoxRecord,
-    a: SourceAddress,
-    disk: &mut [u8],
-    flash: &[u8],
-    addresses: &mut [u8],
-    blocks: &mut [u8],
-    c: Counters,
-    block: &[u8],
-) -> Outcome
-    ensures { λ r. ⌜ told r (now (disk .exit)) (now (flash .entry)) (now (addresses .exit)) (now (blocks .exit)) (Option.some (now (block .entry)))
-        ≡ called b (lent b (now (disk .entry)) (now (flash .entry)) (now (addresses .entry)) (now (blocks .entry)) (countersOf c)) (Ask.invalidate (a .0) (now (block .entry))) ⌝ }
-{
-    let mut places = [0u16; 1024];
-    let number = refusals::of_access(b, a, disk, flash, addresses, blocks, c, block, &mut places);
-    if number != 0 {
-        return refused(number, b, c);
-    }
-    let s = serve::serve_invalidate(b, a, disk, addresses, blocks, block);
+    let s = serve::serve_write(kind, b, a, disk, flash, addresses, blocks, block, &heads);
     answered(b, write_word(s.yes), s, c, 0, 0)
 }
 
@@ -188,11 +148,11 @@ pub fn flush(
     ensures { λ r. ⌜ told r (now (disk .exit)) (now (flash .entry)) (now (addresses .exit)) (now (blocks .entry)) Option.none
         ≡ called b (lent b (now (disk .entry)) (now (flash .entry)) (now (addresses .entry)) (now (blocks .entry)) (countersOf c)) Ask.flush ⌝ }
 {
-    let mut places = [0u16; 1024];
-    let number = refusals::of_flush(b, disk, flash, addresses, blocks, c, &mut places);
+    let mut heads = [0u16; index::ENTRIES];
+    let number = refusals::of_flush(b, disk, flash, addresses, blocks, c, &mut heads);
     if number != 0 {
         return refused(number, b, c);
     }
-    let s = serve::serve_flush(b, disk, flash, addresses, blocks, &places);
+    let s = serve::serve_flush(b, disk, flash, addresses, blocks, &heads);
     answered(b, Word::Done, s, c, 0, 0)
 }

@@ -6,3 +6,5 @@ pub mod Put
 pub mod PutLaws
 -- a number has at most 20 digits
 pub mod DecimalLaws
+-- lines beside their texts, by computation on the definition
+pub mod TextExamples

@@ -40,4 +40,5 @@ answerText k c (answered w f p) = decimal k ++ askText c ++ wordText w ++ counts
 -- "The last line has the counters."
 unfoldable pub countersText : Counters → List ℕ
 countersText k =
-    ascii "reads " ++ decimal (k .reads) ++ (ascii " hits " ++ decimal (k .hits)) ++ (ascii " flash " ++ decimal (k .flashWrites)) ++ (ascii " primary " ++ decimal (k .primaryWrites)) ++ ascii "\n"
+    ascii "reads " ++ decimal (k .reads) ++ (ascii " hits " ++ decimal (k .hits)) ++ (ascii " flash " ++ decimal (k .flashWrites))
+    ++ (ascii " primary " ++ decimal (k .primaryWrites)) ++ ascii "\n"

@@ -10,10 +10,11 @@ use borrow.Author.Tests.{eq-eqb, ne-eqb, le-leb}
 use Rattle.tables.specs.Sound.{addressesFit, blocksFit}
 use Rattle.tables.specs.Unsound.{elem, addressesUnsound, blocksUnsound, dirtyUncached}
 use Rattle.paper.specs.KeyedLaws.{by-test}
-use Rattle.paper.specs.Cache.{Counters}
-use Rattle.paper.specs.Lent.{Numbers, Lent, Ask, opening, calling, unfit, wrongBuffers, over, refusal}
+use Rattle.paper.specs.Cache.{Numbers, Counters}
+use Rattle.paper.specs.Lent.{Lent, Ask, opening, calling, unfit, wrongBuffers, over, refusal}
 use Rattle.parts.specs.declared.BoxRecord.{BoxRecord}
-use Rattle.refusals.specs.Given.{numbersOf, lent}
+use Rattle.parts.specs.Rep.{numbersOf}
+use Rattle.refusals.specs.Given.{lent}
 use Rattle.refusals.specs.Sizes.{Opens}
 use Rattle.refusals.specs.Checks.{wrongLengths, tablesRefusal, stateRefusal}
 use Rattle.tables.specs.Rows.{tableBytes}

@@ -16,12 +16,14 @@ sizes = 64 ∷ 128 ∷ 256 ∷ 512 ∷ 1024 ∷ 2048 ∷ 4096 ∷ []
 -- a length of the four buffers is another than the box's
 unfoldable pub wrongLengths : BoxRecord → (disk flash addresses blocks : ℕ) → Bool
 wrongLengths b disk flash addresses blocks =
-    not (eqb disk (b .blocks * b .size)) || not (eqb flash (b .slots * b .size)) || not (eqb addresses (tableBytes (b .rows))) || not (eqb blocks (tableBytes (b .slots)))
+    not (eqb disk (b .blocks * b .size)) || not (eqb flash (b .slots * b .size)) || not (eqb addresses (tableBytes (b .rows)))
+    || not (eqb blocks (tableBytes (b .slots)))
 
 -- the first of 6, 7 and 8, 0 for none
 unfoldable pub tablesRefusal : BoxRecord → (addresses blocks : List ℕ) → ℕ
 tablesRefusal b addresses blocks =
-    cond (addressesUnsound (b .blocks) (b .rows) (b .held) addresses) 6 (cond (blocksUnsound (b .slots) blocks) 7 (cond (dirtyUncached (b .held) (b .slots) addresses blocks) 8 0))
+    cond (addressesUnsound (b .blocks) (b .rows) (b .held) addresses) 6
+    (cond (blocksUnsound (b .slots) blocks) 7 (cond (dirtyUncached (b .held) (b .slots) addresses blocks) 8 0))
 
 -- the first of 6, 7, 8 and 9, 0 for none
 unfoldable pub stateRefusal : BoxRecord → (addresses blocks : List ℕ) → Counters → ℕ

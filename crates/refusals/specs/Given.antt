@@ -4,11 +4,7 @@ use Prim.Native.Nat.{ℕ}
 use Rattle.counters.specs.declared.Counters as Code
 use Rattle.parts.specs.declared.BoxRecord.{BoxRecord}
 use Rattle.paper.specs.Cache.{Counters}
-use Rattle.paper.specs.Lent.{Numbers, Lent}
-
--- the four numbers of a box record
-abbrev pub numbersOf : BoxRecord → Numbers
-numbersOf b = record { B = b .size; P = b .blocks; m = b .rows; d = b .slots }
+use Rattle.paper.specs.Lent.{Lent}
 
 abbrev pub countersOf : Code.Counters → Counters
 countersOf c = record { reads = c .reads; hits = c .hits; flashWrites = c .flash; primaryWrites = c .primary }

@@ -14,7 +14,8 @@ use Rattle.paper.specs.LentLaws.{Lengths, right-lengths}
 use Rattle.paper.specs.RefusalLaws.{exactly-opening}
 use Rattle.paper.specs.CallLaws.{fits}
 use Rattle.parts.specs.declared.BoxRecord.{BoxRecord}
-use Rattle.refusals.specs.Given.{numbersOf, lent}
+use Rattle.parts.specs.Rep.{numbersOf}
+use Rattle.refusals.specs.Given.{lent}
 use Rattle.refusals.specs.Checks.{sizes}
 
 elem-most : (m s : ℕ) (xs : List ℕ) → All (λ x. x ≤ m) xs → elem s xs ≡ true → s ≤ m

@@ -1,4 +1,5 @@
 // The refusals, in document 01's order.
+use checks::index;
 use parts::BoxRecord;
 use tables::SourceAddress;
 use tables::row;
@@ -9,8 +10,9 @@ ghost use lib.ListN.{length};
 ghost use Rattle.tables.specs.Unsound.{elem};
 ghost use Rattle.paper.specs.Cache.{Counters};
 ghost use Rattle.paper.specs.Lent.{Ask, opening, calling, between, unfit, over, refusal};
-ghost use Rattle.parts.specs.Asked.{Placed};
-ghost use Rattle.refusals.specs.Given.{numbersOf, countersOf, lent};
+ghost use Rattle.tables.specs.Index.{headsLength, Blank, Indexed};
+ghost use Rattle.parts.specs.Rep.{numbersOf};
+ghost use Rattle.refusals.specs.Given.{countersOf, lent};
 ghost use Rattle.refusals.specs.Checks.{sizes, wrongLengths, tablesRefusal, stateRefusal};
 ghost use Rattle.tables.specs.Rows.{tableBytes};
 
@@ -90,7 +92,8 @@ pub(crate) fn lengths_wrong(
 
 // Refusals 1 and 2: what an opening is refused with.
 pub fn of_opening(b: BoxRecord, disk: &[u8], flash: &[u8], addresses: &[u8], blocks: &[u8]) -> u32
-    ensures { λ r. ⌜ ((k : Counters) → r ≡ refusal (numbersOf b) (lent b (now (disk .entry)) (now (flash .entry)) (now (addresses .entry)) (now (blocks .entry)) k) opening) ⌝ }
+    ensures { λ r. ⌜ ((k : Counters) → r ≡ refusal (numbersOf b) (lent b (now (disk .entry)) (now (flash .entry)) (now (addresses .entry))
+        (now (blocks .entry)) k) opening) ⌝ }
 {
     if numbers_unfit(b) {
         return 1;
@@ -101,13 +104,16 @@ pub fn of_opening(b: BoxRecord, disk: &[u8], flash: &[u8], addresses: &[u8], blo
     0
 }
 
-// Refusals 6, 7 and 8, of tables with the box's lengths. Where none applies, `places` has the place of each held row's block row.
-pub(crate) fn of_tables(b: BoxRecord, addresses: &[u8], blocks: &[u8], places: &mut [u16]) -> u32
-    requires { ⌜ (b .blocks ≤ 65536) × (b .rows ≤ 1024) × (b .slots ≤ 256) × (length (now addresses) ≡ tableBytes (b .rows)) × (length (now blocks) ≡ tableBytes (b .slots)) × (length (now places) ≡ 1024) ⌝ }
+// Refusals 6, 7 and 8, of tables with the box's lengths. Where none applies, `heads`, 0 everywhere at first, is the index of the block rows.
+pub(crate) fn of_tables(b: BoxRecord, addresses: &[u8], blocks: &[u8], heads: &mut [u16]) -> u32
+    requires { ⌜ (b .blocks ≤ 65536) × (b .rows ≤ 1024) × (b .slots ≤ 256) × (length (now addresses) ≡ tableBytes (b .rows))
+        × (length (now blocks) ≡ tableBytes (b .slots)) ⌝ }
+    requires { ⌜ Blank (now heads) ⌝ }
     ensures { λ r. ⌜ r ≡ tablesRefusal b (now (addresses .entry)) (now (blocks .entry)) ⌝ }
-    ensures { λ r. ⌜ (r ≡ 0 → Placed (b .held) (b .slots) (now (addresses .entry)) (now (blocks .entry)) (now (places .exit))) ⌝ }
+    ensures { λ r. ⌜ (r ≡ 0 → Indexed (b .slots) (now (blocks .entry)) (now (heads .exit))) ⌝ }
+    ensures { λ r. ⌜ length (now (heads .exit)) ≡ headsLength ⌝ }
 {
-    checks::sound::tables_refused(addresses, b.rows, b.held, b.blocks, blocks, b.slots, places)
+    checks::sound::tables_refused(addresses, b.rows, b.held, b.blocks, blocks, b.slots, heads)
 }
 
 // Refusal 9: a counter above 2 to the power 63.
@@ -134,19 +140,22 @@ pub(crate) fn address_outside(b: BoxRecord, a: SourceAddress) -> bool
     b.blocks <= n as usize
 }
 
-// Refusals 6, 7, 8 and 9, of tables with the box's lengths. Where none applies, `places` has the place of each held row's block row.
+// Refusals 6, 7, 8 and 9, of tables with the box's lengths. Where none applies, `heads` is the index of the block rows.
 pub(crate) fn of_state(
     b: BoxRecord,
     addresses: &[u8],
     blocks: &[u8],
     c: counters::Counters,
-    places: &mut [u16],
+    heads: &mut [u16],
 ) -> u32
-    requires { ⌜ (b .blocks ≤ 65536) × (b .rows ≤ 1024) × (b .slots ≤ 256) × (length (now addresses) ≡ tableBytes (b .rows)) × (length (now blocks) ≡ tableBytes (b .slots)) × (length (now places) ≡ 1024) ⌝ }
+    requires { ⌜ (b .blocks ≤ 65536) × (b .rows ≤ 1024) × (b .slots ≤ 256) × (length (now addresses) ≡ tableBytes (b .rows))
+        × (length (now blocks) ≡ tableBytes (b .slots)) ⌝ }
+    requires { ⌜ Blank (now heads) ⌝ }
     ensures { λ r. ⌜ r ≡ stateRefusal b (now (addresses .entry)) (now (blocks .entry)) (countersOf c) ⌝ }
-    ensures { λ r. ⌜ (r ≡ 0 → Placed (b .held) (b .slots) (now (addresses .entry)) (now (blocks .entry)) (now (places .exit))) ⌝ }
+    ensures { λ r. ⌜ (r ≡ 0 → Indexed (b .slots) (now (blocks .entry)) (now (heads .exit))) ⌝ }
+    ensures { λ r. ⌜ length (now (heads .exit)) ≡ headsLength ⌝ }
 {
-    let state = of_tables(b, addresses, blocks, places);
+    let state = of_tables(b, addresses, blocks, heads);
     if state != 0 {
         return state;
     }
@@ -156,7 +165,7 @@ pub(crate) fn of_state(
     0
 }
 
-// The refusal of a read or a write. Where it is 0, `places` has the place of each held row's block row.
+// The refusal of a read or a write. Where it is 0, `heads` is the index of the block rows.
 pub fn of_access(
     b: BoxRecord,
     a: SourceAddress,
@@ -166,11 +175,12 @@ pub fn of_access(
     blocks: &[u8],
     c: counters::Counters,
     block: &[u8],
-    places: &mut [u16],
+    heads: &mut [u16],
 ) -> u32
-    requires { ⌜ length (now places) ≡ 1024 ⌝ }
-    ensures { λ r. ⌜ r ≡ refusal (numbersOf b) (lent b (now (disk .entry)) (now (flash .entry)) (now (addresses .entry)) (now (blocks .entry)) (countersOf c)) (calling (Ask.read (a .0) (now (block .entry)))) ⌝ }
-    ensures { λ r. ⌜ (r ≡ 0 → Placed (b .held) (b .slots) (now (addresses .entry)) (now (blocks .entry)) (now (places .exit))) ⌝ }
+    requires { ⌜ Blank (now heads) ⌝ }
+    ensures { λ r. ⌜ r ≡ refusal (numbersOf b) (lent b (now (disk .entry)) (now (flash .entry)) (now (addresses .entry)) (now (blocks .entry)) (countersOf c))
+        (calling (Ask.read (a .0) (now (block .entry)))) ⌝ }
+    ensures { λ r. ⌜ (r ≡ 0 → Indexed (b .slots) (now (blocks .entry)) (now (heads .exit))) ⌝ }
 {
     let first = of_opening(b, disk, flash, addresses, blocks);
     if first != 0 {
@@ -182,7 +192,7 @@ pub fn of_access(
     if address_outside(b, a) {
         return 3;
     }
-    of_state(b, addresses, blocks, c, places)
+    of_state(b, addresses, blocks, c, heads)
 }
 
 // The refusal of a look.
@@ -194,7 +204,9 @@ pub fn of_look(
     addresses: &[u8],
     blocks: &[u8],
 ) -> u32
-    ensures { λ r. ⌜ ((k : Counters) → r ≡ refusal (numbersOf b) (lent b (now (disk .entry)) (now (flash .entry)) (now (addresses .entry)) (now (blocks .entry)) k) (calling (Ask.look (a .0)))) ⌝ }
+    ensures { λ r. ⌜ ((k : Counters) → r ≡ refusal (numbersOf b) (lent b (now (disk .entry)) (now (flash .entry)) (now (addresses .entry))
+        (now (blocks .entry)) k)
+        (calling (Ask.look (a .0)))) ⌝ }
 {
     let first = of_opening(b, disk, flash, addresses, blocks);
     if first != 0 {
@@ -203,11 +215,11 @@ pub fn of_look(
     if address_outside(b, a) {
         return 3;
     }
-    let mut places = [0u16; 1024];
-    of_tables(b, addresses, blocks, &mut places)
+    let mut heads = [0u16; index::ENTRIES];
+    of_tables(b, addresses, blocks, &mut heads)
 }
 
-// The refusal of a flush.
+// The refusal of a flush. Where it is 0, `heads` is the index of the block rows.
 pub fn of_flush(
     b: BoxRecord,
     disk: &[u8],
@@ -215,15 +227,16 @@ pub fn of_flush(
     addresses: &[u8],
     blocks: &[u8],
     c: counters::Counters,
-    places: &mut [u16],
+    heads: &mut [u16],
 ) -> u32
-    requires { ⌜ length (now places) ≡ 1024 ⌝ }
-    ensures { λ r. ⌜ r ≡ refusal (numbersOf b) (lent b (now (disk .entry)) (now (flash .entry)) (now (addresses .entry)) (now (blocks .entry)) (countersOf c)) (calling Ask.flush) ⌝ }
-    ensures { λ r. ⌜ (r ≡ 0 → Placed (b .held) (b .slots) (now (addresses .entry)) (now (blocks .entry)) (now (places .exit))) ⌝ }
+    requires { ⌜ Blank (now heads) ⌝ }
+    ensures { λ r. ⌜ r ≡ refusal (numbersOf b) (lent b (now (disk .entry)) (now (flash .entry)) (now (addresses .entry)) (now (blocks .entry)) (countersOf c))
+        (calling Ask.flush) ⌝ }
+    ensures { λ r. ⌜ (r ≡ 0 → Indexed (b .slots) (now (blocks .entry)) (now (heads .exit))) ⌝ }
 {
     let first = of_opening(b, disk, flash, addresses, blocks);
     if first != 0 {
         return first;
     }
-    of_state(b, addresses, blocks, c, places)
+    of_state(b, addresses, blocks, c, heads)
 }

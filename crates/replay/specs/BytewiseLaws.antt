@@ -10,7 +10,8 @@ use lib.ListN.{length, take, length-append}
 use lib.Seq.{take-all, take-append-le, length-take-le}
 use borrow.Author.Tests.{ltb-true, ltb-false}
 use Rattle.paper.specs.KeyedLaws.{by-test}
-use Rattle.paper.specs.Lent.{Numbers, Lent, refused}
+use Rattle.paper.specs.Cache.{Numbers}
+use Rattle.paper.specs.Lent.{Lent, refused}
 use Rattle.lines.specs.Lines.{onto, linesIn, lines, parsed}
 use Rattle.print.specs.Texts.{answerText}
 use Rattle.answers.specs.Replay.{boxRefusal, boxNumbers, started, asked, doing, next, laterLines, allLines, replay}

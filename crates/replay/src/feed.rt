@@ -19,7 +19,13 @@ ghost use Rattle.session.specs.Memory.{memory, Sized, Holds, fits, stateIn, sto
 
 // A session before the first byte.
 pub fn begin() -> Session
-    ensures { λ r. ⌜ r ≡ record { stage = 0; kept = 0; number = 0; box_record = (record { size = 0; blocks = 0; rows = 0; slots = 0; held = 0 }); counters = (record { reads = 0; hits = 0; flash = 0; primary = 0 }) } ⌝ }
+    ensures { λ r. ⌜ r ≡ record {
+      stage = 0;
+      kept = 0;
+      number = 0;
+      box_record = (record { size = 0; blocks = 0; rows = 0; slots = 0; held = 0 });
+      counters = (record { reads = 0; hits = 0; flash = 0; primary = 0 });
+    } ⌝ }
 {
     Session {
         stage: 0,
@@ -51,7 +57,8 @@ fn fit(
     blocks: &[u8],
     out: &[u8],
 ) -> bool
-    ensures { λ r. ⌜ r ≡ fits (memory s (now (line .entry)) (now (disk .entry)) (now (flash .entry)) (now (addresses .entry)) (now (blocks .entry)) (now (out .entry))) ⌝ }
+    ensures { λ r. ⌜ r ≡ fits (memory s (now (line .entry)) (now (disk .entry)) (now (flash .entry)) (now (addresses .entry)) (now (blocks .entry))
+        (now (out .entry))) ⌝ }
 {
     if !checks::lengths_fit(
         line.len(),
@@ -85,7 +92,9 @@ fn end_line(
     requires { ⌜ (length (now out) ≡ 256) × (length (now line) ≡ 33) × (s .kept ≤ 33) ⌝ }
     ensures { λ r. ⌜ r .filled ≤ 92 ⌝ }
     ensures { λ r. ⌜ afterOf r (now (line .entry)) (now (disk .exit)) (now (flash .exit)) (now (addresses .exit)) (now (blocks .exit)) (now (out .exit))
-        ≡ stored (memory s (now (line .entry)) (now (disk .entry)) (now (flash .entry)) (now (addresses .entry)) (now (blocks .entry)) (now (out .entry))) (endLine (stateIn (memory s (now (line .entry)) (now (disk .entry)) (now (flash .entry)) (now (addresses .entry)) (now (blocks .entry)) (now (out .entry))))) ⌝ }
+        ≡ stored (memory s (now (line .entry)) (now (disk .entry)) (now (flash .entry)) (now (addresses .entry)) (now (blocks .entry)) (now (out .entry)))
+        (endLine (stateIn (memory s (now (line .entry)) (now (disk .entry)) (now (flash .entry)) (now (addresses .entry)) (now (blocks .entry))
+        (now (out .entry))))) ⌝ }
 {
     let kept = s.kept;
     let c = lines::parse::parse(&line[0..kept]);
@@ -104,8 +113,10 @@ fn end_line(
 // Another byte of a line.
 fn keep_byte(x: u8, s: Session, line: &mut [u8]) -> Session
     requires { ⌜ (length (now line) ≡ 33) × (s .kept ≤ 33) ⌝ }
-    ensures { λ r. ⌜ ((disk flash addresses blocks out : List ℕ) → afterOf (record { session = r; filled = 0 }) (now (line .exit)) disk flash addresses blocks out
-        ≡ stored (memory s (now (line .entry)) disk flash addresses blocks out) (quiet (keep x (stateIn (memory s (now (line .entry)) disk flash addresses blocks out))))) ⌝ }
+    ensures { λ r. ⌜ ((disk flash addresses blocks out : List ℕ) → afterOf (record { session = r; filled = 0 })
+        (now (line .exit)) disk flash addresses blocks out
+        ≡ stored (memory s (now (line .entry)) disk flash addresses blocks out)
+        (quiet (keep x (stateIn (memory s (now (line .entry)) disk flash addresses blocks out))))) ⌝ }
 {
     let mut t = s;
     let kept = s.kept;
@@ -161,7 +172,9 @@ fn last_line(
     requires { ⌜ (length (now out) ≡ 256) × (length (now line) ≡ 33) × (s .kept ≤ 33) ⌝ }
     ensures { λ r. ⌜ r .filled ≤ 92 ⌝ }
     ensures { λ r. ⌜ afterOf r (now (line .entry)) (now (disk .exit)) (now (flash .exit)) (now (addresses .exit)) (now (blocks .exit)) (now (out .exit))
-        ≡ stored (memory s (now (line .entry)) (now (disk .entry)) (now (flash .entry)) (now (addresses .entry)) (now (blocks .entry)) (now (out .entry))) (lastLine (stateIn (memory s (now (line .entry)) (now (disk .entry)) (now (flash .entry)) (now (addresses .entry)) (now (blocks .entry)) (now (out .entry))))) ⌝ }
+        ≡ stored (memory s (now (line .entry)) (now (disk .entry)) (now (flash .entry)) (now (addresses .entry)) (now (blocks .entry)) (now (out .entry)))
+        (lastLine (stateIn (memory s (now (line .entry)) (now (disk .entry)) (now (flash .entry)) (now (addresses .entry)) (now (blocks .entry))
+        (now (out .entry))))) ⌝ }
 {
     if s.stage == 0 {
         return end_line(s, line, disk, flash, addresses, blocks, out);
@@ -179,7 +192,8 @@ fn last_line(
 fn last_counters(f: Fed, out: &mut [u8]) -> Fed
     requires { ⌜ (f .filled ≤ 92) × (length (now out) ≡ 256) ⌝ }
     ensures { λ r. ⌜ r .session ≡ f .session ⌝ }
-    ensures { λ r. ⌜ Put (f .filled) (cond (eqb (f .session .stage) 1) (countersText (countersOf (f .session .counters))) []) (now (out .entry)) (r .filled) (now (out .exit)) ⌝ }
+    ensures { λ r. ⌜ Put (f .filled) (cond (eqb (f .session .stage) 1) (countersText (countersOf (f .session .counters))) []) (now (out .entry)) (r .filled)
+        (now (out .exit)) ⌝ }
 {
     let s = f.session;
     if s.stage != 1 {

@@ -1,24 +1,28 @@
-// Replays the list on standard input to standard output.
+// Replays the list on standard input to standard output. No contract can name what C reads and writes: these speak of the buffer that a read filled, with the
+// count that it gave, and of the texts handed to the writes. `whole` says the run.
 use replay::feed;
+use session::Fed;
 use session::Session;
 use tables::row;
 ghost use mathlib.Core.Path.{_≡_};
 ghost use mathlib.Core.Bool.{_&&_};
-ghost use mathlib.Core.List.{List};
-ghost use Prim.Native.Nat.{ℕ};
+ghost use Prim.Native.Nat.{_≤_};
 ghost use lib.Dec.{ltb, leb};
-ghost use lib.ListN.{length};
-ghost use Rattle.session.specs.Memory.{memory, fed, ended};
+ghost use lib.ListN.{length, take};
+ghost use Rattle.session.specs.Memory.{memory, fed, ended, afterOf};
+ghost use Rattle.replay.specs.Pieces.{Ready};
 ghost use Rattle.replay_cli.specs.Chunks.{first, fedFirst};
+ghost use Rattle.replay_cli.specs.Reads.{Ran, Replayed};
 
-// Writes the first bytes of the output.
-fn write(out: &[u8], filled: usize) {
-    if filled <= out.len() {
-        io::write_all(1, &out[0..filled]);
-    }
+// The first bytes of the output.
+fn text(out: &[u8], filled: usize) -> &[u8]
+    requires { ⌜ filled ≤ length (now out) ⌝ }
+    ensures { λ r. ⌜ now r ≡ take filled (now (out .entry)) ⌝ }
+{
+    &out[0..filled]
 }
 
-// One byte of the input.
+// One byte of the input. Its text is written.
 fn step(
     x: u8,
     s: Session,
@@ -28,13 +32,14 @@ fn step(
     addresses: &mut [u8],
     blocks: &mut [u8],
     out: &mut [u8],
-) -> Session
-    ensures { λ r. ⌜ memory r (now (line .exit)) (now (disk .exit)) (now (flash .exit)) (now (addresses .exit)) (now (blocks .exit)) (now (out .exit))
-        ≡ (fed x (memory s (now (line .entry)) (now (disk .entry)) (now (flash .entry)) (now (addresses .entry)) (now (blocks .entry)) (now (out .entry)))) .memory ⌝ }
+) -> Fed
+    ensures { λ r. ⌜ afterOf r (now (line .exit)) (now (disk .exit)) (now (flash .exit)) (now (addresses .exit)) (now (blocks .exit)) (now (out .exit))
+        ≡ fed x
+        (memory s (now (line .entry)) (now (disk .entry)) (now (flash .entry)) (now (addresses .entry)) (now (blocks .entry)) (now (out .entry))) ⌝ }
 {
     let f = feed::feed(x, s, line, disk, flash, addresses, blocks, out);
-    write(out, f.filled);
-    f.session
+    io::write_all(1, text(out, f.filled));
+    f
 }
 
 // The bytes of a chunk of the input.
@@ -49,25 +54,27 @@ fn run(
     out: &mut [u8],
 ) -> Session
     ensures { λ r. ⌜ memory r (now (line .exit)) (now (disk .exit)) (now (flash .exit)) (now (addresses .exit)) (now (blocks .exit)) (now (out .exit))
-        ≡ fedFirst (now (chunk .entry)) (length (now (chunk .entry))) (memory s (now (line .entry)) (now (disk .entry)) (now (flash .entry)) (now (addresses .entry)) (now (blocks .entry)) (now (out .entry))) ⌝ }
+        ≡ fedFirst (now (chunk .entry)) (length (now (chunk .entry)))
+        (memory s (now (line .entry)) (now (disk .entry)) (now (flash .entry)) (now (addresses .entry)) (now (blocks .entry)) (now (out .entry))) ⌝ }
 {
     let mut t = s;
     let mut i = 0;
     while i < chunk.len() {
         let x = chunk[i];
         i += 1;
-        t = step(x, t, line, disk, flash, addresses, blocks, out);
+        let f = step(x, t, line, disk, flash, addresses, blocks, out);
+        t = f.session;
     }
     t
 }
 
-// What a turn took: the session after it, and whether there may be more to read.
+// What a turn took: how many bytes it read, and the session after them.
 struct Taken {
+    count: usize,
     session: Session,
-    more: bool,
 }
 
-// Reads once, and replays the bytes that came, whichever they are. A list whose box line is refused ends there.
+// Reads once, and replays the bytes that came: as many as the read counts, from the start of the buffer that it filled.
 fn turn(
     s: Session,
     chunk: &mut [u8],
@@ -78,18 +85,21 @@ fn turn(
     blocks: &mut [u8],
     out: &mut [u8],
 ) -> Taken
-    ensures { λ r. ⌜ ((bytes : List ℕ) × (memory (r .session) (now (line .exit)) (now (disk .exit)) (now (flash .exit)) (now (addresses .exit)) (now (blocks .exit)) (now (out .exit))
-        ≡ fedFirst bytes (length bytes) (memory s (now (line .entry)) (now (disk .entry)) (now (flash .entry)) (now (addresses .entry)) (now (blocks .entry)) (now (out .entry))))) ⌝ }
+    ensures { λ r. ⌜ r .count ≤ length (now (chunk .exit)) ⌝ }
+    ensures { λ r. ⌜ memory (r .session)
+        (now (line .exit)) (now (disk .exit)) (now (flash .exit)) (now (addresses .exit)) (now (blocks .exit)) (now (out .exit))
+        ≡ fedFirst (now (chunk .exit)) (r .count)
+        (memory s (now (line .entry)) (now (disk .entry)) (now (flash .entry)) (now (addresses .entry)) (now (blocks .entry)) (now (out .entry))) ⌝ }
 {
     let n = io::read_full(0, chunk);
     let t = run(&chunk[0..n], s, line, disk, flash, addresses, blocks, out);
     Taken {
+        count: n,
         session: t,
-        more: goes_on(n, t.stage),
     }
 }
 
-// Whether a turn that read `n` bytes and left this stage is not the last.
+// Whether a turn that read `n` bytes and left this stage is not the last. A list whose box line is refused ends there.
 fn goes_on(n: usize, stage: u8) -> bool
     ensures { λ r. ⌜ r ≡ ltb 0 n && leb stage 1 ⌝ }
 {
@@ -99,7 +109,7 @@ fn goes_on(n: usize, stage: u8) -> bool
     stage <= 1
 }
 
-// The end of the input.
+// The end of the input. Its text is written.
 fn last(
     s: Session,
     line: &[u8],
@@ -108,13 +118,14 @@ fn last(
     addresses: &mut [u8],
     blocks: &mut [u8],
     out: &mut [u8],
-) -> Session
-    ensures { λ r. ⌜ memory r (now (line .entry)) (now (disk .exit)) (now (flash .exit)) (now (addresses .exit)) (now (blocks .exit)) (now (out .exit))
-        ≡ (ended (memory s (now (line .entry)) (now (disk .entry)) (now (flash .entry)) (now (addresses .entry)) (now (blocks .entry)) (now (out .entry)))) .memory ⌝ }
+) -> Fed
+    ensures { λ r. ⌜ afterOf r (now (line .entry)) (now (disk .exit)) (now (flash .exit)) (now (addresses .exit)) (now (blocks .exit)) (now (out .exit))
+        ≡ ended
+        (memory s (now (line .entry)) (now (disk .entry)) (now (flash .entry)) (now (addresses .entry)) (now (blocks .entry)) (now (out .entry))) ⌝ }
 {
     let f = feed::finish(s, line, disk, flash, addresses, blocks, out);
-    write(out, f.filled);
-    f.session
+    io::write_all(1, text(out, f.filled));
+    f
 }
 
 // Replays the input to its end. A proved loop has to end, and nothing says that the input does, so the loop counts its turns down from a number
@@ -128,8 +139,9 @@ fn all(
     blocks: &mut [u8],
     out: &mut [u8],
 ) -> Session
-    ensures { λ r. ⌜ ((bytes : List ℕ) × (memory r (now (line .exit)) (now (disk .exit)) (now (flash .exit)) (now (addresses .exit)) (now (blocks .exit)) (now (out .exit))
-        ≡ fedFirst bytes (length bytes) (memory first (now (line .entry)) (now (disk .entry)) (now (flash .entry)) (now (addresses .entry)) (now (blocks .entry)) (now (out .entry))))) ⌝ }
+    ensures { λ r. ⌜ Ran (length (now (chunk .entry)))
+        (memory first (now (line .entry)) (now (disk .entry)) (now (flash .entry)) (now (addresses .entry)) (now (blocks .entry)) (now (out .entry)))
+        (memory r (now (line .exit)) (now (disk .exit)) (now (flash .exit)) (now (addresses .exit)) (now (blocks .exit)) (now (out .exit))) ⌝ }
 {
     let mut s = feed::begin();
     let mut more = true;
@@ -138,11 +150,31 @@ fn all(
         turns -= 1;
         let t = turn(s, chunk, line, disk, flash, addresses, blocks, out);
         s = t.session;
-        more = t.more;
+        more = goes_on(t.count, s.stage);
     }
     s
 }
 
+// The whole run, in memory that is ready: the input to its end, and the end. The texts handed to the writes are the replay of the bytes read.
+fn whole(
+    chunk: &mut [u8],
+    line: &mut [u8],
+    disk: &mut [u8],
+    flash: &mut [u8],
+    addresses: &mut [u8],
+    blocks: &mut [u8],
+    out: &mut [u8],
+) -> Fed
+    requires { ⌜ Ready (memory first (now line) (now disk) (now flash) (now addresses) (now blocks) (now out)) ⌝ }
+    ensures { λ r. ⌜ Replayed (length (now (chunk .entry)))
+        (memory first (now (line .entry)) (now (disk .entry)) (now (flash .entry)) (now (addresses .entry)) (now (blocks .entry)) (now (out .entry)))
+        (afterOf r (now (line .exit)) (now (disk .exit)) (now (flash .exit)) (now (addresses .exit)) (now (blocks .exit)) (now (out .exit))) ⌝ }
+{
+    let s = all(chunk, line, disk, flash, addresses, blocks, out);
+    last(s, line, disk, flash, addresses, blocks, out)
+}
+
+// Nothing is required of the program: what `whole` requires is shown of the arrays that are made here.
 fn main() {
     let mut chunk = [0u8; 4096];
     let mut line = [0u8; 33];
@@ -151,18 +183,9 @@ fn main() {
     let mut addresses = [0u8; 1024 * row::BYTES];
     let mut blocks = [0u8; 256 * row::BYTES];
     let mut out = [0u8; 256];
-    let s = all(
+    whole(
         &mut chunk,
         &mut line,
-        &mut disk,
-        &mut flash,
-        &mut addresses,
-        &mut blocks,
-        &mut out,
-    );
-    last(
-        s,
-        &line,
         &mut disk,
         &mut flash,
         &mut addresses,

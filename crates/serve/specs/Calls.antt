@@ -6,15 +6,18 @@ use mathlib.Core.Option.{Option, none, some}
 use Prim.Native.Nat.{ℕ}
 use lib.ListN.{length}
 use Rattle.parts.specs.declared.BoxRecord.{BoxRecord}
-use Rattle.paper.specs.Cache.{Box, Outcome, Word, hit, miss, sameBlock, newBlock, fromCache, fromDisk, done}
+use Rattle.serve.specs.declared.Served.{Served}
+use Rattle.serve.specs.declared.Write.{Write}
+use Rattle.serve.specs.declared.Write.the-variants.{Through, Back, Invalidate}
+use Rattle.paper.specs.Cache.{Box, Call, Outcome, Word, serve, hit, miss, sameBlock, newBlock, fromCache, fromDisk, done}
 use Rattle.paper.specs.Engine.{Fixed}
 use Rattle.paper.specs.Engine.{engine}
-use Prim.Native.Nat.{_+_, _<_}
+use Prim.Native.Nat.{_+_, _<_, _≤_}
 use lib.Dec.{eqb}
 use lib.ListN.{getD}
 use Rattle.paper.specs.Index.{indexWhere}
-use Rattle.parts.specs.Rep.{noRow}
-use Rattle.step.specs.Steps.{Out4, out4}
+use Rattle.parts.specs.Rep.{numbersOf, Sized, Rep, noRow}
+use Rattle.step.specs.Steps.{Out4, out4, Sure}
 
 -- the first of an answer's two words: hit, same, cache
 abbrev pub isYes : Word → Bool
@@ -30,6 +33,14 @@ abbrev pub returned : {B : ℕ} → Option (Fixed B) → List ℕ → List ℕ
 returned none lent = lent
 returned (some x) lent = x .0
 
+-- what a read or a write needs of the box: room, a block of its size, an address on its disk, and tables of its lengths
+abbrev pub Access : BoxRecord → (a : ℕ) → (block addrs blocks : List ℕ) → Type 0
+Access b a block addrs blocks = (0 < b .rows) × (0 < b .slots) × (length block ≡ b .size) × (a < b .blocks) × (b .rows ≤ 1024) × Sized b addrs blocks
+
+-- lent bytes of some sound box
+abbrev pub LentSound : (b : BoxRecord) → (disk flash addrs blocks : List ℕ) → Type 0
+LentSound b disk flash addrs blocks = (s : Box (Fixed 32) (Fixed (b .size))) × Rep b disk flash addrs blocks s × Sure b s
+
 -- an answer and every lent buffer
 pub record Leaves : Type 0 where
   pub yes : Bool
@@ -37,8 +48,42 @@ pub record Leaves : Type 0 where
   pub left : Out4
   pub block : List ℕ
 
+-- what the code tells and leaves
+abbrev pub left : Served → (disk flash addrs blocks block : List ℕ) → Leaves
+left r disk flash addrs blocks block =
+    record {
+      yes = r .yes;
+      held = r .held;
+      left = (record {
+        flashed = r .flashed;
+        primary = r .primary;
+        disk = disk;
+        flash = flash;
+        addrs = addrs;
+        blocks = blocks;
+      });
+      block = block;
+    }
+
+-- the paper's write of each kind
+abbrev pub writing : {B : ℕ} → Write → ℕ → Fixed B → Call (Fixed B)
+writing Through a x = Call.through a x
+writing Back a x = Call.back a x
+writing Invalidate a x = Call.invalidate a x
+
 unfoldable pub leaves : (b : BoxRecord) → List ℕ → Outcome (Fixed 32) (Fixed (b .size)) → Leaves
-leaves b lent o = record { yes = isYes (o .word); held = length (o .box .rows); left = out4 b (record { box = o .box; flashWrites = o .flashWrites; primaryWrites = o .primaryWrites }); block = returned (o .block) lent }
+leaves b lent o = record {
+  yes = isYes (o .word);
+  held = length (o .box .rows);
+  left = out4 b (record { box = o .box; flashWrites = o .flashWrites; primaryWrites = o .primaryWrites });
+  block = returned (o .block) lent;
+}
+
+-- a write leaves the bytes of the paper's write, of every sound box that the bytes before it are of
+abbrev pub Wrote : Write → (b : BoxRecord) → (a : ℕ) → (disk flash addrs blocks block : List ℕ) → Leaves → Type 0
+Wrote kind b a disk flash addrs blocks block l =
+    (s : Box (Fixed 32) (Fixed (b .size))) (x : Fixed (b .size)) → Rep b disk flash addrs blocks s → Sure b s → x .0 ≡ block
+    → l ≡ leaves b block (serve (engine (b .size)) (numbersOf b) s (writing kind a x))
 
 -- a is held in row i, and its fingerprint has the block row at j
 pub record HitAt (b : BoxRecord) (s : Box (Fixed 32) (Fixed (b .size))) (a i j : ℕ) : Type 0 where

@@ -17,7 +17,7 @@ use Rattle.paper.specs.Sound.{length-cleaned}
 use Rattle.paper.specs.Engine.{Fixed, engine}
 use Rattle.paper.specs.Lent.{join}
 use Rattle.paper.specs.Index.{indexWhere, has-yes, has-no, find-yes, find-no}
-use Rattle.parts.specs.Rep.{noRow, Rep, Copied, copiedRows, partBox}
+use Rattle.parts.specs.Rep.{numbersOf, noRow, Rep, Copied, copiedRows, partBox}
 use Rattle.paper.specs.Layout.{Blocks, addressesOf}
 use Rattle.step.specs.Steps.{out4, After, after, asks, blockBytes}
 use Rattle.serve.specs.Calls.{isYes, returned, Leaves, leaves, HitAt}
@@ -51,12 +51,12 @@ answer-is b lent w o more t y0 held flashed p q disk flash addrs blocks block e 
     }
 
 pub back-is : (b : BoxRecord) (lent : List ℕ) (s : Box (Fixed 32) (Fixed (b .size))) (a : ℕ) (x : Fixed (b .size)) → leaves b lent (answer (engine (b .size)) (cond (cached (engine (b .size)) (engine (b .size) .hash x) (s .used)) sameBlock newBlock) none 0 (step (engine (b .size)) (b .rows) s (asks a (engine (b .size) .hash x) x true)))
-    ≡ leaves b lent (serve (engine (b .size)) (b .rows) s (Call.back a x))
+    ≡ leaves b lent (serve (engine (b .size)) (numbersOf b) s (Call.back a x))
 unfolding serve writeBack
 back-is b lent s a x = refl
 
 pub through-is : (b : BoxRecord) (lent : List ℕ) (s : Box (Fixed 32) (Fixed (b .size))) (a : ℕ) (x : Fixed (b .size)) → leaves b lent (answer (engine (b .size)) (cond (cached (engine (b .size)) (engine (b .size) .hash x) (s .used)) sameBlock newBlock) none 1 (step (engine (b .size)) (b .rows) (onDisk (engine (b .size)) s a x) (asks a (engine (b .size) .hash x) x false)))
-    ≡ leaves b lent (serve (engine (b .size)) (b .rows) s (Call.through a x))
+    ≡ leaves b lent (serve (engine (b .size)) (numbersOf b) s (Call.through a x))
 unfolding serve writeThrough
 through-is b lent s a x = refl
 
@@ -67,7 +67,7 @@ rep-onDisk b disk flash addrs blocks s h a l x disk′ e =
     record { rows-are = h .rows-are; blocks-are = h .blocks-are; flash-is = h .flash-is; disk-is = record { count = length-set (s .disk) a x ∙ h .disk-is .count; is = e ∙ put-block-is (b .size) (b .blocks) disk (s .disk) (h .disk-is) a l x } }
 
 pub flush-is : (b : BoxRecord) (lent disk flash addrs blocks : List ℕ) (s : Box (Fixed 32) (Fixed (b .size))) → Rep b disk flash addrs blocks s → (count : ℕ) (disk′ addrs′ : List ℕ) → _≡_ {A = Copied} (record { count = count; disk = disk′; addrs = addrs′ }) (copiedRows b (λ f. true) s (b .held))
-    → _≡_ {A = Leaves} (record { yes = true; held = b .held; left = (record { flashed = 0; primary = count; disk = disk′; flash = flash; addrs = addrs′; blocks = blocks }); block = lent }) (leaves b lent (serve (engine (b .size)) (b .rows) s Call.flush))
+    → _≡_ {A = Leaves} (record { yes = true; held = b .held; left = (record { flashed = 0; primary = count; disk = disk′; flash = flash; addrs = addrs′; blocks = blocks }); block = lent }) (leaves b lent (serve (engine (b .size)) (numbersOf b) s Call.flush))
 unfolding leaves serve flushed out4 copiedRows partBox
 flush-is b lent disk flash addrs blocks s h count disk′ addrs′ e =
     let lr : length (s .rows) ≤ b .held = omega (arith, h .rows-are .count) in
@@ -83,7 +83,7 @@ flush-is b lent disk flash addrs blocks s h count disk′ addrs′ e =
 pub invalidate-is : (b : BoxRecord) (lent disk flash addrs blocks : List ℕ) (s : Box (Fixed 32) (Fixed (b .size))) → Rep b disk flash addrs blocks s → (a : ℕ) → a < b .blocks → (x : Fixed (b .size)) (yes : Bool) (held : ℕ) (disk′ addrs′ blocks′ : List ℕ)
     → yes ≡ isYes (cond (cached (engine (b .size)) (engine (b .size) .hash x) (s .used)) sameBlock newBlock) → disk′ ≡ splice (a * b .size) (x .0) disk
     → (held ≡ length (withoutAddress a (s .rows))) × (addrs′ ≡ addressesOf (b .rows) (withoutAddress a (s .rows))) × (blocks′ ≡ blockBytes (dropped (engine (b .size)) (withoutAddress a (s .rows)) (record { free = s .free; used = s .used }) (rowOf a (s .rows))))
-    → _≡_ {A = Leaves} (record { yes = yes; held = held; left = (record { flashed = 0; primary = 1; disk = disk′; flash = flash; addrs = addrs′; blocks = blocks′ }); block = lent }) (leaves b lent (serve (engine (b .size)) (b .rows) s (Call.invalidate a x)))
+    → _≡_ {A = Leaves} (record { yes = yes; held = held; left = (record { flashed = 0; primary = 1; disk = disk′; flash = flash; addrs = addrs′; blocks = blocks′ }); block = lent }) (leaves b lent (serve (engine (b .size)) (numbersOf b) s (Call.invalidate a x)))
 unfolding leaves serve writeInvalidate out4
 invalidate-is b lent disk flash addrs blocks s h a l x y0 n disk′ addrs′ blocks′ ey ed q =
     let d = rep-onDisk b disk flash addrs blocks s h a l x disk′ ed in
@@ -101,13 +101,13 @@ module _ (b : BoxRecord) (disk flash addrs blocks : List ℕ) (s : Box (Fixed 32
 
   pub hit-is : (lent : List ℕ) (i j : ℕ) → HitAt b s a i j
       → leaves b lent (answer (engine (b .size)) hit (some (blockOf (engine (b .size)) (getD (s .rows) i noRow .fingerprint) (s .used) (s .flash))) 0 (step (engine (b .size)) (b .rows) s (asks a (getD (s .rows) i noRow .fingerprint) (blockOf (engine (b .size)) (getD (s .rows) i noRow .fingerprint) (s .used) (s .flash)) (getD (s .rows) i noRow .dirty))))
-      ≡ leaves b lent (serve (engine (b .size)) (b .rows) s (Call.read a))
+      ≡ leaves b lent (serve (engine (b .size)) (numbersOf b) s (Call.read a))
   unfolding serve readAs
   hit-is lent i j q = rw (hit-row i j q) refl
 
   pub miss-is : (lent : List ℕ) → rowWithBlock (engine (b .size)) s a ≡ none
       → leaves b lent (answer (engine (b .size)) miss (some (getD (s .disk) a (engine (b .size) .blank))) 0 (step (engine (b .size)) (b .rows) s (asks a (engine (b .size) .hash (getD (s .disk) a (engine (b .size) .blank))) (getD (s .disk) a (engine (b .size) .blank)) false)))
-      ≡ leaves b lent (serve (engine (b .size)) (b .rows) s (Call.read a))
+      ≡ leaves b lent (serve (engine (b .size)) (numbersOf b) s (Call.read a))
   unfolding serve readAs
   miss-is lent q = rw q refl
 

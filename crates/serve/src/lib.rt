@@ -8,14 +8,14 @@ ghost use mathlib.Core.Path.{_≡_};
 ghost use mathlib.Core.List.{List};
 ghost use Prim.Native.Nat.{ℕ, _+_, _*_, _<_, _≤_};
 ghost use lib.ListN.{length};
-ghost use Rattle.tables.specs.Rows.{tableBytes};
 ghost use mathlib.Core.Option.{Option};
 ghost use Rattle.paper.specs.Cache.{Box, Call, serve, rowWithBlock};
 ghost use Rattle.paper.specs.Engine.{Fixed, engine};
-ghost use Rattle.parts.specs.Rep.{Rep};
-ghost use Rattle.parts.specs.Asked.{Placed};
+ghost use Rattle.parts.specs.Rep.{numbersOf, Sized, Rep, Lent};
+ghost use Rattle.tables.specs.Index.{Indexed};
 ghost use Rattle.step.specs.Steps.{Sure};
-ghost use Rattle.serve.specs.Calls.{leaves, HitAt};
+ghost use Rattle.serve.specs.declared.Write.the-variants.{Through, Back, Invalidate};
+ghost use Rattle.serve.specs.Calls.{Access, LentSound, left, leaves, Wrote, HitAt};
 
 // What a served call tells: whether its word is the first of its two, the rows held, and its flash and primary writes.
 pub struct Served {
@@ -25,8 +25,15 @@ pub struct Served {
     pub primary: usize,
 }
 
+// The kinds of write.
+pub enum Write {
+    Through,
+    Back,
+    Invalidate,
+}
+
 // Write back.
-pub fn serve_back(
+fn serve_back(
     b: BoxRecord,
     a: SourceAddress,
     disk: &mut [u8],
@@ -34,19 +41,18 @@ pub fn serve_back(
     addrs: &mut [u8],
     blocks: &mut [u8],
     block: &[u8],
-    places: &mut [u16],
+    heads: &[u16],
 ) -> Served
-    requires { ⌜ (0 < b .rows) × (0 < b .slots) × (b .held ≤ b .rows) × (length (now addrs) ≡ tableBytes (b .rows)) × (length (now blocks) ≡ tableBytes (b .slots)) × (length (now block) ≡ b .size) × (a .0 < b .blocks) × (b .rows ≤ 1024) × (length (now places) ≡ 1024) ⌝ }
-    requires { ⌜ ((s : Box (Fixed 32) (Fixed (b .size))) × Rep b (now disk) (now flash) (now addrs) (now blocks) s × Sure b s) ⌝ }
-    requires { ⌜ Placed (b .held) (b .slots) (now addrs) (now blocks) (now places) ⌝ }
-    ensures { λ r. ⌜ (r .flashed ≤ 1) × (r .primary ≤ 2 + b .rows) × (length (now (places .exit)) ≡ 1024) ⌝ }
-    ensures { λ r. ⌜ ((s : Box (Fixed 32) (Fixed (b .size))) (x : Fixed (b .size)) → Rep b (now (disk .entry)) (now (flash .entry)) (now (addrs .entry)) (now (blocks .entry)) s → Sure b s → x .0 ≡ now (block .entry)
-        → record { yes = r .yes; held = r .held; left = (record { flashed = r .flashed; primary = r .primary; disk = now (disk .exit); flash = now (flash .exit); addrs = now (addrs .exit); blocks = now (blocks .exit) }); block = now (block .entry) }
-        ≡ leaves b (now (block .entry)) (serve (engine (b .size)) (b .rows) s (Call.back (a .0) x))) ⌝ }
+    requires { ⌜ (length (now disk) ≡ b .blocks * b .size) × Access b (a .0) (now block) (now addrs) (now blocks) ⌝ }
+    requires { ⌜ LentSound b (now disk) (now flash) (now addrs) (now blocks) ⌝ }
+    requires { ⌜ Indexed (b .slots) (now blocks) (now heads) ⌝ }
+    ensures { λ r. ⌜ (r .flashed ≤ 1) × (r .primary ≤ 2 + b .rows) ⌝ }
+    ensures { λ r. ⌜ Wrote Back b (a .0) (now (disk .entry)) (now (flash .entry)) (now (addrs .entry)) (now (blocks .entry)) (now (block .entry))
+        (left r (now (disk .exit)) (now (flash .exit)) (now (addrs .exit)) (now (blocks .exit)) (now (block .entry))) ⌝ }
 {
     let g = hash::sha256(block);
     let j = rows::place_of(blocks, b.slots, &g);
-    let d = steps::step(b, a, 1, disk, flash, addrs, blocks, &g, block, places);
+    let d = steps::step(b, a, 1, disk, flash, addrs, blocks, &g, block, heads);
     Served {
         yes: j < b.slots,
         held: d.held,
@@ -62,17 +68,18 @@ pub fn serve_flush(
     flash: &[u8],
     addrs: &mut [u8],
     blocks: &[u8],
-    places: &[u16],
+    heads: &[u16],
 ) -> Served
-    requires { ⌜ (0 < b .slots) × (b .slots ≤ 256) × (b .held ≤ b .rows) × (length (now addrs) ≡ tableBytes (b .rows)) × (length (now blocks) ≡ tableBytes (b .slots)) × (b .held ≤ length (now places)) ⌝ }
-    requires { ⌜ ((s : Box (Fixed 32) (Fixed (b .size))) × Rep b (now disk) (now flash) (now addrs) (now blocks) s) ⌝ }
-    requires { ⌜ Placed (b .held) (b .slots) (now addrs) (now blocks) (now places) ⌝ }
+    requires { ⌜ (0 < b .slots) × (b .slots ≤ 256) × Sized b (now addrs) (now blocks) ⌝ }
+    requires { ⌜ Lent b (now disk) (now flash) (now addrs) (now blocks) ⌝ }
+    requires { ⌜ Indexed (b .slots) (now blocks) (now heads) ⌝ }
     ensures { λ r. ⌜ (r .flashed ≤ 1) × (r .primary ≤ 2 + b .rows) ⌝ }
-    ensures { λ r. ⌜ ((s : Box (Fixed 32) (Fixed (b .size))) (lent : List ℕ) → Rep b (now (disk .entry)) (now (flash .entry)) (now (addrs .entry)) (now (blocks .entry)) s
-        → record { yes = r .yes; held = r .held; left = (record { flashed = r .flashed; primary = r .primary; disk = now (disk .exit); flash = now (flash .entry); addrs = now (addrs .exit); blocks = now (blocks .entry) }); block = lent }
-        ≡ leaves b lent (serve (engine (b .size)) (b .rows) s Call.flush)) ⌝ }
+    ensures { λ r. ⌜ ((s : Box (Fixed 32) (Fixed (b .size))) (lent : List ℕ)
+        → Rep b (now (disk .entry)) (now (flash .entry)) (now (addrs .entry)) (now (blocks .entry)) s
+        → left r (now (disk .exit)) (now (flash .entry)) (now (addrs .exit)) (now (blocks .entry)) lent
+        ≡ leaves b lent (serve (engine (b .size)) (numbersOf b) s Call.flush)) ⌝ }
 {
-    let count = copy::flush_rows(b, disk, flash, addrs, blocks, places);
+    let count = copy::flush_rows(b, disk, flash, addrs, blocks, heads);
     Served {
         yes: true,
         held: b.held,
@@ -82,7 +89,7 @@ pub fn serve_flush(
 }
 
 // Write through.
-pub fn serve_through(
+fn serve_through(
     b: BoxRecord,
     a: SourceAddress,
     disk: &mut [u8],
@@ -90,20 +97,19 @@ pub fn serve_through(
     addrs: &mut [u8],
     blocks: &mut [u8],
     block: &[u8],
-    places: &mut [u16],
+    heads: &[u16],
 ) -> Served
-    requires { ⌜ (0 < b .rows) × (0 < b .slots) × (b .held ≤ b .rows) × (length (now addrs) ≡ tableBytes (b .rows)) × (length (now blocks) ≡ tableBytes (b .slots)) × (length (now block) ≡ b .size) × (a .0 < b .blocks) × (b .rows ≤ 1024) × (length (now disk) ≡ b .blocks * b .size) × (length (now places) ≡ 1024) ⌝ }
-    requires { ⌜ ((s : Box (Fixed 32) (Fixed (b .size))) × Rep b (now disk) (now flash) (now addrs) (now blocks) s × Sure b s) ⌝ }
-    requires { ⌜ Placed (b .held) (b .slots) (now addrs) (now blocks) (now places) ⌝ }
-    ensures { λ r. ⌜ (r .flashed ≤ 1) × (r .primary ≤ 2 + b .rows) × (length (now (places .exit)) ≡ 1024) ⌝ }
-    ensures { λ r. ⌜ ((s : Box (Fixed 32) (Fixed (b .size))) (x : Fixed (b .size)) → Rep b (now (disk .entry)) (now (flash .entry)) (now (addrs .entry)) (now (blocks .entry)) s → Sure b s → x .0 ≡ now (block .entry)
-        → record { yes = r .yes; held = r .held; left = (record { flashed = r .flashed; primary = r .primary; disk = now (disk .exit); flash = now (flash .exit); addrs = now (addrs .exit); blocks = now (blocks .exit) }); block = now (block .entry) }
-        ≡ leaves b (now (block .entry)) (serve (engine (b .size)) (b .rows) s (Call.through (a .0) x))) ⌝ }
+    requires { ⌜ (length (now disk) ≡ b .blocks * b .size) × Access b (a .0) (now block) (now addrs) (now blocks) ⌝ }
+    requires { ⌜ LentSound b (now disk) (now flash) (now addrs) (now blocks) ⌝ }
+    requires { ⌜ Indexed (b .slots) (now blocks) (now heads) ⌝ }
+    ensures { λ r. ⌜ (r .flashed ≤ 1) × (r .primary ≤ 2 + b .rows) ⌝ }
+    ensures { λ r. ⌜ Wrote Through b (a .0) (now (disk .entry)) (now (flash .entry)) (now (addrs .entry)) (now (blocks .entry)) (now (block .entry))
+        (left r (now (disk .exit)) (now (flash .exit)) (now (addrs .exit)) (now (blocks .exit)) (now (block .entry))) ⌝ }
 {
     let g = hash::sha256(block);
     let j = rows::place_of(blocks, b.slots, &g);
     block::put_address(block, disk, a, b.size);
-    let d = steps::step(b, a, 0, disk, flash, addrs, blocks, &g, block, places);
+    let d = steps::step(b, a, 0, disk, flash, addrs, blocks, &g, block, heads);
     Served {
         yes: j < b.slots,
         held: d.held,
@@ -113,7 +119,7 @@ pub fn serve_through(
 }
 
 // Write invalidate.
-pub fn serve_invalidate(
+fn serve_invalidate(
     b: BoxRecord,
     a: SourceAddress,
     disk: &mut [u8],
@@ -121,12 +127,11 @@ pub fn serve_invalidate(
     blocks: &mut [u8],
     block: &[u8],
 ) -> Served
-    requires { ⌜ (0 < b .rows) × (0 < b .slots) × (b .held ≤ b .rows) × (length (now addrs) ≡ tableBytes (b .rows)) × (length (now blocks) ≡ tableBytes (b .slots)) × (length (now block) ≡ b .size) × (a .0 < b .blocks) × (b .rows ≤ 1024) × (length (now disk) ≡ b .blocks * b .size) ⌝ }
-    requires { ⌜ ((s : Box (Fixed 32) (Fixed (b .size))) × (flash : List ℕ) × Rep b (now disk) flash (now addrs) (now blocks) s × Sure b s) ⌝ }
+    requires { ⌜ (length (now disk) ≡ b .blocks * b .size) × Access b (a .0) (now block) (now addrs) (now blocks) ⌝ }
+    requires { ⌜ ((flash : List ℕ) × LentSound b (now disk) flash (now addrs) (now blocks)) ⌝ }
     ensures { λ r. ⌜ (r .flashed ≤ 1) × (r .primary ≤ 2 + b .rows) ⌝ }
-    ensures { λ r. ⌜ ((s : Box (Fixed 32) (Fixed (b .size))) (flash : List ℕ) (x : Fixed (b .size)) → Rep b (now (disk .entry)) flash (now (addrs .entry)) (now (blocks .entry)) s → Sure b s → x .0 ≡ now (block .entry)
-        → record { yes = r .yes; held = r .held; left = (record { flashed = r .flashed; primary = r .primary; disk = now (disk .exit); flash = flash; addrs = now (addrs .exit); blocks = now (blocks .exit) }); block = now (block .entry) }
-        ≡ leaves b (now (block .entry)) (serve (engine (b .size)) (b .rows) s (Call.invalidate (a .0) x))) ⌝ }
+    ensures { λ r. ⌜ ((flash : List ℕ) → Wrote Invalidate b (a .0) (now (disk .entry)) flash (now (addrs .entry)) (now (blocks .entry)) (now (block .entry))
+        (left r (now (disk .exit)) flash (now (addrs .exit)) (now (blocks .exit)) (now (block .entry)))) ⌝ }
 {
     let g = hash::sha256(block);
     let j = rows::place_of(blocks, b.slots, &g);
@@ -141,42 +146,66 @@ pub fn serve_invalidate(
     }
 }
 
-// Read, where `a` is held in row `i` and its block is in the block row at `j`.
-pub fn read_hit(
+// A write of any kind.
+pub fn serve_write(
+    kind: Write,
     b: BoxRecord,
     a: SourceAddress,
-    i: usize,
-    j: usize,
     disk: &mut [u8],
     flash: &mut [u8],
     addrs: &mut [u8],
     blocks: &mut [u8],
-    block: &mut [u8],
-    places: &mut [u16],
+    block: &[u8],
+    heads: &[u16],
 ) -> Served
-    requires { ⌜ (0 < b .rows) × (0 < b .slots) × (b .held ≤ b .rows) × (length (now addrs) ≡ tableBytes (b .rows)) × (length (now blocks) ≡ tableBytes (b .slots)) × (length (now block) ≡ b .size) × (a .0 < b .blocks) × (b .rows ≤ 1024) × (i < b .held) × (j < b .slots) × (length (now places) ≡ 1024) ⌝ }
-    requires { ⌜ ((s : Box (Fixed 32) (Fixed (b .size))) × Rep b (now disk) (now flash) (now addrs) (now blocks) s × Sure b s × HitAt b s (a .0) i j) ⌝ }
-    requires { ⌜ Placed (b .held) (b .slots) (now addrs) (now blocks) (now places) ⌝ }
-    ensures { λ r. ⌜ (r .flashed ≤ 1) × (r .primary ≤ 2 + b .rows) × (length (now (places .exit)) ≡ 1024) ⌝ }
-    ensures { λ r. ⌜ ((s : Box (Fixed 32) (Fixed (b .size))) (lent : List ℕ) → Rep b (now (disk .entry)) (now (flash .entry)) (now (addrs .entry)) (now (blocks .entry)) s → Sure b s → HitAt b s (a .0) i j
-        → record { yes = r .yes; held = r .held; left = (record { flashed = r .flashed; primary = r .primary; disk = now (disk .exit); flash = now (flash .exit); addrs = now (addrs .exit); blocks = now (blocks .exit) }); block = now (block .exit) }
-        ≡ leaves b lent (serve (engine (b .size)) (b .rows) s (Call.read (a .0)))) ⌝ }
+    requires { ⌜ (length (now disk) ≡ b .blocks * b .size) × Access b (a .0) (now block) (now addrs) (now blocks) ⌝ }
+    requires { ⌜ LentSound b (now disk) (now flash) (now addrs) (now blocks) ⌝ }
+    requires { ⌜ Indexed (b .slots) (now blocks) (now heads) ⌝ }
+    ensures { λ r. ⌜ (r .flashed ≤ 1) × (r .primary ≤ 2 + b .rows) ⌝ }
+    ensures { λ r. ⌜ Wrote kind b (a .0) (now (disk .entry)) (now (flash .entry)) (now (addrs .entry)) (now (blocks .entry)) (now (block .entry))
+        (left r (now (disk .exit)) (now (flash .exit)) (now (addrs .exit)) (now (blocks .exit)) (now (block .entry))) ⌝ }
+{
+    match kind {
+        Write::Through => serve_through(b, a, disk, flash, addrs, blocks, block, heads),
+        Write::Back => serve_back(b, a, disk, flash, addrs, blocks, block, heads),
+        Write::Invalidate => serve_invalidate(b, a, disk, addrs, blocks, block),
+    }
+}
+
+// Read, where `a` is held in row `i` and its block is in the block row at `j`: no index is asked.
+fn read_hit(
+    b: BoxRecord,
+    a: SourceAddress,
+    i: usize,
+    j: usize,
+    flash: &[u8],
+    addrs: &mut [u8],
+    blocks: &mut [u8],
+    block: &mut [u8],
+) -> Served
+    requires { ⌜ (i < b .held) × (j < b .slots) × Access b (a .0) (now block) (now addrs) (now blocks) ⌝ }
+    requires { ⌜ ((disk : List ℕ) × (s : Box (Fixed 32) (Fixed (b .size))) × Rep b disk (now flash) (now addrs) (now blocks) s × HitAt b s (a .0) i j) ⌝ }
+    ensures { λ r. ⌜ (r .flashed ≤ 1) × (r .primary ≤ 2 + b .rows) ⌝ }
+    ensures { λ r. ⌜ ((disk : List ℕ) (s : Box (Fixed 32) (Fixed (b .size))) (lent : List ℕ)
+        → Rep b disk (now (flash .entry)) (now (addrs .entry)) (now (blocks .entry)) s → Sure b s → HitAt b s (a .0) i j
+        → left r disk (now (flash .entry)) (now (addrs .exit)) (now (blocks .exit)) (now (block .exit))
+        ≡ leaves b lent (serve (engine (b .size)) (numbersOf b) s (Call.read (a .0)))) ⌝ }
 {
     let g = rows::fp_at(addrs, i);
     let dirty = rows::dirty_at(addrs, i);
     let slot = tables::row::slot_at(blocks, j);
     block::copy_all(block::in_slot(flash, slot, b.size), block);
-    let d = steps::step(b, a, dirty, disk, flash, addrs, blocks, &g, block, places);
+    steps::renew(b, a, i, j, dirty, addrs, blocks, &g);
     Served {
         yes: true,
-        held: d.held,
-        flashed: d.flashed,
-        primary: d.primary,
+        held: b.held,
+        flashed: 0,
+        primary: 0,
     }
 }
 
 // Read, where `a` is not held with its block.
-pub fn read_miss(
+fn read_miss(
     b: BoxRecord,
     a: SourceAddress,
     disk: &mut [u8],
@@ -184,19 +213,21 @@ pub fn read_miss(
     addrs: &mut [u8],
     blocks: &mut [u8],
     block: &mut [u8],
-    places: &mut [u16],
+    heads: &[u16],
 ) -> Served
-    requires { ⌜ (0 < b .rows) × (0 < b .slots) × (b .held ≤ b .rows) × (length (now addrs) ≡ tableBytes (b .rows)) × (length (now blocks) ≡ tableBytes (b .slots)) × (length (now block) ≡ b .size) × (a .0 < b .blocks) × (b .rows ≤ 1024) × (length (now places) ≡ 1024) ⌝ }
-    requires { ⌜ ((s : Box (Fixed 32) (Fixed (b .size))) × Rep b (now disk) (now flash) (now addrs) (now blocks) s × Sure b s) ⌝ }
-    requires { ⌜ Placed (b .held) (b .slots) (now addrs) (now blocks) (now places) ⌝ }
-    ensures { λ r. ⌜ (r .flashed ≤ 1) × (r .primary ≤ 2 + b .rows) × (length (now (places .exit)) ≡ 1024) ⌝ }
-    ensures { λ r. ⌜ ((s : Box (Fixed 32) (Fixed (b .size))) (lent : List ℕ) → Rep b (now (disk .entry)) (now (flash .entry)) (now (addrs .entry)) (now (blocks .entry)) s → Sure b s → rowWithBlock (engine (b .size)) s (a .0) ≡ Option.none
-        → record { yes = r .yes; held = r .held; left = (record { flashed = r .flashed; primary = r .primary; disk = now (disk .exit); flash = now (flash .exit); addrs = now (addrs .exit); blocks = now (blocks .exit) }); block = now (block .exit) }
-        ≡ leaves b lent (serve (engine (b .size)) (b .rows) s (Call.read (a .0)))) ⌝ }
+    requires { ⌜ Access b (a .0) (now block) (now addrs) (now blocks) ⌝ }
+    requires { ⌜ LentSound b (now disk) (now flash) (now addrs) (now blocks) ⌝ }
+    requires { ⌜ Indexed (b .slots) (now blocks) (now heads) ⌝ }
+    ensures { λ r. ⌜ (r .flashed ≤ 1) × (r .primary ≤ 2 + b .rows) ⌝ }
+    ensures { λ r. ⌜ ((s : Box (Fixed 32) (Fixed (b .size))) (lent : List ℕ)
+        → Rep b (now (disk .entry)) (now (flash .entry)) (now (addrs .entry)) (now (blocks .entry)) s → Sure b s → rowWithBlock (engine (b .size)) s (a .0)
+        ≡ Option.none
+        → left r (now (disk .exit)) (now (flash .exit)) (now (addrs .exit)) (now (blocks .exit)) (now (block .exit))
+        ≡ leaves b lent (serve (engine (b .size)) (numbersOf b) s (Call.read (a .0)))) ⌝ }
 {
     block::copy_all(block::at_address(disk, a, b.size), block);
     let g = hash::sha256(block);
-    let d = steps::step(b, a, 0, disk, flash, addrs, blocks, &g, block, places);
+    let d = steps::step(b, a, 0, disk, flash, addrs, blocks, &g, block, heads);
     Served {
         yes: false,
         held: d.held,
@@ -214,20 +245,21 @@ pub fn serve_read(
     addrs: &mut [u8],
     blocks: &mut [u8],
     block: &mut [u8],
-    places: &mut [u16],
+    heads: &[u16],
 ) -> Served
-    requires { ⌜ (0 < b .rows) × (0 < b .slots) × (b .held ≤ b .rows) × (length (now addrs) ≡ tableBytes (b .rows)) × (length (now blocks) ≡ tableBytes (b .slots)) × (length (now block) ≡ b .size) × (a .0 < b .blocks) × (b .rows ≤ 1024) × (length (now places) ≡ 1024) ⌝ }
-    requires { ⌜ ((s : Box (Fixed 32) (Fixed (b .size))) × Rep b (now disk) (now flash) (now addrs) (now blocks) s × Sure b s) ⌝ }
-    requires { ⌜ Placed (b .held) (b .slots) (now addrs) (now blocks) (now places) ⌝ }
-    ensures { λ r. ⌜ (r .flashed ≤ 1) × (r .primary ≤ 2 + b .rows) × (length (now (places .exit)) ≡ 1024) ⌝ }
-    ensures { λ r. ⌜ ((s : Box (Fixed 32) (Fixed (b .size))) (lent : List ℕ) → Rep b (now (disk .entry)) (now (flash .entry)) (now (addrs .entry)) (now (blocks .entry)) s → Sure b s
-        → record { yes = r .yes; held = r .held; left = (record { flashed = r .flashed; primary = r .primary; disk = now (disk .exit); flash = now (flash .exit); addrs = now (addrs .exit); blocks = now (blocks .exit) }); block = now (block .exit) }
-        ≡ leaves b lent (serve (engine (b .size)) (b .rows) s (Call.read (a .0)))) ⌝ }
+    requires { ⌜ Access b (a .0) (now block) (now addrs) (now blocks) ⌝ }
+    requires { ⌜ LentSound b (now disk) (now flash) (now addrs) (now blocks) ⌝ }
+    requires { ⌜ Indexed (b .slots) (now blocks) (now heads) ⌝ }
+    ensures { λ r. ⌜ (r .flashed ≤ 1) × (r .primary ≤ 2 + b .rows) ⌝ }
+    ensures { λ r. ⌜ ((s : Box (Fixed 32) (Fixed (b .size))) (lent : List ℕ)
+        → Rep b (now (disk .entry)) (now (flash .entry)) (now (addrs .entry)) (now (blocks .entry)) s → Sure b s
+        → left r (now (disk .exit)) (now (flash .exit)) (now (addrs .exit)) (now (blocks .exit)) (now (block .exit))
+        ≡ leaves b lent (serve (engine (b .size)) (numbersOf b) s (Call.read (a .0)))) ⌝ }
 {
     let i = rows::row_of(addrs, b.held, a);
     let j = rows::place_of_row(b, i, addrs, blocks);
     if j < b.slots {
-        return read_hit(b, a, i, j, disk, flash, addrs, blocks, block, places);
+        return read_hit(b, a, i, j, flash, addrs, blocks, block);
     }
-    read_miss(b, a, disk, flash, addrs, blocks, block, places)
+    read_miss(b, a, disk, flash, addrs, blocks, block, heads)
 }

@@ -10,13 +10,14 @@ use borrow.Author.Tests.{eqb-false}
 use Rattle.block.specs.Blocks.{part}
 use Rattle.paper.specs.KeyedLaws.{by-test, by-option}
 use Rattle.paper.specs.RowBytes.{Bytes}
-use Rattle.paper.specs.Cache.{Counters, rowWithBlock}
+use Rattle.paper.specs.Cache.{Numbers, Counters, rowWithBlock}
 use Rattle.paper.specs.Engine.{engine}
-use Rattle.paper.specs.Lent.{Numbers, Lent, Ask, calling, refusal, boxIn, call}
+use Rattle.paper.specs.Lent.{Lent, Ask, calling, refusal, boxIn, call}
 use Rattle.parts.specs.declared.BoxRecord.{BoxRecord}
 use Rattle.look.specs.declared.Place.{Place}
 use Rattle.look.specs.declared.Place.the-variants.{Refused, Flash, Disk}
-use Rattle.refusals.specs.Given.{numbersOf, countersOf, lent}
+use Rattle.parts.specs.Rep.{numbersOf}
+use Rattle.refusals.specs.Given.{countersOf, lent}
 use Rattle.look.specs.Look.{whereIs, answerAt, partAt}
 use Rattle.look.specs.Look as Found
 use Rattle.look.specs.LookLaws.{PartIn, where-in, look-answers, look-returns}

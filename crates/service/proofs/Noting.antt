@@ -28,9 +28,9 @@ lengths s l h = (eqb-true (length s) 72 (and-left (eqb (length s) 72) (eqb (leng
 
 module _ (q : Ask) (s disk flash addresses blocks l : List ℕ) where
   -- a wrong length: nothing is changed
-  pub unchanged : fitting s l ≡ false → _≡_ {A = Left} (record { number = 2; state = s; disk = disk; flash = flash; addresses = addresses; blocks = blocks; block = lentBlock q; answer = l }) (leaves q s disk flash addresses blocks l)
+  pub unchanged : fitting s l ≡ false → (one : Option (List ℕ)) → one ≡ lentBlock q → _≡_ {A = Left} (record { number = 2; state = s; disk = disk; flash = flash; addresses = addresses; blocks = blocks; block = one; answer = l }) (leaves q s disk flash addresses blocks l)
   unfolding leaves
-  unchanged h = rw h refl
+  unchanged h one e = rw (h, e) refl
 
   -- the cache's call on the record and the counters read, and what is written of it
   pub changed : fitting s l ≡ true → (b : BoxRecord) (c : Code.Counters) → b ≡ recordIn s → c ≡ countersIn s

@@ -9,11 +9,12 @@ use lib.Dec.{eqb}
 use lib.ListN.{length, getD}
 use borrow.Author.Tests.{eq-eqb, eqb-true, eqb-false}
 use Rattle.paper.specs.KeyedLaws.{and-left, by-test}
-use Rattle.paper.specs.Cache.{Word, noCounts}
-use Rattle.paper.specs.Lent.{Numbers, Lent, Ask, refused, answered, After, calling, opening, refusal, call, served, lentOf, opened, fresh, unopened}
+use Rattle.paper.specs.Cache.{Numbers, Word, noCounts}
+use Rattle.paper.specs.Lent.{Lent, Ask, refused, answered, After, calling, opening, refusal, call, served, lentOf, opened, fresh, unopened}
 use Rattle.paper.specs.RefusalLaws.{served-is, keeps, opened-is, refused-opening}
 use Rattle.paper.specs.CallLaws.{In64, served-finds, served-lent, outcome, outcome-sound, counters-stay}
-use Rattle.refusals.specs.Given.{numbersOf, countersOf, lent}
+use Rattle.parts.specs.Rep.{numbersOf}
+use Rattle.refusals.specs.Given.{countersOf, lent}
 use Rattle.fields.specs.Fields.{get8, put8, recordIn, countersIn, putState, fitting}
 use Rattle.fields.specs.FieldLaws.{get8-below, length-put8, get8-put8, get8-before, get8-after, length-putState, record-back, counters-back}
 use Rattle.service.specs.Left.{lentIn, toldIn, leaves, freshRecord, openedIn, leavesOpen}

@@ -10,7 +10,8 @@ use lib.ListN.{length}
 use Rattle.block.specs.Blocks.{part}
 use Rattle.paper.specs.Lent.{Lent, Ask, Answer, refused, answered, After, lentBlock, call}
 use Rattle.parts.specs.declared.BoxRecord.{BoxRecord}
-use Rattle.refusals.specs.Given.{numbersOf, countersOf, lent}
+use Rattle.parts.specs.Rep.{numbersOf}
+use Rattle.refusals.specs.Given.{countersOf, lent}
 use Rattle.open.specs.Contract.{Opened, opens}
 use Rattle.look.specs.Look.{whereIs}
 use Rattle.fields.specs.Fields.{get8, recordIn, countersIn, wordNumber, fitting}

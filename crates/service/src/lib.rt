@@ -1,11 +1,13 @@
 // The service that C calls: numbers and byte slices. Each call reads the box record and the counters in the state's bytes,
 // does the cache's call, and writes what it tells into the state and the answer.
+use serve::Write;
 use tables::SourceAddress;
 ghost use mathlib.Core.Path.{_≡_};
 ghost use mathlib.Core.Option.{Option};
 ghost use mathlib.Core.Bool.{true};
 ghost use Rattle.paper.specs.Lent.{Ask, call};
-ghost use Rattle.refusals.specs.Given.{numbersOf};
+ghost use Rattle.parts.specs.Rep.{numbersOf};
+ghost use Rattle.policy.specs.Contract.{askOf};
 ghost use Rattle.fields.specs.Fields.{recordIn, fitting};
 ghost use Rattle.service.specs.Left.{lentIn, leaves, leavesOpen, leavesLook, Shows};
 
@@ -21,8 +23,18 @@ pub extern "C" fn mindavehu_read(
     block: &mut [u8],
     answer: &mut [u8],
 ) -> u32
-    ensures { λ r. ⌜ record { number = r; state = now (state .exit); disk = now (disk .exit); flash = now (flash .exit); addresses = now (addresses .exit); blocks = now (blocks .exit); block = Option.some (now (block .exit)); answer = now (answer .exit) }
-        ≡ leaves (Ask.read address (now (block .entry))) (now (state .entry)) (now (disk .entry)) (now (flash .entry)) (now (addresses .entry)) (now (blocks .entry)) (now (answer .entry)) ⌝ }
+    ensures { λ r. ⌜ record {
+      number = r;
+      state = now (state .exit);
+      disk = now (disk .exit);
+      flash = now (flash .exit);
+      addresses = now (addresses .exit);
+      blocks = now (blocks .exit);
+      block = Option.some (now (block .exit));
+      answer = now (answer .exit);
+    }
+        ≡ leaves (Ask.read address (now (block .entry))) (now (state .entry)) (now (disk .entry)) (now (flash .entry)) (now (addresses .entry))
+        (now (blocks .entry)) (now (answer .entry)) ⌝ }
 {
     if !fields::fit(state, answer) {
         return 2;
@@ -30,6 +42,50 @@ pub extern "C" fn mindavehu_read(
     let b = fields::record_in(state);
     let c = fields::counters_in(state);
     let o = policy::calls::read(
+        b,
+        SourceAddress(address),
+        disk,
+        flash,
+        addresses,
+        blocks,
+        c,
+        block,
+    );
+    fields::write_outcome(state, answer, o)
+}
+
+// Writes `block`, by the kind of the write.
+fn write(
+    kind: Write,
+    state: &mut [u8],
+    address: u32,
+    disk: &mut [u8],
+    flash: &mut [u8],
+    addresses: &mut [u8],
+    blocks: &mut [u8],
+    block: &[u8],
+    answer: &mut [u8],
+) -> u32
+    ensures { λ r. ⌜ record {
+      number = r;
+      state = now (state .exit);
+      disk = now (disk .exit);
+      flash = now (flash .exit);
+      addresses = now (addresses .exit);
+      blocks = now (blocks .exit);
+      block = Option.some (now (block .entry));
+      answer = now (answer .exit);
+    }
+        ≡ leaves (askOf kind address (now (block .entry))) (now (state .entry)) (now (disk .entry)) (now (flash .entry)) (now (addresses .entry))
+        (now (blocks .entry)) (now (answer .entry)) ⌝ }
+{
+    if !fields::fit(state, answer) {
+        return 2;
+    }
+    let b = fields::record_in(state);
+    let c = fields::counters_in(state);
+    let o = policy::calls::write(
+        kind,
         b,
         SourceAddress(address),
         disk,
@@ -54,25 +110,30 @@ pub extern "C" fn mindavehu_write_through(
     block: &[u8],
     answer: &mut [u8],
 ) -> u32
-    ensures { λ r. ⌜ record { number = r; state = now (state .exit); disk = now (disk .exit); flash = now (flash .exit); addresses = now (addresses .exit); blocks = now (blocks .exit); block = Option.some (now (block .entry)); answer = now (answer .exit) }
-        ≡ leaves (Ask.through address (now (block .entry))) (now (state .entry)) (now (disk .entry)) (now (flash .entry)) (now (addresses .entry)) (now (blocks .entry)) (now (answer .entry)) ⌝ }
-{
-    if !fields::fit(state, answer) {
-        return 2;
+    ensures { λ r. ⌜ record {
+      number = r;
+      state = now (state .exit);
+      disk = now (disk .exit);
+      flash = now (flash .exit);
+      addresses = now (addresses .exit);
+      blocks = now (blocks .exit);
+      block = Option.some (now (block .entry));
+      answer = now (answer .exit);
     }
-    let b = fields::record_in(state);
-    let c = fields::counters_in(state);
-    let o = policy::calls::write_through(
-        b,
-        SourceAddress(address),
+        ≡ leaves (Ask.through address (now (block .entry))) (now (state .entry)) (now (disk .entry)) (now (flash .entry)) (now (addresses .entry))
+        (now (blocks .entry)) (now (answer .entry)) ⌝ }
+{
+    write(
+        Write::Through,
+        state,
+        address,
         disk,
         flash,
         addresses,
         blocks,
-        c,
         block,
-    );
-    fields::write_outcome(state, answer, o)
+        answer,
+    )
 }
 
 // Writes `block` into the cache; the disk gets it later.
@@ -87,25 +148,30 @@ pub extern "C" fn mindavehu_write_back(
     block: &[u8],
     answer: &mut [u8],
 ) -> u32
-    ensures { λ r. ⌜ record { number = r; state = now (state .exit); disk = now (disk .exit); flash = now (flash .exit); addresses = now (addresses .exit); blocks = now (blocks .exit); block = Option.some (now (block .entry)); answer = now (answer .exit) }
-        ≡ leaves (Ask.back address (now (block .entry))) (now (state .entry)) (now (disk .entry)) (now (flash .entry)) (now (addresses .entry)) (now (blocks .entry)) (now (answer .entry)) ⌝ }
-{
-    if !fields::fit(state, answer) {
-        return 2;
+    ensures { λ r. ⌜ record {
+      number = r;
+      state = now (state .exit);
+      disk = now (disk .exit);
+      flash = now (flash .exit);
+      addresses = now (addresses .exit);
+      blocks = now (blocks .exit);
+      block = Option.some (now (block .entry));
+      answer = now (answer .exit);
     }
-    let b = fields::record_in(state);
-    let c = fields::counters_in(state);
-    let o = policy::calls::write_back(
-        b,
-        SourceAddress(address),
+        ≡ leaves (Ask.back address (now (block .entry))) (now (state .entry)) (now (disk .entry)) (now (flash .entry)) (now (addresses .entry))
+        (now (blocks .entry)) (now (answer .entry)) ⌝ }
+{
+    write(
+        Write::Back,
+        state,
+        address,
         disk,
         flash,
         addresses,
         blocks,
-        c,
         block,
-    );
-    fields::write_outcome(state, answer, o)
+        answer,
+    )
 }
 
 // Writes `block` to the disk, and takes the address out of the cache.
@@ -114,31 +180,36 @@ pub extern "C" fn mindavehu_write_invalidate(
     state: &mut [u8],
     address: u32,
     disk: &mut [u8],
-    flash: &[u8],
+    flash: &mut [u8],
     addresses: &mut [u8],
     blocks: &mut [u8],
     block: &[u8],
     answer: &mut [u8],
 ) -> u32
-    ensures { λ r. ⌜ record { number = r; state = now (state .exit); disk = now (disk .exit); flash = now (flash .entry); addresses = now (addresses .exit); blocks = now (blocks .exit); block = Option.some (now (block .entry)); answer = now (answer .exit) }
-        ≡ leaves (Ask.invalidate address (now (block .entry))) (now (state .entry)) (now (disk .entry)) (now (flash .entry)) (now (addresses .entry)) (now (blocks .entry)) (now (answer .entry)) ⌝ }
-{
-    if !fields::fit(state, answer) {
-        return 2;
+    ensures { λ r. ⌜ record {
+      number = r;
+      state = now (state .exit);
+      disk = now (disk .exit);
+      flash = now (flash .exit);
+      addresses = now (addresses .exit);
+      blocks = now (blocks .exit);
+      block = Option.some (now (block .entry));
+      answer = now (answer .exit);
     }
-    let b = fields::record_in(state);
-    let c = fields::counters_in(state);
-    let o = policy::calls::write_invalidate(
-        b,
-        SourceAddress(address),
+        ≡ leaves (Ask.invalidate address (now (block .entry))) (now (state .entry)) (now (disk .entry)) (now (flash .entry)) (now (addresses .entry))
+        (now (blocks .entry)) (now (answer .entry)) ⌝ }
+{
+    write(
+        Write::Invalidate,
+        state,
+        address,
         disk,
         flash,
         addresses,
         blocks,
-        c,
         block,
-    );
-    fields::write_outcome(state, answer, o)
+        answer,
+    )
 }
 
 // Copies each block that is newer in the flash to the disk.
@@ -151,8 +222,18 @@ pub extern "C" fn mindavehu_flush(
     blocks: &[u8],
     answer: &mut [u8],
 ) -> u32
-    ensures { λ r. ⌜ record { number = r; state = now (state .exit); disk = now (disk .exit); flash = now (flash .entry); addresses = now (addresses .exit); blocks = now (blocks .entry); block = Option.none; answer = now (answer .exit) }
-        ≡ leaves Ask.flush (now (state .entry)) (now (disk .entry)) (now (flash .entry)) (now (addresses .entry)) (now (blocks .entry)) (now (answer .entry)) ⌝ }
+    ensures { λ r. ⌜ record {
+      number = r;
+      state = now (state .exit);
+      disk = now (disk .exit);
+      flash = now (flash .entry);
+      addresses = now (addresses .exit);
+      blocks = now (blocks .entry);
+      block = Option.none;
+      answer = now (answer .exit);
+    }
+        ≡ leaves Ask.flush (now (state .entry)) (now (disk .entry)) (now (flash .entry)) (now (addresses .entry)) (now (blocks .entry))
+        (now (answer .entry)) ⌝ }
 {
     if !fields::fit(state, answer) {
         return 2;
@@ -175,9 +256,12 @@ pub extern "C" fn mindavehu_look(
     answer: &mut [u8],
 ) -> u32
     ensures { λ r. ⌜ record { number = r; answer = now (answer .exit) }
-        ≡ leavesLook address (now (state .entry)) (now (disk .entry)) (now (flash .entry)) (now (addresses .entry)) (now (blocks .entry)) (now (answer .entry)) ⌝ }
-    ensures { λ r. ⌜ (fitting (now (state .entry)) (now (answer .entry)) ≡ true → Shows r (now (answer .exit)) (lentIn (now (state .entry)) (now (disk .entry)) (now (flash .entry)) (now (addresses .entry)) (now (blocks .entry)))
-        (call (numbersOf (recordIn (now (state .entry)))) (lentIn (now (state .entry)) (now (disk .entry)) (now (flash .entry)) (now (addresses .entry)) (now (blocks .entry))) (Ask.look address))) ⌝ }
+        ≡ leavesLook address (now (state .entry)) (now (disk .entry)) (now (flash .entry)) (now (addresses .entry)) (now (blocks .entry))
+        (now (answer .entry)) ⌝ }
+    ensures { λ r. ⌜ (fitting (now (state .entry)) (now (answer .entry)) ≡ true
+        → Shows r (now (answer .exit)) (lentIn (now (state .entry)) (now (disk .entry)) (now (flash .entry)) (now (addresses .entry)) (now (blocks .entry)))
+        (call (numbersOf (recordIn (now (state .entry)))) (lentIn (now (state .entry)) (now (disk .entry)) (now (flash .entry)) (now (addresses .entry))
+        (now (blocks .entry))) (Ask.look address))) ⌝ }
 {
     if !fields::fit(state, answer) {
         return 2;

@@ -8,10 +8,11 @@ use borrow.Author.Tests.{ne-eqb}
 use Rattle.block.specs.Blocks.{splice}
 use Rattle.counters.specs.declared.Counters as Code
 use Rattle.lines.specs.declared.Command.{Command}
-use Rattle.paper.specs.Cache.{Counters}
-use Rattle.paper.specs.Lent.{Numbers, Lent, refused}
+use Rattle.paper.specs.Cache.{Numbers, Counters}
+use Rattle.paper.specs.Lent.{Lent, refused}
 use Rattle.parts.specs.declared.BoxRecord.{BoxRecord}
-use Rattle.refusals.specs.Given.{numbersOf, countersOf}
+use Rattle.parts.specs.Rep.{numbersOf}
+use Rattle.refusals.specs.Given.{countersOf}
 use Rattle.print.specs.Put.{Put}
 use Rattle.print.specs.Texts.{answerText}
 use Rattle.answers.specs.Replay.{boxRefusal, boxNumbers, started}

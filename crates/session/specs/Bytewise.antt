@@ -4,7 +4,8 @@ use mathlib.Core.List.{List, [], _∷_, _++_}
 use Prim.Native.Nat.{ℕ}
 use lib.Dec.{eqb, ltb}
 use lib.ListN.{length}
-use Rattle.paper.specs.Lent.{Numbers, Lent, refused}
+use Rattle.paper.specs.Cache.{Numbers}
+use Rattle.paper.specs.Lent.{Lent, refused}
 use Rattle.lines.specs.Lines.{parsed}
 use Rattle.lines.specs.declared.Command.{Command}
 use Rattle.print.specs.Texts.{answerText, countersText}
@@ -31,13 +32,19 @@ unfoldable pub firstLine : State → Command → Printed
 firstLine s c =
     cond (eqb (boxRefusal c) 0)
     (record { state = record { stage = 1; kept = []; number = 1; numbers = boxNumbers c; lent = started (boxNumbers c) }; text = [] })
-    (record { state = record { stage = 2; kept = []; number = s .number; numbers = s .numbers; lent = s .lent }; text = answerText 0 c (refused (boxRefusal c)) })
+    (record {
+      state = record { stage = 2; kept = []; number = s .number; numbers = s .numbers; lent = s .lent };
+      text = answerText 0 c (refused (boxRefusal c));
+    })
 
 -- a later line
 unfoldable pub laterLine : State → Command → Printed
 laterLine s c =
     let o = doing (s .numbers) (s .lent) (asked (s .numbers .B) c) in
-    record { state = record { stage = 1; kept = []; number = next (s .number); numbers = s .numbers; lent = o .lent }; text = answerText (s .number) c (o .answer) }
+    record {
+      state = record { stage = 1; kept = []; number = next (s .number); numbers = s .numbers; lent = o .lent };
+      text = answerText (s .number) c (o .answer);
+    }
 
 -- the end of a line
 unfoldable pub endLine : State → Printed
@@ -45,7 +52,13 @@ endLine s = cond (eqb (s .stage) 0) (firstLine s (parsed (s .kept))) (cond (eqb 
 
 -- another byte of it
 unfoldable pub keep : ℕ → State → State
-keep x s = record { stage = s .stage; kept = cond (ltb (length (s .kept)) 33) (s .kept ++ (x ∷ [])) (s .kept); number = s .number; numbers = s .numbers; lent = s .lent }
+keep x s = record {
+  stage = s .stage;
+  kept = cond (ltb (length (s .kept)) 33) (s .kept ++ (x ∷ [])) (s .kept);
+  number = s .number;
+  numbers = s .numbers;
+  lent = s .lent;
+}
 
 unfoldable pub byteIn : ℕ → State → Printed
 byteIn x s = cond (eqb x 10) (endLine s) (quiet (keep x s))

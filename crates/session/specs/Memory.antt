@@ -8,7 +8,8 @@ use lib.ListN.{length, take}
 use Rattle.block.specs.Blocks.{splice}
 use Rattle.counters.specs.declared.Counters as Code
 use Rattle.parts.specs.declared.BoxRecord.{BoxRecord}
-use Rattle.refusals.specs.Given.{numbersOf, countersOf, lent}
+use Rattle.parts.specs.Rep.{numbersOf}
+use Rattle.refusals.specs.Given.{countersOf, lent}
 use Rattle.paper.specs.Cache.{Counters}
 use Rattle.paper.specs.Lent.{Lent}
 use Rattle.answers.specs.Done.{recordOf}
@@ -31,7 +32,8 @@ buffers disk flash addresses blocks = record { disk = disk; flash = flash; addre
 
 -- what is lent in them
 abbrev pub within : BoxRecord → Buffers → Counters → Lent
-within b B k = lent b (take (b .blocks * b .size) (B .disk)) (take (b .slots * b .size) (B .flash)) (take (tableBytes (b .rows)) (B .addresses)) (take (tableBytes (b .slots)) (B .blocks)) k
+within b B k = lent b (take (b .blocks * b .size) (B .disk)) (take (b .slots * b .size) (B .flash)) (take (tableBytes (b .rows)) (B .addresses))
+    (take (tableBytes (b .slots)) (B .blocks)) k
 
 -- a box record's n, the counters and the buffers; those of a box written over the buffers
 pub record Held : Type 0 where
@@ -43,7 +45,8 @@ abbrev pub held : ℕ → Counters → Buffers → Held
 held n k B = record { n = n; counters = k; buffers = B }
 
 unfoldable pub over : Lent → Buffers → Held
-over t B = held (t .n) (t .counters) (buffers (splice 0 (t .disk) (B .disk)) (splice 0 (t .flash) (B .flash)) (splice 0 (t .addresses) (B .addresses)) (splice 0 (t .blocks) (B .blocks)))
+over t B = held (t .n) (t .counters) (buffers (splice 0 (t .disk) (B .disk)) (splice 0 (t .flash) (B .flash)) (splice 0 (t .addresses) (B .addresses))
+    (splice 0 (t .blocks) (B .blocks)))
 
 -- ---- all that is lent to a replay
 
@@ -66,14 +69,17 @@ Holds b = (b .size ≤ 4096) × (b .blocks ≤ 256) × (b .rows ≤ 1024) × (b 
 
 -- the same as tests
 unfoldable pub lengthsFit : (line disk flash addresses blocks out : ℕ) → Bool
-lengthsFit line disk flash addresses blocks out = eqb line 33 && eqb disk 16384 && eqb flash 16384 && eqb addresses (tableBytes 1024) && eqb blocks (tableBytes 256) && eqb out 256
+lengthsFit line disk flash addresses blocks out = eqb line 33 && eqb disk 16384 && eqb flash 16384 && eqb addresses (tableBytes 1024)
+    && eqb blocks (tableBytes 256) && eqb out 256
 
 unfoldable pub numbersFit : BoxRecord → Bool
-numbersFit b = leb (b .size) 4096 && leb (b .blocks) 256 && leb (b .rows) 1024 && leb (b .slots) 256 && leb (b .blocks * b .size) 16384 && leb (b .slots * b .size) 16384
+numbersFit b = leb (b .size) 4096 && leb (b .blocks) 256 && leb (b .rows) 1024 && leb (b .slots) 256 && leb (b .blocks * b .size) 16384
+    && leb (b .slots * b .size) 16384
 
 unfoldable pub fits : Memory → Bool
 fits M =
-    lengthsFit (length (M .line)) (length (M .buffers .disk)) (length (M .buffers .flash)) (length (M .buffers .addresses)) (length (M .buffers .blocks)) (length (M .out))
+    lengthsFit (length (M .line)) (length (M .buffers .disk)) (length (M .buffers .flash)) (length (M .buffers .addresses)) (length (M .buffers .blocks))
+    (length (M .out))
     && numbersFit (M .session .box_record)
     && leb (M .session .kept) 33
 
@@ -81,14 +87,26 @@ fits M =
 unfoldable pub stateIn : Memory → State
 stateIn M =
     let s = M .session in
-    record { stage = s .stage; kept = take (s .kept) (M .line); number = s .number; numbers = numbersOf (s .box_record); lent = within (s .box_record) (M .buffers) (countersOf (s .counters)) }
+    record {
+      stage = s .stage;
+      kept = take (s .kept) (M .line);
+      number = s .number;
+      numbers = numbersOf (s .box_record);
+      lent = within (s .box_record) (M .buffers) (countersOf (s .counters));
+    }
 
 -- a state as the code has it
 abbrev pub codeCounters : Counters → Code.Counters
 codeCounters k = record { reads = k .reads; hits = k .hits; flash = k .flashWrites; primary = k .primaryWrites }
 
 abbrev pub sessionOf : State → Session
-sessionOf s = record { stage = s .stage; kept = length (s .kept); number = s .number; box_record = recordOf (s .numbers) (s .lent .n); counters = codeCounters (s .lent .counters) }
+sessionOf s = record {
+  stage = s .stage;
+  kept = length (s .kept);
+  number = s .number;
+  box_record = recordOf (s .numbers) (s .lent .n);
+  counters = codeCounters (s .lent .counters);
+}
 
 -- what is printed, and the state after it, written over the buffers' first bytes
 pub record After : Type 0 where
@@ -98,7 +116,12 @@ pub record After : Type 0 where
 unfoldable pub stored : Memory → Printed → After
 stored M o =
     record {
-      memory = record { session = sessionOf (o .state); line = splice 0 (o .state .kept) (M .line); buffers = (over (o .state .lent) (M .buffers)) .buffers; out = splice 0 (o .text) (M .out) };
+      memory = record {
+        session = sessionOf (o .state);
+        line = splice 0 (o .state .kept) (M .line);
+        buffers = (over (o .state .lent) (M .buffers)) .buffers;
+        out = splice 0 (o .text) (M .out);
+      };
       filled = length (o .text);
     }
 

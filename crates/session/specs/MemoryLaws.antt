@@ -13,10 +13,10 @@ use lib.Seq.{take-at, length-take-le}
 use borrow.Author.Tests.{eqb-true, eqb-false, leb-true, ltb-true, ltb-false, le-leb}
 use Rattle.block.specs.Blocks.{splice}
 use Rattle.block.specs.Laws.{length-splice}
-use Rattle.tables.specs.Written.{fresh-addresses-length, fresh-blocks-length}
+use Rattle.table_laws.specs.Written.{fresh-addresses-length, fresh-blocks-length}
 use Rattle.paper.specs.KeyedLaws.{by-test, and-left, and-right, or-false-left, or-false-right}
-use Rattle.paper.specs.Cache.{Word, hit, miss, sameBlock, newBlock, fromCache, fromDisk, done}
-use Rattle.paper.specs.Lent.{Numbers, Lent, Ask, calling, Answer, refused, answered, refusal, unfit, fresh}
+use Rattle.paper.specs.Cache.{Numbers, Word, hit, miss, sameBlock, newBlock, fromCache, fromDisk, done}
+use Rattle.paper.specs.Lent.{Lent, Ask, calling, Answer, refused, answered, refusal, unfit, fresh}
 use Rattle.paper.specs.LentLaws.{Lengths}
 use Rattle.paper.specs.RefusalLaws.{keeps}
 use Rattle.paper.specs.CallLaws.{served-passes}

@@ -17,7 +17,8 @@ ghost use mathlib.Core.List.{List};
 ghost use Prim.Native.Nat.{ℕ, _≤_};
 ghost use lib.ListN.{length};
 ghost use Rattle.paper.specs.Lent.{unfit};
-ghost use Rattle.refusals.specs.Given.{numbersOf, countersOf};
+ghost use Rattle.parts.specs.Rep.{numbersOf};
+ghost use Rattle.refusals.specs.Given.{countersOf};
 ghost use Rattle.policy.specs.Contract.{answerOf};
 ghost use Rattle.answers.specs.Replay.{started, asked, doing};
 ghost use Rattle.session.specs.Bytewise.{firstLine, laterLine};
@@ -35,7 +36,8 @@ fn open_box(
     requires { ⌜ unfit (numbersOf b) ≡ false ⌝ }
     requires { ⌜ Sized (now disk) (now flash) (now addresses) (now blocks) ⌝ }
     ensures { λ r. ⌜ numbersOf (r .box_record) ≡ numbersOf b ⌝ }
-    ensures { λ r. ⌜ held (r .box_record .held) (countersOf (r .counters)) (buffers (now (disk .exit)) (now (flash .exit)) (now (addresses .exit)) (now (blocks .exit)))
+    ensures { λ r. ⌜ held (r .box_record .held) (countersOf (r .counters))
+        (buffers (now (disk .exit)) (now (flash .exit)) (now (addresses .exit)) (now (blocks .exit)))
         ≡ over (started (numbersOf b)) (buffers (now (disk .entry)) (now (flash .entry)) (now (addresses .entry)) (now (blocks .entry))) ⌝ }
 {
     let p = b.blocks * b.size;
@@ -64,9 +66,12 @@ fn call_box(
     requires { ⌜ Holds b ⌝ }
     requires { ⌜ Sized (now disk) (now flash) (now addresses) (now blocks) ⌝ }
     ensures { λ r. ⌜ numbersOf (r .box_record) ≡ numbersOf b ⌝ }
-    ensures { λ r. ⌜ answerOf (r .answer) ≡ (doing (numbersOf b) (within b (buffers (now (disk .entry)) (now (flash .entry)) (now (addresses .entry)) (now (blocks .entry))) (countersOf k)) (asked (b .size) c)) .answer ⌝ }
-    ensures { λ r. ⌜ held (r .box_record .held) (countersOf (r .counters)) (buffers (now (disk .exit)) (now (flash .exit)) (now (addresses .exit)) (now (blocks .exit)))
-        ≡ over ((doing (numbersOf b) (within b (buffers (now (disk .entry)) (now (flash .entry)) (now (addresses .entry)) (now (blocks .entry))) (countersOf k)) (asked (b .size) c)) .lent) (buffers (now (disk .entry)) (now (flash .entry)) (now (addresses .entry)) (now (blocks .entry))) ⌝ }
+    ensures { λ r. ⌜ answerOf (r .answer) ≡ (doing (numbersOf b) (within b
+        (buffers (now (disk .entry)) (now (flash .entry)) (now (addresses .entry)) (now (blocks .entry))) (countersOf k)) (asked (b .size) c)) .answer ⌝ }
+    ensures { λ r. ⌜ held (r .box_record .held) (countersOf (r .counters))
+        (buffers (now (disk .exit)) (now (flash .exit)) (now (addresses .exit)) (now (blocks .exit)))
+        ≡ over ((doing (numbersOf b) (within b (buffers (now (disk .entry)) (now (flash .entry)) (now (addresses .entry)) (now (blocks .entry)))
+        (countersOf k)) (asked (b .size) c)) .lent) (buffers (now (disk .entry)) (now (flash .entry)) (now (addresses .entry)) (now (blocks .entry))) ⌝ }
 {
     let p = b.blocks * b.size;
     let f = b.slots * b.size;
@@ -97,7 +102,9 @@ pub fn first(
     requires { ⌜ length (now out) ≡ 256 ⌝ }
     ensures { λ r. ⌜ r .filled ≤ 92 ⌝ }
     ensures { λ r. ⌜ ((line : List ℕ) → afterOf r line (now (disk .exit)) (now (flash .exit)) (now (addresses .exit)) (now (blocks .exit)) (now (out .exit))
-        ≡ stored (memory s line (now (disk .entry)) (now (flash .entry)) (now (addresses .entry)) (now (blocks .entry)) (now (out .entry))) (firstLine (stateIn (memory s line (now (disk .entry)) (now (flash .entry)) (now (addresses .entry)) (now (blocks .entry)) (now (out .entry)))) c)) ⌝ }
+        ≡ stored (memory s line (now (disk .entry)) (now (flash .entry)) (now (addresses .entry)) (now (blocks .entry)) (now (out .entry)))
+        (firstLine (stateIn (memory s line (now (disk .entry)) (now (flash .entry)) (now (addresses .entry)) (now (blocks .entry))
+        (now (out .entry)))) c)) ⌝ }
 {
     let number = boxes::box_refusal(c);
     if number != 0 {
@@ -145,7 +152,9 @@ pub fn later(
     requires { ⌜ length (now out) ≡ 256 ⌝ }
     ensures { λ r. ⌜ r .filled ≤ 92 ⌝ }
     ensures { λ r. ⌜ ((line : List ℕ) → afterOf r line (now (disk .exit)) (now (flash .exit)) (now (addresses .exit)) (now (blocks .exit)) (now (out .exit))
-        ≡ stored (memory s line (now (disk .entry)) (now (flash .entry)) (now (addresses .entry)) (now (blocks .entry)) (now (out .entry))) (laterLine (stateIn (memory s line (now (disk .entry)) (now (flash .entry)) (now (addresses .entry)) (now (blocks .entry)) (now (out .entry)))) c)) ⌝ }
+        ≡ stored (memory s line (now (disk .entry)) (now (flash .entry)) (now (addresses .entry)) (now (blocks .entry)) (now (out .entry)))
+        (laterLine (stateIn (memory s line (now (disk .entry)) (now (flash .entry)) (now (addresses .entry)) (now (blocks .entry))
+        (now (out .entry)))) c)) ⌝ }
 {
     let b = s.box_record;
     let k = s.counters;

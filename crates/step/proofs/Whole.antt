@@ -8,10 +8,7 @@ use native.Mathlib.Nat.{zero-add, add-zero}
 use native.Mathlib.Omega.{arith}
 use lib.ListN.{length, take, length-append, length-map}
 use lib.Seq.{take-at}
-use Rattle.tables.specs.Find.{findFrom, caches}
-use Rattle.tables.specs.Index.{code, Places}
 use Rattle.parts.specs.declared.BoxRecord.{BoxRecord}
-use Rattle.tables.specs.Rows.{rows}
 use Rattle.tables.specs.Records.{addressRow, addressBytes, slotsFrom}
 use Rattle.paper.specs.KeyedLaws.{All, all-map, all-perm, all-append, by-test, Distinct, all-of-map, all-left, all-right}
 use Rattle.paper.specs.Cache.{AddressRow, BlockRow, BlockRows, Box, RowOut, Stepped, newest, blockRow, cached, withoutBlock, slotOf, step1, step3, step4, stored, taken, step, copies, isLost}
@@ -21,12 +18,9 @@ use Rattle.paper.specs.Faithful.{slots-below-0}
 use Rattle.paper.specs.Engine.{Fixed, engine}
 use Rattle.paper.specs.Lent.{bit}
 use Rattle.paper.specs.Layout.{Addrs, Blocks, blocksOf}
-use Rattle.parts.specs.Rep.{Rep}
-use Rattle.parts.specs.Asked.{Placed}
+use Rattle.parts.specs.Rep.{numbersOf, Rep, withHeld}
 use Rattle.step.specs.Steps.{placeOf, Out1, out1, blockBytes, Out4, out4, After, after, asks, Sure}
-use Rattle.parts.specs.TableLaws.{addrBytes}
 use Rattle.parts.specs.MoveLaws.{pushed}
-use Rattle.step.proofs.Placing.{placed-added, of-rows, of-bytes}
 use Rattle.tables.specs.Operations.{rowAdded}
 
 -- block rows whose slots are 0 to d - 1
@@ -62,8 +56,8 @@ module _ (b : BoxRecord) (disk flash addrs blocks : List ℕ) (s : Box (Fixed 32
   abbrev o : RowOut (Fixed 32) (Fixed (b .size))
   o = step1 (engine (b .size)) (b .rows) s a
 
-  out : Out (engine (b .size)) (b .rows) (b .slots) (b .blocks) a s (step1 (engine (b .size)) (b .rows) s a)
-  out = sound-step1 (engine (b .size)) (b .rows) (b .slots) (b .blocks) s a sd m1
+  out : Out (engine (b .size)) (numbersOf b) a s (step1 (engine (b .size)) (b .rows) s a)
+  out = sound-step1 (engine (b .size)) (numbersOf b) s a sd m1
 
   n-is : n ≡ length (step1 (engine (b .size)) (b .rows) s a .rows)
   unfolding out1
@@ -82,13 +76,6 @@ module _ (b : BoxRecord) (disk flash addrs blocks : List ℕ) (s : Box (Fixed 32
         small = h .rows-are .small;
         is = e₂ ∙ pushed (b .blocks) (b .rows) n addrs₁ (step1 (engine (b .size)) (b .rows) s a .rows) addrs₁-are (omega (arith, n-is, out .few)) a f w;
       }
-
-  pub placed₂ : (p p₁ p₂ : List ℕ) → Placed (b .held) (b .slots) addrs blocks p
-      → (Places (rows (b .slots) blocks) (map addrBytes (s .rows)) (take (b .held) p) → Places (rows (b .slots) blocks) (map addrBytes (step1 (engine (b .size)) (b .rows) s a .rows)) (take n p₁))
-      → take (n + 1) p₂ ≡ take n p₁ ++ (code (findFrom (caches (f .0)) 0 (rows (b .slots) blocks)) ∷ []) → Placed (n + 1) (b .slots) addrs₂ blocks p₂
-  placed₂ p p₁ p₂ q one two =
-      of-bytes (b .blocks) (b .rows) (n + 1) addrs₂ (step1 (engine (b .size)) (b .rows) s a .rows ++ (newest a f w ∷ [])) addrs₂-are (rows (b .slots) blocks) (take (n + 1) p₂)
-      (two ∙ placed-added (rows (b .slots) blocks) (step1 (engine (b .size)) (b .rows) s a .rows) (take n p₁) a f w (one (of-rows (b .blocks) (b .rows) (b .held) addrs (s .rows) (h .rows-are) (rows (b .slots) blocks) (take (b .held) p) q)))
 
   pub place-is : place ≡ placeOf (step1 (engine (b .size)) (b .rows) s a .gone) (s .free) (s .used)
   unfolding out1
@@ -118,7 +105,7 @@ module _ (b : BoxRecord) (disk flash addrs blocks : List ℕ) (s : Box (Fixed 32
     abbrev pub s₃ : Box (Fixed 32) (Fixed (b .size))
     s₃ = record { rows = step1 (engine (b .size)) (b .rows) s a .rows ++ (newest a f w ∷ []); free = t₃ .free; used = t₃ .used; flash = s .flash; disk = step1 (engine (b .size)) (b .rows) s a .disk }
 
-    pub rep₃ : Rep (record { size = b .size; blocks = b .blocks; rows = b .rows; slots = b .slots; held = n + 1 }) disk₁ flash addrs₂ blocks₃ s₃
+    pub rep₃ : Rep (withHeld b (n + 1)) disk₁ flash addrs₂ blocks₃ s₃
     unfolding out1
     rep₃ =
         record {
@@ -130,7 +117,7 @@ module _ (b : BoxRecord) (disk flash addrs blocks : List ℕ) (s : Box (Fixed 32
 
     pub step-is : (x : Fixed (b .size)) (flashed copies : ℕ) (disk₄ flash₄ addrs₄ blocks₄ : List ℕ)
         → _≡_ {A = Out4} (record { flashed = flashed; primary = copies; disk = disk₄; flash = flash₄; addrs = addrs₄; blocks = blocks₄ })
-        (out4 (record { size = b .size; blocks = b .blocks; rows = b .rows; slots = b .slots; held = n + 1 }) (step4 (engine (b .size)) (s₃ .rows) (record { free = s₃ .free; used = s₃ .used }) (s₃ .flash) (s₃ .disk) f x 0))
+        (out4 (withHeld b (n + 1)) (step4 (engine (b .size)) (s₃ .rows) (record { free = s₃ .free; used = s₃ .used }) (s₃ .flash) (s₃ .disk) f x 0))
         → _≡_ {A = After} (record { held = n + 1; left = (record { flashed = flashed; primary = primary + copies; disk = disk₄; flash = flash₄; addrs = addrs₄; blocks = blocks₄ }) }) (after b (step (engine (b .size)) (b .rows) s (asks a f x w)))
     unfolding out4 out1 after step more
     step-is x flashed copies disk₄ flash₄ addrs₄ blocks₄ e =

@@ -6,6 +6,7 @@ use mathlib.Core.Option.{Option, none, some}
 use Prim.Native.Nat.{ℕ, suc, _+_, _<_}
 use lib.ListN.{length, getD, take, drop}
 use Rattle.parts.specs.declared.BoxRecord.{BoxRecord}
+use Rattle.parts.specs.Rep.{numbersOf}
 use Rattle.paper.specs.Sound.{Sound}
 use Rattle.paper.specs.Cache.{Request, BlockRow, BlockRows, Box, RowOut, Taken, Stepped}
 use Rattle.paper.specs.Engine.{Fixed}
@@ -29,7 +30,13 @@ pub record Out1 : Type 0 where
   pub addrs : List ℕ
 
 unfoldable pub out1 : (b : BoxRecord) (s : Box (Fixed 32) (Fixed (b .size))) → RowOut (Fixed 32) (Fixed (b .size)) → Out1
-out1 b s o = record { held = length (o .rows); place = placeOf (o .gone) (s .free) (s .used); primary = o .primary; disk = join (o .disk); addrs = addressesOf (b .rows) (o .rows) }
+out1 b s o = record {
+  held = length (o .rows);
+  place = placeOf (o .gone) (s .free) (s .used);
+  primary = o .primary;
+  disk = join (o .disk);
+  addrs = addressesOf (b .rows) (o .rows);
+}
 
 -- the bytes of block rows
 abbrev pub blockBytes : BlockRows (Fixed 32) → List ℕ
@@ -43,7 +50,13 @@ Picked [] used t = t < length used
 -- and what is taken with it
 unfoldable pub pickedTaken : List ℕ → List (BlockRow (Fixed 32)) → ℕ → Taken (Fixed 32)
 pickedTaken (k ∷ free) used t = record { slot = k; lost = none; free = free; used = used }
-pickedTaken [] used t = record { slot = getD used t noBlock .slot; lost = some (getD used t noBlock .fingerprint); free = []; used = take t used ++ drop (suc t) used }
+pickedTaken [] used t = record {
+  slot = getD used t noBlock .slot;
+  lost = some (getD used t noBlock .fingerprint);
+  free = [];
+  used = take t used
+      ++ drop (suc t) used;
+}
 
 -- what step 4 leaves
 pub record Out4 : Type 0 where
@@ -55,7 +68,14 @@ pub record Out4 : Type 0 where
   pub blocks : List ℕ
 
 unfoldable pub out4 : (b : BoxRecord) → Stepped (Fixed 32) (Fixed (b .size)) → Out4
-out4 b t = record { flashed = t .flashWrites; primary = t .primaryWrites; disk = join (t .box .disk); flash = join (t .box .flash); addrs = addressesOf (b .rows) (t .box .rows); blocks = blocksOf (t .box .free) (t .box .used) }
+out4 b t = record {
+  flashed = t .flashWrites;
+  primary = t .primaryWrites;
+  disk = join (t .box .disk);
+  flash = join (t .box .flash);
+  addrs = addressesOf (b .rows) (t .box .rows);
+  blocks = blocksOf (t .box .free) (t .box .used);
+}
 
 -- what a step leaves
 pub record After : Type 0 where
@@ -71,4 +91,4 @@ asks a f x w = record { address = a; fingerprint = f; block = x; dirty = w }
 
 -- lent bytes of a sound box
 abbrev pub Sure : (b : BoxRecord) → Box (Fixed 32) (Fixed (b .size)) → Type 0
-Sure b s = Sound (engine (b .size)) (b .rows) (b .slots) (b .blocks) s
+Sure b s = Sound (engine (b .size)) (numbersOf b) s

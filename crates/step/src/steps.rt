@@ -9,26 +9,24 @@ use tables::row;
 use tables::shift;
 ghost use mathlib.Core.Path.{_≡_};
 ghost use mathlib.Core.Bool.{Bool, true};
-ghost use mathlib.Core.List.{List, [], _∷_, _++_, map};
+ghost use mathlib.Core.List.{List, [], _∷_, _++_};
 ghost use mathlib.Core.Option.{Option};
 ghost use Prim.Native.Nat.{ℕ, _+_, _*_, _-_, _<_, _≤_};
 ghost use lib.ListN.{length, getD, take, set};
 ghost use lib.Dec.{eqb};
-ghost use Rattle.tables.specs.Rows.{tableBytes, removeAt, rows};
+ghost use Rattle.tables.specs.Rows.{tableBytes, removeAt};
 ghost use Rattle.tables.specs.Records.{addressRow, addressBytes};
-ghost use Rattle.tables.specs.Find.{findFrom, caches};
-ghost use Rattle.tables.specs.Operations.{rowAdded};
-ghost use Rattle.tables.specs.Index.{Places, code};
+ghost use Rattle.tables.specs.Operations.{rowOut, rowAdded, rowNewest};
+ghost use Rattle.tables.specs.Index.{Indexed};
 ghost use Rattle.paper.specs.KeyedLaws.{Distinct};
 ghost use Rattle.paper.specs.Index.{indexWhere};
 ghost use Rattle.paper.specs.Cache.{AddressRow, BlockRow, Box, blockRow, isLost, taken, stored, step1, step3, step4, step, dropped, rowOf, withoutAddress};
 ghost use Rattle.paper.specs.Engine.{Fixed, engine};
 ghost use Rattle.paper.specs.Lent.{bit, join};
 ghost use Rattle.paper.specs.Layout.{Addrs, Blocks, Parts, addressesOf, blocksOf};
-ghost use Rattle.parts.specs.Rep.{Rep, Lent, copiedRows, noRow};
-ghost use Rattle.parts.specs.Asked.{Placed, full};
+ghost use Rattle.parts.specs.Rep.{Sized, Rep, Lent, copiedRows, noRow};
+ghost use Rattle.parts.specs.Asked.{full};
 ghost use Rattle.step.specs.Steps.{placeOf, out1, blockBytes, Picked, pickedTaken, out4, after, asks, Sure};
-ghost use Rattle.parts.specs.TableLaws.{addrBytes};
 
 // What step 1 tells: how many rows are held then, the place of the fingerprint taken out, and the blocks copied to the disk.
 pub struct Out {
@@ -39,8 +37,9 @@ pub struct Out {
 
 // Takes row `i` out. The place of its fingerprint's block row.
 pub fn take_row(b: BoxRecord, i: usize, addrs: &mut [u8], blocks: &[u8]) -> usize
-    requires { ⌜ (i < b .held) × (b .held ≤ b .rows) × (length (now addrs) ≡ tableBytes (b .rows)) × (length (now blocks) ≡ tableBytes (b .slots)) ⌝ }
-    ensures { λ r. ⌜ ((rows : List (AddressRow (Fixed 32))) (free : List ℕ) (used : List (BlockRow (Fixed 32))) → Addrs (b .blocks) (b .rows) (b .held) (now (addrs .entry)) rows → Blocks (b .slots) (now (blocks .entry)) free used
+    requires { ⌜ (i < b .held) × Sized b (now addrs) (now blocks) ⌝ }
+    ensures { λ r. ⌜ ((rows : List (AddressRow (Fixed 32))) (free : List ℕ) (used : List (BlockRow (Fixed 32)))
+        → Addrs (b .blocks) (b .rows) (b .held) (now (addrs .entry)) rows → Blocks (b .slots) (now (blocks .entry)) free used
         → (r ≡ placeOf (Option.some (getD rows i noRow .fingerprint)) free used) × (now (addrs .exit) ≡ addressesOf (b .rows) (removeAt rows i))) ⌝ }
 {
     let place = rows::place_of(blocks, b.slots, row::address_fingerprint(addrs, i));
@@ -56,20 +55,20 @@ pub fn step1(
     flash: &[u8],
     addrs: &mut [u8],
     blocks: &[u8],
-    places: &mut [u16],
+    heads: &[u16],
 ) -> Out
-    requires { ⌜ (0 < b .rows) × (0 < b .slots) × (b .held ≤ b .rows) × (length (now addrs) ≡ tableBytes (b .rows)) × (length (now blocks) ≡ tableBytes (b .slots)) × (b .held ≤ length (now places)) ⌝ }
+    requires { ⌜ (0 < b .rows) × (0 < b .slots) × (b .slots ≤ 256) × Sized b (now addrs) (now blocks) ⌝ }
     requires { ⌜ Lent b (now disk) (now flash) (now addrs) (now blocks) ⌝ }
+    requires { ⌜ Indexed (b .slots) (now blocks) (now heads) ⌝ }
     ensures { λ r. ⌜ (r .held < b .rows) × (r .primary ≤ 1) ⌝ }
-    ensures { λ r. ⌜ ((s : Box (Fixed 32) (Fixed (b .size))) → Rep b (now (disk .entry)) (now (flash .entry)) (now (addrs .entry)) (now (blocks .entry)) s → Distinct eqb (λ x. x .address) (s .rows)
-        → record { held = r .held; place = r .place; primary = r .primary; disk = now (disk .exit); addrs = now (addrs .exit) } ≡ out1 b s (step1 (engine (b .size)) (b .rows) s (a .0))) ⌝ }
-    ensures { λ r. ⌜ ((s : Box (Fixed 32) (Fixed (b .size))) (rs : List (List ℕ)) → Rep b (now (disk .entry)) (now (flash .entry)) (now (addrs .entry)) (now (blocks .entry)) s → Distinct eqb (λ x. x .address) (s .rows)
-        → Places rs (map addrBytes (s .rows)) (take (b .held) (now (places .entry))) → Places rs (map addrBytes (step1 (engine (b .size)) (b .rows) s (a .0) .rows)) (take (r .held) (now (places .exit)))) ⌝ }
+    ensures { λ r. ⌜ ((s : Box (Fixed 32) (Fixed (b .size))) → Rep b (now (disk .entry)) (now (flash .entry)) (now (addrs .entry)) (now (blocks .entry)) s
+        → Distinct eqb (λ x. x .address) (s .rows)
+        → record { held = r .held; place = r .place; primary = r .primary; disk = now (disk .exit); addrs = now (addrs .exit) }
+        ≡ out1 b s (step1 (engine (b .size)) (b .rows) s (a .0))) ⌝ }
 {
     let i = rows::row_of(addrs, b.held, a);
     if i < b.held {
         let place = take_row(b, i, addrs, blocks);
-        checks::known::forget(places, b.held, i);
         return Out {
             held: b.held - 1,
             place: place,
@@ -83,9 +82,8 @@ pub fn step1(
             primary: 0,
         };
     }
-    let primary = copy::flush_row(b, 0, disk, flash, addrs, blocks);
+    let primary = copy::flush_row(b, 0, disk, flash, addrs, blocks, heads);
     let place = take_row(b, 0, addrs, blocks);
-    checks::known::forget(places, b.held, 0);
     Out {
         held: b.held - 1,
         place: place,
@@ -93,32 +91,14 @@ pub fn step1(
     }
 }
 
-// Step 2, where `n` rows are held.
-pub fn hold(
-    n: usize,
-    a: SourceAddress,
-    dirty: u8,
-    addrs: &mut [u8],
-    blocks: &[u8],
-    d: usize,
-    g: &[u8],
-    places: &mut [u16],
-)
-    requires { ⌜ (tableBytes (n + 1) ≤ length (now addrs)) × (length (now g) ≡ 32) × (tableBytes d ≤ length (now blocks)) × (d ≤ 256) × (n < length (now places)) ⌝ }
-    ensures { λ _. ⌜ now (addrs .exit) ≡ rowAdded n (addressBytes (addressRow (a .0) (now (g .entry)) dirty)) (now (addrs .entry)) ⌝ }
-    ensures { λ _. ⌜ take (n + 1) (now (places .exit)) ≡ take n (now (places .entry)) ++ (code (findFrom (caches (now (g .entry))) 0 (rows d (now (blocks .entry)))) ∷ []) ⌝ }
-{
-    let v = rows::entry_of(blocks, d, g);
-    put::push_address(addrs, n, a, g, dirty);
-    checks::known::remember(places, n, v);
-}
-
 // Step 3, where the fingerprint taken out has its block row at `place`. Where no row is free then, none was moved.
-pub fn step3(b: BoxRecord, place: usize, addrs: &[u8], blocks: &mut [u8], places: &[u16])
-    requires { ⌜ (0 < b .held) × (b .held ≤ b .rows) × (length (now addrs) ≡ tableBytes (b .rows)) × (length (now blocks) ≡ tableBytes (b .slots)) × (b .slots ≤ 256) × (b .held ≤ length (now places)) ⌝ }
-    requires { ⌜ Placed (b .held) (b .slots) (now addrs) (now blocks) (now places) ⌝ }
-    ensures { λ _. ⌜ ((B : ℕ) (l : List (AddressRow (Fixed 32))) (free : List ℕ) (used : List (BlockRow (Fixed 32))) (gone : Option (Fixed 32)) → Addrs (b .blocks) (b .rows) (b .held) (now (addrs .entry)) l → Blocks (b .slots) (now (blocks .entry)) free used
-        → Distinct (engine 0 .same) (λ u. u .fingerprint) used → place ≡ placeOf gone free used → now (blocks .exit) ≡ blockBytes (step3 (engine B) gone (take (b .held - 1) l) l (record { free = free; used = used }))) ⌝ }
+pub fn step3(b: BoxRecord, place: usize, addrs: &[u8], blocks: &mut [u8], heads: &[u16])
+    requires { ⌜ (0 < b .held) × (b .slots ≤ 256) × Sized b (now addrs) (now blocks) ⌝ }
+    requires { ⌜ Indexed (b .slots) (now blocks) (now heads) ⌝ }
+    ensures { λ _. ⌜ ((B : ℕ) (l : List (AddressRow (Fixed 32))) (free : List ℕ) (used : List (BlockRow (Fixed 32))) (gone : Option (Fixed 32))
+        → Addrs (b .blocks) (b .rows) (b .held) (now (addrs .entry)) l → Blocks (b .slots) (now (blocks .entry)) free used
+        → Distinct (engine 0 .same) (λ u. u .fingerprint) used → place ≡ placeOf gone free used → now (blocks .exit)
+        ≡ blockBytes (step3 (engine B) gone (take (b .held - 1) l) l (record { free = free; used = used }))) ⌝ }
     ensures { λ _. ⌜ (full (now (blocks .exit)) ≡ true → now (blocks .exit) ≡ now (blocks .entry)) ⌝ }
 {
     let d = b.slots;
@@ -128,7 +108,7 @@ pub fn step3(b: BoxRecord, place: usize, addrs: &[u8], blocks: &mut [u8], places
     if rows::knows(addrs, b.held, row::block_fingerprint(blocks, place)) {
         return;
     }
-    if rows::uncached(addrs, b.held - 1, blocks, d, places) {
+    if rows::uncached(addrs, b.held - 1, blocks, d, heads) {
         shift::to_front(blocks, d, place);
     }
 }
@@ -143,11 +123,14 @@ pub fn lose(
     addrs: &mut [u8],
     blocks: &[u8],
 ) -> usize
-    requires { ⌜ (t < b .slots) × (slot .0 < b .slots) × (b .held ≤ b .rows) × (length (now addrs) ≡ tableBytes (b .rows)) × (length (now blocks) ≡ tableBytes (b .slots)) ⌝ }
-    requires { ⌜ ((s : Box (Fixed 32) (Fixed (b .size))) × Rep b (now disk) (now flash) (now addrs) (now blocks) s × Distinct (engine 0 .same) (λ u. u .fingerprint) (s .used) × Picked (s .free) (s .used) t × (slot .0 ≡ pickedTaken (s .free) (s .used) t .slot)) ⌝ }
+    requires { ⌜ (t < b .slots) × (slot .0 < b .slots) × Sized b (now addrs) (now blocks) ⌝ }
+    requires { ⌜ ((s : Box (Fixed 32) (Fixed (b .size))) × Rep b (now disk) (now flash) (now addrs) (now blocks) s
+        × Distinct (engine 0 .same) (λ u. u .fingerprint) (s .used) × Picked (s .free) (s .used) t × (slot .0 ≡ pickedTaken (s .free) (s .used) t .slot)) ⌝ }
     ensures { λ r. ⌜ r ≤ b .held ⌝ }
-    ensures { λ r. ⌜ ((s : Box (Fixed 32) (Fixed (b .size))) → Rep b (now (disk .entry)) (now (flash .entry)) (now (addrs .entry)) (now (blocks .entry)) s → Distinct (engine 0 .same) (λ u. u .fingerprint) (s .used) → Picked (s .free) (s .used) t → slot .0 ≡ pickedTaken (s .free) (s .used) t .slot
-        → record { count = r; disk = now (disk .exit); addrs = now (addrs .exit) } ≡ copiedRows b (isLost (engine (b .size)) (pickedTaken (s .free) (s .used) t .lost)) s (b .held)) ⌝ }
+    ensures { λ r. ⌜ ((s : Box (Fixed 32) (Fixed (b .size))) → Rep b (now (disk .entry)) (now (flash .entry)) (now (addrs .entry)) (now (blocks .entry)) s
+        → Distinct (engine 0 .same) (λ u. u .fingerprint) (s .used) → Picked (s .free) (s .used) t → slot .0 ≡ pickedTaken (s .free) (s .used) t .slot
+        → record { count = r; disk = now (disk .exit); addrs = now (addrs .exit) }
+        ≡ copiedRows b (isLost (engine (b .size)) (pickedTaken (s .free) (s .used) t .lost)) s (b .held)) ⌝ }
 {
     if !row::is_used(blocks, t) {
         return 0;
@@ -166,10 +149,14 @@ pub fn fill(
     g: &[u8],
     block: &[u8],
 )
-    requires { ⌜ (t < b .slots) × (slot .0 * b .size + b .size ≤ length (now flash)) × (length (now g) ≡ 32) × (length (now block) ≡ b .size) × (length (now blocks) ≡ tableBytes (b .slots)) ⌝ }
-    ensures { λ _. ⌜ ((free : List ℕ) (used : List (BlockRow (Fixed 32))) (fl : List (Fixed (b .size))) (f : Fixed 32) (x : Fixed (b .size)) → Blocks (b .slots) (now (blocks .entry)) free used → Parts (b .size) (b .slots) (now (flash .entry)) fl → Picked free used t → slot .0 < b .slots → slot .0 ≡ pickedTaken free used t .slot
+    requires { ⌜ (t < b .slots) × (slot .0 * b .size + b .size ≤ length (now flash)) × (length (now g) ≡ 32) × (length (now block) ≡ b .size)
+        × (length (now blocks) ≡ tableBytes (b .slots)) ⌝ }
+    ensures { λ _. ⌜ ((free : List ℕ) (used : List (BlockRow (Fixed 32))) (fl : List (Fixed (b .size))) (f : Fixed 32) (x : Fixed (b .size))
+        → Blocks (b .slots) (now (blocks .entry)) free used → Parts (b .size) (b .slots) (now (flash .entry)) fl → Picked free used t → slot .0 < b .slots
+        → slot .0 ≡ pickedTaken free used t .slot
         → f .0 ≡ now (g .entry) → x .0 ≡ now (block .entry)
-        → (now (flash .exit) ≡ join (set fl (slot .0) x)) × (now (blocks .exit) ≡ blocksOf (pickedTaken free used t .free) (pickedTaken free used t .used ++ (blockRow f (slot .0) ∷ [])))) ⌝ }
+        → (now (flash .exit) ≡ join (set fl (slot .0) x)) × (now (blocks .exit)
+        ≡ blocksOf (pickedTaken free used t .free) (pickedTaken free used t .used ++ (blockRow f (slot .0) ∷ [])))) ⌝ }
 {
     block::put_slot(block, flash, slot, b.size);
     put::put_block(blocks, b.slots, t, g);
@@ -184,17 +171,20 @@ pub fn store(
     blocks: &mut [u8],
     g: &[u8],
     block: &[u8],
-    places: &[u16],
+    heads: &[u16],
 ) -> usize
-    requires { ⌜ (0 < b .slots) × (b .held ≤ b .rows) × (length (now addrs) ≡ tableBytes (b .rows)) × (length (now blocks) ≡ tableBytes (b .slots)) × (length (now g) ≡ 32) × (length (now block) ≡ b .size) × (b .slots ≤ 256) × (b .held ≤ length (now places)) ⌝ }
-    requires { ⌜ ((s : Box (Fixed 32) (Fixed (b .size))) × Rep b (now disk) (now flash) (now addrs) (now blocks) s × Distinct (engine 0 .same) (λ u. u .fingerprint) (s .used)) ⌝ }
-    requires { ⌜ (full (now blocks) ≡ true → Placed (b .held) (b .slots) (now addrs) (now blocks) (now places)) ⌝ }
+    requires { ⌜ (0 < b .slots) × (length (now g) ≡ 32) × (length (now block) ≡ b .size) × (b .slots ≤ 256) × Sized b (now addrs) (now blocks) ⌝ }
+    requires { ⌜ ((s : Box (Fixed 32) (Fixed (b .size))) × Rep b (now disk) (now flash) (now addrs) (now blocks) s
+        × Distinct (engine 0 .same) (λ u. u .fingerprint) (s .used)) ⌝ }
+    requires { ⌜ (full (now blocks) ≡ true → Indexed (b .slots) (now blocks) (now heads)) ⌝ }
     ensures { λ r. ⌜ r ≤ b .held ⌝ }
-    ensures { λ r. ⌜ ((s : Box (Fixed 32) (Fixed (b .size))) (f : Fixed 32) (x : Fixed (b .size)) → Rep b (now (disk .entry)) (now (flash .entry)) (now (addrs .entry)) (now (blocks .entry)) s → Distinct (engine 0 .same) (λ u. u .fingerprint) (s .used) → f .0 ≡ now (g .entry) → x .0 ≡ now (block .entry)
+    ensures { λ r. ⌜ ((s : Box (Fixed 32) (Fixed (b .size))) (f : Fixed 32) (x : Fixed (b .size))
+        → Rep b (now (disk .entry)) (now (flash .entry)) (now (addrs .entry)) (now (blocks .entry)) s
+        → Distinct (engine 0 .same) (λ u. u .fingerprint) (s .used) → f .0 ≡ now (g .entry) → x .0 ≡ now (block .entry)
         → record { flashed = 1; primary = r; disk = now (disk .exit); flash = now (flash .exit); addrs = now (addrs .exit); blocks = now (blocks .exit) }
         ≡ out4 b (stored (engine (b .size)) (s .rows) (s .used) (s .flash) (s .disk) f x 0 (taken (engine (b .size)) (s .rows) (s .free) (s .used)))) ⌝ }
 {
-    let t = rows::victim(addrs, b.held, blocks, b.slots, places);
+    let t = rows::victim(addrs, b.held, blocks, b.slots, heads);
     let slot = row::slot_at(blocks, t);
     let count = lose(b, t, slot, disk, flash, addrs, blocks);
     fill(b, t, slot, flash, blocks, g, block);
@@ -216,14 +206,24 @@ pub fn step4(
     blocks: &mut [u8],
     g: &[u8],
     block: &[u8],
-    places: &[u16],
+    heads: &[u16],
 ) -> Wrote
-    requires { ⌜ (0 < b .slots) × (b .held ≤ b .rows) × (length (now addrs) ≡ tableBytes (b .rows)) × (length (now blocks) ≡ tableBytes (b .slots)) × (length (now g) ≡ 32) × (length (now block) ≡ b .size) × (b .slots ≤ 256) × (b .held ≤ length (now places)) ⌝ }
-    requires { ⌜ ((s : Box (Fixed 32) (Fixed (b .size))) × Rep b (now disk) (now flash) (now addrs) (now blocks) s × Distinct (engine 0 .same) (λ u. u .fingerprint) (s .used)) ⌝ }
-    requires { ⌜ (full (now blocks) ≡ true → Placed (b .held) (b .slots) (now addrs) (now blocks) (now places)) ⌝ }
+    requires { ⌜ (0 < b .slots) × (length (now g) ≡ 32) × (length (now block) ≡ b .size) × (b .slots ≤ 256) × Sized b (now addrs) (now blocks) ⌝ }
+    requires { ⌜ ((s : Box (Fixed 32) (Fixed (b .size))) × Rep b (now disk) (now flash) (now addrs) (now blocks) s
+        × Distinct (engine 0 .same) (λ u. u .fingerprint) (s .used)) ⌝ }
+    requires { ⌜ (full (now blocks) ≡ true → Indexed (b .slots) (now blocks) (now heads)) ⌝ }
     ensures { λ r. ⌜ (r .flashed ≤ 1) × (r .primary ≤ b .held) ⌝ }
-    ensures { λ r. ⌜ ((s : Box (Fixed 32) (Fixed (b .size))) (f : Fixed 32) (x : Fixed (b .size)) → Rep b (now (disk .entry)) (now (flash .entry)) (now (addrs .entry)) (now (blocks .entry)) s → Distinct (engine 0 .same) (λ u. u .fingerprint) (s .used) → f .0 ≡ now (g .entry) → x .0 ≡ now (block .entry)
-        → record { flashed = r .flashed; primary = r .primary; disk = now (disk .exit); flash = now (flash .exit); addrs = now (addrs .exit); blocks = now (blocks .exit) }
+    ensures { λ r. ⌜ ((s : Box (Fixed 32) (Fixed (b .size))) (f : Fixed 32) (x : Fixed (b .size))
+        → Rep b (now (disk .entry)) (now (flash .entry)) (now (addrs .entry)) (now (blocks .entry)) s
+        → Distinct (engine 0 .same) (λ u. u .fingerprint) (s .used) → f .0 ≡ now (g .entry) → x .0 ≡ now (block .entry)
+        → record {
+          flashed = r .flashed;
+          primary = r .primary;
+          disk = now (disk .exit);
+          flash = now (flash .exit);
+          addrs = now (addrs .exit);
+          blocks = now (blocks .exit);
+        }
         ≡ out4 b (step4 (engine (b .size)) (s .rows) (record { free = s .free; used = s .used }) (s .flash) (s .disk) f x 0)) ⌝ }
 {
     let j = rows::place_of(blocks, b.slots, g);
@@ -234,7 +234,7 @@ pub fn step4(
             primary: 0,
         };
     }
-    let count = store(b, disk, flash, addrs, blocks, g, block, places);
+    let count = store(b, disk, flash, addrs, blocks, g, block, heads);
     Wrote {
         flashed: 1,
         primary: count,
@@ -259,28 +259,37 @@ pub fn step(
     blocks: &mut [u8],
     g: &[u8],
     block: &[u8],
-    places: &mut [u16],
+    heads: &[u16],
 ) -> Done
-    requires { ⌜ (0 < b .rows) × (0 < b .slots) × (b .held ≤ b .rows) × (length (now addrs) ≡ tableBytes (b .rows)) × (length (now blocks) ≡ tableBytes (b .slots)) × (length (now g) ≡ 32) × (length (now block) ≡ b .size) × (a .0 < b .blocks) × (b .rows ≤ 1024) × (length (now places) ≡ 1024) ⌝ }
-    requires { ⌜ ((s : Box (Fixed 32) (Fixed (b .size))) × (w : Bool) × Rep b (now disk) (now flash) (now addrs) (now blocks) s × Sure b s × (dirty ≡ bit w)) ⌝ }
-    requires { ⌜ Placed (b .held) (b .slots) (now addrs) (now blocks) (now places) ⌝ }
-    ensures { λ r. ⌜ (r .flashed ≤ 1) × (r .primary ≤ 1 + b .rows) × (length (now (places .exit)) ≡ 1024) ⌝ }
-    ensures { λ r. ⌜ ((s : Box (Fixed 32) (Fixed (b .size))) (f : Fixed 32) (x : Fixed (b .size)) (w : Bool) → Rep b (now (disk .entry)) (now (flash .entry)) (now (addrs .entry)) (now (blocks .entry)) s → Sure b s → f .0 ≡ now (g .entry) → x .0 ≡ now (block .entry) → dirty ≡ bit w
-        → record { held = r .held; left = (record { flashed = r .flashed; primary = r .primary; disk = now (disk .exit); flash = now (flash .exit); addrs = now (addrs .exit); blocks = now (blocks .exit) }) }
+    requires { ⌜ (0 < b .rows) × (0 < b .slots) × (length (now g) ≡ 32) × (length (now block) ≡ b .size) × (a .0 < b .blocks) × (b .rows ≤ 1024)
+        × Sized b (now addrs) (now blocks) ⌝ }
+    requires { ⌜ ((s : Box (Fixed 32) (Fixed (b .size))) × (w : Bool) × Rep b (now disk) (now flash) (now addrs) (now blocks) s × Sure b s
+        × (dirty ≡ bit w)) ⌝ }
+    requires { ⌜ Indexed (b .slots) (now blocks) (now heads) ⌝ }
+    ensures { λ r. ⌜ (r .flashed ≤ 1) × (r .primary ≤ 1 + b .rows) ⌝ }
+    ensures { λ r. ⌜ ((s : Box (Fixed 32) (Fixed (b .size))) (f : Fixed 32) (x : Fixed (b .size)) (w : Bool)
+        → Rep b (now (disk .entry)) (now (flash .entry)) (now (addrs .entry)) (now (blocks .entry)) s → Sure b s → f .0 ≡ now (g .entry) → x .0
+        ≡ now (block .entry) → dirty ≡ bit w
+        → record {
+          held = r .held;
+          left = (record {
+            flashed = r .flashed;
+            primary = r .primary;
+            disk = now (disk .exit);
+            flash = now (flash .exit);
+            addrs = now (addrs .exit);
+            blocks = now (blocks .exit);
+          });
+        }
         ≡ after b (step (engine (b .size)) (b .rows) s (asks (a .0) f x w))) ⌝ }
 {
-    let o = step1(b, a, disk, flash, addrs, blocks, places);
-    hold(o.held, a, dirty, addrs, blocks, b.slots, g, places);
+    let o = step1(b, a, disk, flash, addrs, blocks, heads);
+    put::push_address(addrs, o.held, a, g, dirty);
     let n = o.held + 1;
-    let c = BoxRecord {
-        size: b.size,
-        blocks: b.blocks,
-        rows: b.rows,
-        slots: b.slots,
-        held: n,
-    };
-    step3(c, o.place, addrs, blocks, places);
-    let w = step4(c, disk, flash, addrs, blocks, g, block, places);
+    let mut c = b;
+    c.held = n;
+    step3(c, o.place, addrs, blocks, heads);
+    let w = step4(c, disk, flash, addrs, blocks, g, block, heads);
     Done {
         held: n,
         flashed: w.flashed,
@@ -288,11 +297,35 @@ pub fn step(
     }
 }
 
+// The step of a hit, in three moves: row `i`, of `a`, becomes newest, and so does the block row at `j`.
+pub fn renew(
+    b: BoxRecord,
+    a: SourceAddress,
+    i: usize,
+    j: usize,
+    dirty: u8,
+    addrs: &mut [u8],
+    blocks: &mut [u8],
+    g: &[u8],
+)
+    requires { ⌜ (i < b .held) × (j < b .slots) × (length (now g) ≡ 32) × Sized b (now addrs) (now blocks) ⌝ }
+    ensures { λ _. ⌜ now (addrs .exit) ≡ rowAdded (b .held - 1) (addressBytes (addressRow (a .0) (now (g .entry)) dirty))
+        (rowOut (b .held) i (now (addrs .entry))) ⌝ }
+    ensures { λ _. ⌜ now (blocks .exit) ≡ rowNewest (b .slots) j (now (blocks .entry)) ⌝ }
+{
+    let n = b.held - 1;
+    shift::remove_row(addrs, b.held, i);
+    put::push_address(addrs, n, a, g, dirty);
+    shift::to_newest(blocks, b.slots, j);
+}
+
 // Frees the block row at `place` where no held row has its fingerprint.
 pub fn free_unknown(b: BoxRecord, place: usize, addrs: &[u8], blocks: &mut [u8])
-    requires { ⌜ (b .held ≤ b .rows) × (length (now addrs) ≡ tableBytes (b .rows)) × (length (now blocks) ≡ tableBytes (b .slots)) ⌝ }
-    ensures { λ _. ⌜ ((B : ℕ) (l : List (AddressRow (Fixed 32))) (free : List ℕ) (used : List (BlockRow (Fixed 32))) (r : AddressRow (Fixed 32)) → Addrs (b .blocks) (b .rows) (b .held) (now (addrs .entry)) l → Blocks (b .slots) (now (blocks .entry)) free used
-        → Distinct (engine 0 .same) (λ u. u .fingerprint) used → place ≡ placeOf (Option.some (r .fingerprint)) free used → now (blocks .exit) ≡ blockBytes (dropped (engine B) l (record { free = free; used = used }) (Option.some r))) ⌝ }
+    requires { ⌜ Sized b (now addrs) (now blocks) ⌝ }
+    ensures { λ _. ⌜ ((B : ℕ) (l : List (AddressRow (Fixed 32))) (free : List ℕ) (used : List (BlockRow (Fixed 32))) (r : AddressRow (Fixed 32))
+        → Addrs (b .blocks) (b .rows) (b .held) (now (addrs .entry)) l → Blocks (b .slots) (now (blocks .entry)) free used
+        → Distinct (engine 0 .same) (λ u. u .fingerprint) used → place ≡ placeOf (Option.some (r .fingerprint)) free used → now (blocks .exit)
+        ≡ blockBytes (dropped (engine B) l (record { free = free; used = used }) (Option.some r))) ⌝ }
 {
     let d = b.slots;
     if d <= place {
@@ -306,23 +339,20 @@ pub fn free_unknown(b: BoxRecord, place: usize, addrs: &[u8], blocks: &mut [u8])
 
 // Takes row `i` out, if there is one, and frees its fingerprint's block row where no other row has it. The rows then held.
 pub fn drop_row(b: BoxRecord, i: usize, addrs: &mut [u8], blocks: &mut [u8]) -> usize
-    requires { ⌜ (b .held ≤ b .rows) × (length (now addrs) ≡ tableBytes (b .rows)) × (length (now blocks) ≡ tableBytes (b .slots)) ⌝ }
-    ensures { λ r. ⌜ ((B a : ℕ) (l : List (AddressRow (Fixed 32))) (free : List ℕ) (used : List (BlockRow (Fixed 32))) → Addrs (b .blocks) (b .rows) (b .held) (now (addrs .entry)) l → Blocks (b .slots) (now (blocks .entry)) free used
+    requires { ⌜ Sized b (now addrs) (now blocks) ⌝ }
+    ensures { λ r. ⌜ ((B a : ℕ) (l : List (AddressRow (Fixed 32))) (free : List ℕ) (used : List (BlockRow (Fixed 32)))
+        → Addrs (b .blocks) (b .rows) (b .held) (now (addrs .entry)) l → Blocks (b .slots) (now (blocks .entry)) free used
         → Distinct eqb (λ x. x .address) l → Distinct (engine 0 .same) (λ u. u .fingerprint) used → i ≡ indexWhere (λ x. eqb a (x .address)) l
-        → (r ≡ length (withoutAddress a l)) × (now (addrs .exit) ≡ addressesOf (b .rows) (withoutAddress a l)) × (now (blocks .exit) ≡ blockBytes (dropped (engine B) (withoutAddress a l) (record { free = free; used = used }) (rowOf a l)))) ⌝ }
+        → (r ≡ length (withoutAddress a l)) × (now (addrs .exit) ≡ addressesOf (b .rows) (withoutAddress a l))
+        × (now (blocks .exit) ≡ blockBytes (dropped (engine B) (withoutAddress a l) (record { free = free; used = used }) (rowOf a l)))) ⌝ }
 {
     if b.held <= i {
         return b.held;
     }
     let place = take_row(b, i, addrs, blocks);
     let n = b.held - 1;
-    let c = BoxRecord {
-        size: b.size,
-        blocks: b.blocks,
-        rows: b.rows,
-        slots: b.slots,
-        held: n,
-    };
+    let mut c = b;
+    c.held = n;
     free_unknown(c, place, addrs, blocks);
     n
 }

@@ -1,18 +1,16 @@
--- Two parts of 32 bytes compared by words of eight bytes. Assumes nothing.
+-- Two fingerprints compared by words of eight bytes. Assumes nothing.
 use mathlib.Core.Path.{_≡_, refl, sym, ap, _∙_}
 use mathlib.Core.Bool.{true, false}
-use Prim.Native.Nat.{ℕ, zero, suc, _+_, _-_, _*_, _≤_, _<_}
+use Prim.Native.Nat.{ℕ, zero, suc, _+_, _-_, _*_, _<_}
 use mathlib.Core.List.{List}
-use native.Mathlib.Nat.{add-zero}
 use native.Mathlib.Omega.{arith}
-use lib.Dec.{eqb, ltb}
-use lib.ListN.{length, getD, take, drop}
+use lib.Dec.{ltb}
+use lib.ListN.{length, getD}
 use lib.Seq.{ext-getD}
-use borrow.Author.Tests.{eqb-false, ltb-true, ltb-false}
+use borrow.Author.Tests.{ltb-true, ltb-false}
 use Rattle.tables.specs.Rows.{le8}
 use Rattle.tables.specs.Find.{same}
 use Rattle.tables.specs.FindLaws.{same-refl}
-use Rattle.tables.specs.RowLaws.{length-part, getD-part}
 use Rattle.tables.specs.SoundLaws.{same-true, not-true-false}
 
 digit : (a b x y : ℕ) → a < 256 → b < 256 → a + 256 * x ≡ b + 256 * y → (a ≡ b) × (x ≡ y)
@@ -47,46 +45,27 @@ digits f g h k e =
 le8-horner : (t : List ℕ) (at : ℕ) → le8 t at ≡ horner (λ i. getD t (at + i) 0)
 le8-horner t at = let z : at + 0 ≡ at = omega arith in rw z (omega arith)
 
--- t from index at on, and g, agree up to place k
-abbrev pub Agree : List ℕ → ℕ → List ℕ → ℕ → Type 0
-Agree t at g k = (i : ℕ) → i < k → getD t (at + i) 0 ≡ getD g i 0
+-- f and g agree up to place k
+abbrev pub Agree : List ℕ → List ℕ → ℕ → Type 0
+Agree f g k = (i : ℕ) → i < k → getD f i 0 ≡ getD g i 0
 
-module _ (t : List ℕ) (at : ℕ) (g : List ℕ) where
-  pub agree-more : (k : ℕ) → ((i : ℕ) → getD t i 0 < 256) → ((i : ℕ) → getD g i 0 < 256) → le8 t (at + k) ≡ le8 g k → Agree t at g k → Agree t at g (k + 8)
+module _ (f g : List ℕ) where
+  pub agree-more : (k : ℕ) → ((i : ℕ) → getD f i 0 < 256) → ((i : ℕ) → getD g i 0 < 256) → le8 f k ≡ le8 g k → Agree f g k → Agree f g (k + 8)
   agree-more k h l e a i b =
-      elim (ltb i k) as (λ q. ltb i k ≡ q → getD t (at + i) 0 ≡ getD g i 0) [
+      elim (ltb i k) as (λ q. ltb i k ≡ q → getD f i 0 ≡ getD g i 0) [
         | true ↦ λ o. a i (ltb-true i k o)
         | false ↦ λ o.
             (let m = ltb-false i k o in
-            let x : at + k + (i - k) ≡ at + i = omega arith in
             let y : k + (i - k) ≡ i = omega arith in
-            let d : getD t (at + k + (i - k)) 0 ≡ getD g (k + (i - k)) 0 =
-            digits (λ j. getD t (at + k + j) 0) (λ j. getD g (k + j) 0) (λ j. h (at + k + j)) (λ j. l (k + j)) (sym (le8-horner t (at + k)) ∙ e ∙ le8-horner g k) (i - k) (omega arith) in
-            ap (λ (z : ℕ). getD t z 0) (sym x) ∙ d ∙ ap (λ (z : ℕ). getD g z 0) y)
+            let d : getD f (k + (i - k)) 0 ≡ getD g (k + (i - k)) 0 =
+            digits (λ j. getD f (k + j) 0) (λ j. getD g (k + j) 0) (λ j. h (k + j)) (λ j. l (k + j)) (sym (le8-horner f k) ∙ e ∙ le8-horner g k) (i - k) (omega arith) in
+            ap (λ (z : ℕ). getD f z 0) (sym y) ∙ d ∙ ap (λ (z : ℕ). getD g z 0) y)
       ] refl
 
-  -- equal lists agree, and have equal words
-  agree-all : take 32 (drop at t) ≡ g → Agree t at g 32
-  agree-all e i h = sym (getD-part t at 32 i h) ∙ ap (λ (l : List ℕ). getD l i 0) e
+  pub words-differ : (k : ℕ) → (le8 f k ≡ le8 g k → ⊥) → false ≡ same f g
+  words-differ k n = sym (not-true-false (same f g) (λ e. n (ap (λ (l : List ℕ). le8 l k) (same-true f g e))))
 
-  word-at : (k j : ℕ) → k + 8 ≤ 32 → j < 8 → take 32 (drop at t) ≡ g → getD t (at + k + j) 0 ≡ getD g (k + j) 0
-  word-at k j h l e = let x : at + k + j ≡ at + (k + j) = omega arith in ap (λ (z : ℕ). getD t z 0) x ∙ agree-all e (k + j) (omega arith)
-
-  words-equal : (k : ℕ) → k + 8 ≤ 32 → take 32 (drop at t) ≡ g → le8 t (at + k) ≡ le8 g k
-  words-equal k h e =
-      let w : (j : ℕ) → j < 8 → getD t (at + k + j) 0 ≡ getD g (k + j) 0 = λ j l. word-at k j h l e in
-      let o : horner (λ j. getD t (at + k + j) 0) ≡ horner (λ j. getD g (k + j) 0) =
-      rw (w 0 (omega arith), w 1 (omega arith), w 2 (omega arith), w 3 (omega arith), w 4 (omega arith), w 5 (omega arith), w 6 (omega arith), w 7 (omega arith)) in
-      le8-horner t (at + k) ∙ o ∙ sym (le8-horner g k)
-
-  pub words-differ : (k : ℕ) → k + 8 ≤ 32 → (le8 t (at + k) ≡ le8 g k → ⊥) → false ≡ same (take 32 (drop at t)) g
-  words-differ k h n = sym (not-true-false (same (take 32 (drop at t)) g) (λ e. n (words-equal k h (same-true (take 32 (drop at t)) g e))))
-
-  pub first-differs : eqb (le8 t at) (le8 g 0) ≡ false → false ≡ same (take 32 (drop at t)) g
-  first-differs n = words-differ 0 (omega arith) (λ e. eqb-false (le8 t at) (le8 g 0) n (sym (ap (le8 t) (add-zero at)) ∙ e))
-
-  pub agree-same : at + 32 ≤ length t → length g ≡ 32 → Agree t at g 32 → true ≡ same (take 32 (drop at t)) g
+  pub agree-same : length f ≡ 32 → length g ≡ 32 → Agree f g 32 → true ≡ same f g
   agree-same h l a =
-      let n = length-part t at 32 h in
-      let e : take 32 (drop at t) ≡ g = ext-getD 0 (take 32 (drop at t)) g (n ∙ sym l) (λ i b. (let m : i < 32 = omega arith in getD-part t at 32 i m ∙ a i m)) in
+      let e : f ≡ g = ext-getD 0 f g (h ∙ sym l) (λ i b. a i (omega arith)) in
       sym (rw e (same-refl g))

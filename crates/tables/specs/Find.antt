@@ -51,10 +51,6 @@ hasFingerprint g r = same (readAddress r .fingerprint) g
 abbrev pub isDirty : List ℕ → Bool
 isDirty r = eqb (readAddress r .dirty) 1
 
--- it is dirty and has the fingerprint g
-abbrev pub isDirtyOf : List ℕ → List ℕ → Bool
-isDirtyOf g r = isDirty r && hasFingerprint g r
-
 -- a block row is used; it is used and has the fingerprint g ("cached" means in a used block row)
 abbrev pub isUsed : List ℕ → Bool
 isUsed r = eqb (readBlock r .used) 1

@@ -1,27 +1,73 @@
--- An index over the fingerprints of a block table's rows: for each bucket a row from which a search may start. Assumes nothing.
-use Prim.Native.Nat.{ℕ, _+_, _*_, _%_}
+-- An index over the fingerprints of a block table's used rows: for each bucket a chain of rows that a search follows. Assumes nothing.
+use Prim.Native.Nat.{ℕ, _+_, _-_, _*_, _%_, _≤_, _<_}
 use mathlib.Core.Path.{_≡_}
 use mathlib.Core.Bool.{Bool, true, not, cond, _&&_}
-use mathlib.Core.List.{List, map}
+use mathlib.Core.List.{List, [], map}
 use lib.Dec.{ltb}
-use lib.ListN.{drop, getD}
+use lib.ListN.{length, drop, getD}
 use Rattle.tables.specs.Find.{all, findFrom, caches, hasFingerprint, absent, isDirty, isUsed}
 use Rattle.tables.specs.declared.Found.{Found}
 use Rattle.tables.specs.declared.Found.the-variants.{At, Nothing}
 use Rattle.tables.specs.Sound.{isZero, tailOk, rowSlot}
 use Rattle.tables.specs.Records.{readAddress, readBlock}
+use Rattle.tables.specs.Rows.{rows}
 
--- the bucket of a fingerprint, by its first two bytes
-unfoldable pub bucket : List ℕ → ℕ
-bucket g = (getD g 0 0 + 256 * getD g 1 0) % 16384
+-- `heads` has 4,353 entries: 4,096 of the buckets, 256 of the rows, and one that says which bytes of a fingerprint give its bucket.
+abbrev pub headsLength : ℕ
+headsLength = 4353
 
--- the row that a search for g starts at
+-- the bucket of a fingerprint, by its bytes c and c + 1
+unfoldable pub bucket : ℕ → List ℕ → ℕ
+bucket c g = (getD g c 0 + 256 * getD g (c + 1) 0) % 4096
+
+-- which bytes they are
+abbrev pub choice : List ℕ → ℕ
+choice heads = getD heads 4352 0
+
+-- the row that an entry stands for: 0 for none, row 256, and 256 − k for row k
+abbrev pub entry : List ℕ → ℕ → ℕ
+entry heads x = 256 - getD heads x 0
+
+-- the row that a search for g starts at: the first 4,096 entries are those of the buckets
 abbrev pub start : List ℕ → List ℕ → ℕ
-start heads g = getD heads (bucket g) 0
+start heads g = entry heads (bucket (choice heads) g)
+
+-- the row where a search goes on behind row k: the 256 entries behind them are those of the rows
+abbrev pub onward : List ℕ → ℕ → ℕ
+onward heads k = entry heads (4096 + k)
+
+-- row k is used, and of bucket x
+abbrev pub In : ℕ → List (List ℕ) → ℕ → ℕ → Type 0
+In c rs x k = (isUsed (getD rs k []) ≡ true) × (bucket c (readBlock (getD rs k []) .fingerprint) ≡ x)
 
 -- a search of the rows from k on, and one from where `heads` says, find the same
 abbrev pub Index : ℕ → List ℕ → List (List ℕ) → Type 0
 Index k heads rs = (g : List ℕ) → findFrom (caches g) k (drop k rs) ≡ findFrom (caches g) (start heads g) (drop (start heads g) rs)
+
+-- the entry v of bucket x stands for a used row of that bucket, from row k on, or none
+abbrev pub First : ℕ → ℕ → List (List ℕ) → ℕ → ℕ → Type 0
+First c k rs x v = (v ≤ 256) × ((k ≤ 256 - v) × (256 - v < length rs → In c rs x (256 - v)))
+
+-- behind row k of bucket x, a search for a fingerprint of that bucket goes on at row o
+abbrev pub Goes : ℕ → List (List ℕ) → ℕ → ℕ → ℕ → Type 0
+Goes c rs x k o =
+    (k < o) × ((o < length rs → In c rs x o) × ((g : List ℕ) → bucket c g ≡ x → findFrom (caches g) (k + 1) (drop (k + 1) rs)
+    ≡ findFrom (caches g) o (drop o rs)))
+
+-- the entries of the buckets, and of the used rows from k on
+pub record Linked (k : ℕ) (heads : List ℕ) (rs : List (List ℕ)) : Type 0 where
+  pub chosen : choice heads + 2 ≤ 32
+  pub index : Index k heads rs
+  pub firsts : (x : ℕ) → x < 4096 → First (choice heads) k rs x (getD heads x 0)
+  pub links : (r x : ℕ) → k ≤ r → r < length rs → In (choice heads) rs x r → Goes (choice heads) rs x r (onward heads r)
+
+-- `heads` before an index is made: 0 everywhere
+abbrev pub Blank : List ℕ → Type 0
+Blank heads = (length heads ≡ headsLength) × ((x : ℕ) → x < length heads → getD heads x 0 ≡ 0)
+
+-- `heads` is the index of the d rows of a block table
+abbrev pub Indexed : ℕ → (blocks heads : List ℕ) → Type 0
+Indexed d blocks heads = (length heads ≡ headsLength) × Linked 0 heads (rows d blocks)
 
 -- no used row of rs has the fingerprint of the row r, if r is used
 abbrev pub unique : List ℕ → List (List ℕ) → Bool
@@ -35,10 +81,6 @@ code Nothing = 256
 -- the block row of an address row r, among the block rows rs
 unfoldable pub placeIn : List (List ℕ) → List ℕ → ℕ
 placeIn rs r = code (findFrom (caches (readAddress r .fingerprint)) 0 rs)
-
--- ks has the block row of each of the address rows hs
-abbrev pub Places : List (List ℕ) → List (List ℕ) → List ℕ → Type 0
-Places rs hs ks = ks ≡ map (placeIn rs) hs
 
 -- the fingerprint of an address row is cached
 abbrev pub cachedIn : List (List ℕ) → List ℕ → Bool

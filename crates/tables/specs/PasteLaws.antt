@@ -4,8 +4,8 @@ use Prim.Native.Nat.{ℕ, suc, _+_, _-_, _≤_, _<_}
 use mathlib.Core.List.{List, [], _∷_, _++_, append-assoc}
 use native.Mathlib.Omega.{arith}
 use native.Mathlib.Numerals.{add-one}
-use lib.ListN.{length, getD, set, take, drop, length-append, length-drop, List·getD-append}
-use lib.Seq.{take-suc-set, paste, paste-suc, paste-zero, drop-paste, length-take-le, getD-drop, getD-take, take-suc, drop-cons, set-at}
+use lib.ListN.{length, getD, set, take, drop, length-append, List·getD-append}
+use lib.Seq.{paste, paste-suc, paste-zero, drop-paste, length-take-le, getD-drop, getD-take, take-suc, drop-cons, set-at}
 
 module _ {ℓ} {A : Type ℓ} where
   -- what stands before the run is as it was
@@ -71,10 +71,3 @@ module _ {ℓ} {A : Type ℓ} where
       let q : from + k ≡ from = omega arith in
       let r : n - k ≡ n = omega arith in
       rw (p, q, r) at e
-
-  -- a turn of a loop that fills a list from a part of another
-  pub take-turn : (row t : List A) (at k : ℕ) (z : A) → take k row ≡ take k (drop at t) → k < length row → at + k < length t
-      → take (k + 1) (set row k (getD t (at + k) z)) ≡ take (k + 1) (drop at t)
-  take-turn row t at k z e h g =
-      let g1 : k < length (drop at t) = simp length-drop (omega arith) in
-      rw (add-one, take-suc-set row k (getD t (at + k) z) h, e, ← getD-drop at t k z, ← take-suc (drop at t) k z g1)

@@ -1,4 +1,4 @@
--- The layout of the two tables: a row as a record and as bytes, a table as a list of rows. No other crate of the project opens it.
+-- The layout of the two tables: a row as a record and as bytes, a table as a list of rows. No other crate of the project opens it but `table_laws`.
 -- Assumes nothing.
 use Prim.Native.Nat.{ℕ, zero, suc, _+_, _-_, _*_, _/_, _%_}
 use mathlib.Core.List.{List, [], _∷_, _++_, map}

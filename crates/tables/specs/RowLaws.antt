@@ -113,9 +113,6 @@ module _ (p : List ℕ → Bool) (n : ℕ) (t : List ℕ) (k : ℕ) where
   pub turn-end : n ≤ k → findFrom p k (drop k (rows n t)) ≡ Nothing
   turn-end h = find-end p (rows n t) k [] (rw rows-length h)
 
--- n bytes from index at on: how many, and each
+-- n bytes from index at on: how many
 pub length-part : (t : List ℕ) (at n : ℕ) → at + n ≤ length t → length (take n (drop at t)) ≡ n
 length-part t at n h = length-take-le n (drop at t) (simp length-drop (omega arith))
-
-pub getD-part : (t : List ℕ) (at n k : ℕ) → k < n → getD (take n (drop at t)) k 0 ≡ getD t (at + k) 0
-getD-part t at n k h = getD-take n (drop at t) k 0 h ∙ getD-drop at t k 0

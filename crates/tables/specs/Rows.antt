@@ -1,8 +1,9 @@
 -- A table's bytes as a list of rows of 40 bytes, and what the tables' functions do to that list.
 -- Assumes nothing.
-use Prim.Native.Nat.{ℕ, zero, suc, _+_, _*_}
+use Prim.Native.Nat.{ℕ, zero, suc, _+_, _*_, _≤_}
+use mathlib.Core.Path.{_≡_}
 use mathlib.Core.List.{List, [], _∷_, _++_}
-use lib.ListN.{take, drop, getD, replicate}
+use lib.ListN.{length, take, drop, getD, replicate}
 
 -- "address table (m × 40), block table (d × 40)": the bytes of a row, and of n rows
 abbrev pub rowBytes : ℕ
@@ -10,6 +11,16 @@ rowBytes = 40
 
 abbrev pub tableBytes : ℕ → ℕ
 tableBytes n = n * rowBytes
+
+-- the bytes t have n rows; they have row k; g is a fingerprint
+abbrev pub HasRows : List ℕ → ℕ → Type 0
+HasRows t n = tableBytes n ≤ length t
+
+abbrev pub HasRow : List ℕ → ℕ → Type 0
+HasRow t k = HasRows t (k + 1)
+
+abbrev pub IsPrint : List ℕ → Type 0
+IsPrint g = length g ≡ 32
 
 -- the first n rows of the bytes t
 unfoldable pub rows : ℕ → List ℕ → List (List ℕ)
@@ -34,7 +45,8 @@ le4 t at = getD t at 0 + 256 * getD t (at + 1) 0 + 65536 * getD t (at + 2) 0 + 1
 
 abbrev pub le8 : List ℕ → ℕ → ℕ
 le8 t at =
-    getD t at 0 + 256 * getD t (at + 1) 0 + 65536 * getD t (at + 2) 0 + 16777216 * getD t (at + 3) 0 + 4294967296 * getD t (at + 4) 0 + 1099511627776 * getD t (at + 5) 0 + 281474976710656 * getD t (at + 6) 0 + 72057594037927936 * getD t (at + 7) 0
+    getD t at 0 + 256 * getD t (at + 1) 0 + 65536 * getD t (at + 2) 0 + 16777216 * getD t (at + 3) 0
+    + 4294967296 * getD t (at + 4) 0 + 1099511627776 * getD t (at + 5) 0 + 281474976710656 * getD t (at + 6) 0 + 72057594037927936 * getD t (at + 7) 0
 
 -- "its row is taken out": the list without its element i
 abbrev pub removeAt : {A : Type 0} → List A → ℕ → List A

@@ -7,7 +7,7 @@ use lib.ListN.{length, getD, set, take, drop, length-append, length-drop, length
 use lib.Seq.{paste, take-paste, drop-paste, drop-drop, take-all, take-append-add, drop-at, drop-cons, length-take-le, set-at}
 use Rattle.tables.specs.Rows.{rows, flat, zeros, removeAt, rowAt}
 use Rattle.tables.specs.RowLaws.{flat-rows, flat-append, flat-removeAt, rows-at, length-part}
-use Rattle.tables.specs.Operations.{rowOut, rowAdded, rowNewest, rowFreed, freed, filled}
+use Rattle.tables.specs.Operations.{rowAdded, rowFreed, freed, filled}
 
 pub length-zeros : (n : ℕ) → length (zeros n) ≡ n
 unfolding zeros
@@ -34,37 +34,24 @@ moved-up t x at g =
     let b : drop 40 p ≡ take at t ++ drop (40 + at) t = ap (drop 40) (append-assoc (take 40 t) (take at t) (drop (40 + at) t)) ∙ drop-at (take 40 t) (take at t ++ drop (40 + at) t) 40 (length-part t 0 40 (omega arith)) in
     ap (λ (l : List ℕ). take 40 x ++ l) (b ∙ rw e)
 
--- remove_row
-pub removed : (t : List ℕ) (n i : ℕ) → i < n → n * 40 ≤ length t
-    → paste (paste t (i * 40) (drop (i * 40 + 40) t) (n * 40 - 40 - i * 40)) (n * 40 - 40) (zeros 40) 40 ≡ rowOut n i t
-unfolding rowOut
-removed t n i h g =
-    let e : n * 40 - 40 + 40 ≡ n * 40 = omega arith in
-    let z : length (zeros 40) ≡ 40 = length-zeros 40 in
-    moved-down t (zeros 40) (i * 40) (n * 40 - 40) (omega arith) (omega arith)
-    ∙ rw (flat-removeAt n t i h, take-all 40 (zeros 40) (omega arith), e)
-
 -- push_row
 pub pushed : (t x : List ℕ) (n : ℕ) → length x ≡ 40 → paste t (n * 40) x (length x) ≡ rowAdded n x t
 unfolding flat rowAdded
 pushed t x n l = rw (flat-append (rows n t) (x ∷ []), flat-rows n t, append-nil x, l, take-all 40 x (omega arith))
 
--- row i taken out and x added at the end
-pub replaced : (t x : List ℕ) (d i : ℕ) → i < d → length t ≡ d * 40 → length x ≡ 40
-    → paste (paste t (i * 40) (drop (i * 40 + 40) t) (d * 40 - 40 - i * 40)) (d * 40 - 40) x 40 ≡ flat (removeAt (rows d t) i ++ (x ∷ []))
-unfolding flat
-replaced t x d i h g z =
-    let e : d * 40 - 40 + 40 ≡ d * 40 = omega arith in
-    let k : length t ≤ d * 40 = omega arith in
-    let w : drop (d * 40) t ≡ [] = drop-of-length-le t k in
-    moved-down t x (i * 40) (d * 40 - 40) (omega arith) (omega arith)
-    ∙ rw (flat-append (removeAt (rows d t) i) (x ∷ []), flat-removeAt d t i h, take-all 40 x (omega arith), e, w)
+-- replace: row i taken out of the first n, and x the last of them
+pub replaced : (t x : List ℕ) (n i : ℕ) → i < n → n * 40 ≤ length t → length x ≡ 40
+    → paste (paste t (i * 40) (drop (i * 40 + 40) t) (n * 40 - 40 - i * 40)) (n * 40 - 40) x 40 ≡ flat (removeAt (rows n t) i) ++ (x ++ drop (n * 40) t)
+replaced t x n i h g z =
+    let e : n * 40 - 40 + 40 ≡ n * 40 = omega arith in
+    moved-down t x (i * 40) (n * 40 - 40) (omega arith) (omega arith) ∙ rw (flat-removeAt n t i h, take-all 40 x (omega arith), e)
 
--- to_newest
-pub newest : (t : List ℕ) (d i : ℕ) → i < d → length t ≡ d * 40
-    → paste (paste t (i * 40) (drop (i * 40 + 40) t) (d * 40 - 40 - i * 40)) (d * 40 - 40) (rowAt t i) 40 ≡ rowNewest d i t
-unfolding rowNewest
-newest t d i h g = replaced t (rowAt t i) d i h g (length-part t (i * 40) 40 (omega arith)) ∙ rw (rows-at d t i h)
+-- the same in a table of d rows
+pub replaced-all : (t x : List ℕ) (d i : ℕ) → length t ≡ d * 40 → flat (removeAt (rows d t) i) ++ (x ++ drop (d * 40) t) ≡ flat (removeAt (rows d t) i ++ (x ∷ []))
+unfolding flat
+replaced-all t x d i g =
+    let k : length t ≤ d * 40 = omega arith in
+    rw (flat-append (removeAt (rows d t) i) (x ∷ []), drop-of-length-le t k)
 
 -- a row with its fingerprint and its last four bytes cleared
 pub cleared : (r : List ℕ) → length r ≡ 40 → paste (paste r 0 (zeros 32) 32) 36 (zeros 4) 4 ≡ freed r

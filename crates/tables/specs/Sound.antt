@@ -4,19 +4,17 @@ use mathlib.Core.Bool.{Bool, true, false, not, cond, _&&_}
 use mathlib.Core.List.{List, [], _∷_, map}
 use lib.Dec.{eqb, leb, ltb}
 use lib.ListN.{length, drop, getD}
-use Rattle.tables.specs.Rows.{rows, le4, tableBytes}
+use Rattle.tables.specs.Rows.{rows, tableBytes}
 use Rattle.tables.specs.Records.{readAddress, readBlock}
 use Rattle.tables.specs.Find.{all, every, caches, findFrom, absent, isUsed}
 use Rattle.tables.specs.Unsound.{elem}
+use Rattle.tables.specs.declared.row.Number.{Number}
+use Rattle.tables.specs.declared.row.Number.the-variants.{Address, Slot}
 
 -- no number is in the list twice
 unfoldable pub distinct : List ℕ → Bool
 distinct [] = true
 distinct (x ∷ xs) = not (elem x xs) && distinct xs
-
--- the number in the four bytes at place j of a row
-abbrev pub wordOf : ℕ → List ℕ → ℕ
-wordOf j r = le4 r j
 
 -- a row's address, a row's slot
 abbrev pub rowAddress : List ℕ → ℕ
@@ -24,6 +22,10 @@ rowAddress r = readAddress r .address
 
 abbrev pub rowSlot : List ℕ → ℕ
 rowSlot r = readBlock r .slot
+
+abbrev pub numberOf : Number → List ℕ → ℕ
+numberOf Address r = rowAddress r
+numberOf Slot r = rowSlot r
 
 -- the last four bytes of a row: a byte that is 0 or 1, and three zeros
 unfoldable pub tailOk : List ℕ → Bool
@@ -35,6 +37,10 @@ addressOk P r = ltb (rowAddress r) P && tailOk r
 
 abbrev pub isZero : ℕ → Bool
 isZero x = eqb x 0
+
+-- a row of zeros
+abbrev pub zeroRow : List ℕ → Bool
+zeroRow r = all isZero r
 
 -- an address table of m rows, n of them held, over P disk blocks
 unfoldable pub soundAddresses : ℕ → ℕ → ℕ → List ℕ → Bool

@@ -8,8 +8,8 @@ use native.Mathlib.Omega.{arith}
 use lib.Dec.{eqb, leb}
 use lib.ListN.{replicate, length-replicate, getD-replicate, length, getD, set, drop, length-set, length-map, drop-of-length-le}
 use lib.Seq.{drop-cons, getD-set-same, getD-set-other}
-use borrow.Author.Tests.{eqb-true, eqb-false, ltb-true}
-use Rattle.tables.specs.Rows.{rows, rowAt}
+use borrow.Author.Tests.{eqb-true, eqb-false, ltb-true, leb-true, leb-false, le-leb, eq-eqb}
+use Rattle.tables.specs.Rows.{rows, rowAt, le4}
 use Rattle.tables.specs.Find.{all, every, same}
 use Rattle.tables.specs.Unsound.{elem}
 use Rattle.tables.specs.Sound.{distinct, tailOk, addressOk, mark, rowAddress, rowSlot}
@@ -23,15 +23,15 @@ pub tail-rowAt : (t : List ℕ) (k : ℕ)
 unfolding tailOk
 tail-rowAt t k = rw (getD-rowAt t k 36 (omega arith), getD-rowAt t k 37 (omega arith), getD-rowAt t k 38 (omega arith), getD-rowAt t k 39 (omega arith))
 
--- a turn on row k of a check of all rows
-module _ (p : List ℕ → Bool) (n : ℕ) (t : List ℕ) (k : ℕ) (i : all p (rows n t) ≡ all p (drop k (rows n t))) where
-  pub rows-all-more : k < n → p (rowAt t k) ≡ true → all p (rows n t) ≡ all p (drop (k + 1) (rows n t))
+-- a turn on row k of a check of all rows, or of those from some row on: b is what it finds
+module _ {b : Bool} (p : List ℕ → Bool) (n : ℕ) (t : List ℕ) (k : ℕ) (i : b ≡ all p (drop k (rows n t))) where
+  pub rows-all-more : k < n → p (rowAt t k) ≡ true → b ≡ all p (drop (k + 1) (rows n t))
   rows-all-more h e = i ∙ all-hit p (rows n t) k [] (rw rows-length h) (rw (rows-at n t k h) e)
 
-  pub rows-all-fails : k < n → p (rowAt t k) ≡ false → false ≡ all p (rows n t)
+  pub rows-all-fails : k < n → p (rowAt t k) ≡ false → false ≡ b
   rows-all-fails h e = sym (i ∙ all-miss p (rows n t) k [] (rw rows-length h) (rw (rows-at n t k h) e))
 
-  pub rows-all-holds : n ≤ k → true ≡ all p (rows n t)
+  pub rows-all-holds : n ≤ k → true ≡ b
   rows-all-holds h = sym (i ∙ all-end p (rows n t) k [] (rw rows-length h))
 
 pub and-left : (a b : Bool) → a && b ≡ true → a ≡ true
@@ -206,3 +206,31 @@ pub map-drop : {A B : Type 0} (f : A → B) (k : ℕ) (xs : List A) → map f (d
 map-drop f zero xs = refl
 map-drop f (suc k) [] = refl
 map-drop f (suc k) (x ∷ xs) = map-drop f k xs
+
+-- they are right if the number that they make is at most 1
+tail-small : (a b c d : ℕ) (q : Bool) → leb (a + 256 * b + 65536 * c + 16777216 * d) 1 ≡ q → q ≡ leb a 1 && (eqb b 0 && (eqb c 0 && eqb d 0))
+tail-small a b c d true e =
+    let h = leb-true (a + 256 * b + 65536 * c + 16777216 * d) 1 e in
+    let ha : a ≤ 1 = omega arith in
+    let hb : b ≡ 0 = omega arith in
+    let hc : c ≡ 0 = omega arith in
+    let hd : d ≡ 0 = omega arith in
+    sym (rw (le-leb a 1 ha, eq-eqb b 0 hb, eq-eqb c 0 hc, eq-eqb d 0 hd))
+tail-small a b c d false e =
+    sym (not-true-false (leb a 1 && (eqb b 0 && (eqb c 0 && eqb d 0)))
+    (λ o.
+    (let h = leb-false (a + 256 * b + 65536 * c + 16777216 * d) 1 e in
+    let ha = leb-true a 1 (and-left (leb a 1) (eqb b 0 && (eqb c 0 && eqb d 0)) o) in
+    let o1 = and-right (leb a 1) (eqb b 0 && (eqb c 0 && eqb d 0)) o in
+    let hb = eqb-true b 0 (and-left (eqb b 0) (eqb c 0 && eqb d 0) o1) in
+    let o2 = and-right (eqb b 0) (eqb c 0 && eqb d 0) o1 in
+    let hc = eqb-true c 0 (and-left (eqb c 0) (eqb d 0) o2) in
+    let hd = eqb-true d 0 (and-right (eqb c 0) (eqb d 0) o2) in
+    absurd (omega arith))))
+
+pub tail-number : (t : List ℕ) (k : ℕ) → leb (le4 t (k * 40 + 36)) 1 ≡ tailOk (rowAt t k)
+tail-number t k =
+    let e1 : k * 40 + 36 + 1 ≡ k * 40 + 37 = omega arith in
+    let e2 : k * 40 + 36 + 2 ≡ k * 40 + 38 = omega arith in
+    let e3 : k * 40 + 36 + 3 ≡ k * 40 + 39 = omega arith in
+    rw (e1, e2, e3) (tail-small (getD t (k * 40 + 36) 0) (getD t (k * 40 + 37) 0) (getD t (k * 40 + 38) 0) (getD t (k * 40 + 39) 0) _ refl ∙ sym (tail-rowAt t k))

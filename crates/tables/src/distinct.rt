@@ -1,14 +1,15 @@
 // Whether the addresses, or the slots, of a table's rows are all different.
 use crate::row;
+use crate::row::Number;
 ghost use mathlib.Core.Path.{_≡_};
 ghost use mathlib.Core.Bool.{true, cond};
 ghost use mathlib.Core.List.{map};
-ghost use Prim.Native.Nat.{ℕ, _+_, _*_, _<_, _≤_};
+ghost use Prim.Native.Nat.{ℕ, _*_, _<_};
 ghost use lib.Dec.{eqb};
 ghost use lib.ListN.{length};
-ghost use Rattle.tables.specs.Rows.{rows, rowAt, tableBytes};
+ghost use Rattle.tables.specs.Rows.{rows, rowAt, HasRows};
 ghost use Rattle.tables.specs.Bits.{bitAt};
-ghost use Rattle.tables.specs.Sound.{distinct, wordOf, rowAddress, rowSlot};
+ghost use Rattle.tables.specs.Sound.{distinct, numberOf, rowAddress, rowSlot};
 
 // Sets the bit of `x` in `seen`, where eight numbers have a byte. Whether it was clear.
 pub(crate) fn set_bit(seen: &mut [u8], x: usize) -> bool
@@ -27,18 +28,18 @@ pub(crate) fn set_bit(seen: &mut [u8], x: usize) -> bool
     true
 }
 
-// Whether the numbers at place `j` of the first `n` rows are all different. `seen` has a bit, clear at first, for each number that can occur.
-pub(crate) fn words_distinct(t: &[u8], n: usize, j: usize, seen: &mut [u8]) -> bool
-    requires { ⌜ (tableBytes n ≤ length (now t)) × (j + 4 ≤ 40) ⌝ }
-    requires { ⌜ ((k : ℕ) → k < n → wordOf j (rowAt (now t) k) < length (now seen) * 8) ⌝ }
+// Whether the addresses, or the slots, of the first `n` rows are all different. `seen` has a bit, clear at first, for each number that can occur.
+pub(crate) fn numbers_distinct(t: &[u8], n: usize, which: Number, seen: &mut [u8]) -> bool
+    requires { ⌜ HasRows (now t) n ⌝ }
+    requires { ⌜ ((k : ℕ) → k < n → numberOf which (rowAt (now t) k) < length (now seen) * 8) ⌝ }
     requires { ⌜ ((x : ℕ) → x < length (now seen) * 8 → bitAt (now seen) x ≡ 0) ⌝ }
-    ensures { λ r. ⌜ r ≡ distinct (map (wordOf j) (rows n (now (t .entry)))) ⌝ }
+    ensures { λ r. ⌜ r ≡ distinct (map (numberOf which) (rows n (now (t .entry)))) ⌝ }
     ensures { λ r. ⌜ length (now (seen .exit)) ≡ length (now (seen .entry)) ⌝ }
 {
     let mut k = n;
     while 0 < k {
         k -= 1;
-        let x = row::word_at(t, k * 40 + j) as usize;
+        let x = row::number_at(t, k, which) as usize;
         if !set_bit(seen, x) {
             return false;
         }
@@ -48,20 +49,30 @@ pub(crate) fn words_distinct(t: &[u8], n: usize, j: usize, seen: &mut [u8]) -> b
 
 // Whether the addresses of the first `n` rows are all different.
 pub fn addresses_distinct(t: &[u8], n: usize) -> bool
-    requires { ⌜ tableBytes n ≤ length (now t) ⌝ }
+    requires { ⌜ HasRows (now t) n ⌝ }
     requires { ⌜ ((k : ℕ) → k < n → rowAddress (rowAt (now t) k) < 65536) ⌝ }
     ensures { λ r. ⌜ r ≡ distinct (map rowAddress (rows n (now (t .entry)))) ⌝ }
 {
     let mut seen = [0u8; 8192];
-    words_distinct(t, n, 0, &mut seen)
+    numbers_distinct(t, n, Number::Address, &mut seen)
+}
+
+// The same where the addresses are below 4,096: with fewer bytes to clear.
+pub fn few_distinct(t: &[u8], n: usize) -> bool
+    requires { ⌜ HasRows (now t) n ⌝ }
+    requires { ⌜ ((k : ℕ) → k < n → rowAddress (rowAt (now t) k) < 4096) ⌝ }
+    ensures { λ r. ⌜ r ≡ distinct (map rowAddress (rows n (now (t .entry)))) ⌝ }
+{
+    let mut seen = [0u8; 512];
+    numbers_distinct(t, n, Number::Address, &mut seen)
 }
 
 // Whether the slots of the first `d` rows are all different.
 pub fn slots_distinct(t: &[u8], d: usize) -> bool
-    requires { ⌜ tableBytes d ≤ length (now t) ⌝ }
+    requires { ⌜ HasRows (now t) d ⌝ }
     requires { ⌜ ((k : ℕ) → k < d → rowSlot (rowAt (now t) k) < 256) ⌝ }
     ensures { λ r. ⌜ r ≡ distinct (map rowSlot (rows d (now (t .entry)))) ⌝ }
 {
     let mut seen = [0u8; 32];
-    words_distinct(t, d, 32, &mut seen)
+    numbers_distinct(t, d, Number::Slot, &mut seen)
 }

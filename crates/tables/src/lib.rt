@@ -1,4 +1,4 @@
-// Tables of 40-byte rows in lent bytes.
+// Tables of rows in lent bytes.
 pub mod distinct;
 pub mod find;
 pub mod fresh;

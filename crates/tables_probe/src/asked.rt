@@ -1,5 +1,6 @@
 // The checks for 6, 7 and 8, and what is asked of every row of two tables that pass them.
 use crate::fit;
+use checks::index;
 use checks::known;
 use checks::sound;
 ghost use mathlib.Core.Path.{_≡_};
@@ -26,7 +27,7 @@ pub extern "C" fn tables_probe_addresses_unsound(t: &[u8], m: usize, n: usize, p
 pub extern "C" fn tables_probe_blocks_unsound(t: &[u8], d: usize) -> bool
     ensures { λ r. ⌜ r ≡ not (blocksFit d (now (t .entry))) || blocksUnsound d (now (t .entry)) ⌝ }
 {
-    let mut heads = [256u16; 16384];
+    let mut heads = [0u16; index::ENTRIES];
     sound::blocks_unsound(t, d, &mut heads)
 }
 
@@ -42,8 +43,8 @@ pub extern "C" fn tables_probe_refused(
 ) -> u32
     ensures { λ r. ⌜ r ≡ refused p m n d (now (addresses .entry)) (now (blocks .entry)) ⌝ }
 {
-    let mut places = [0u16; 1024];
-    sound::tables_refused(addresses, m, n, p, blocks, d, &mut places)
+    let mut heads = [0u16; index::ENTRIES];
+    sound::tables_refused(addresses, m, n, p, blocks, d, &mut heads)
 }
 
 // The index of the block row of held row `k`, 256 where its fingerprint isn't cached.
@@ -57,17 +58,18 @@ pub extern "C" fn tables_probe_place(
     d: usize,
     k: usize,
 ) -> usize
-    ensures { λ r. ⌜ r ≡ ifSound p m n d (now (addresses .entry)) (now (blocks .entry)) (cond (ltb k n) (placeIn (rows d (now (blocks .entry))) (rowAt (now (addresses .entry)) k)) none) ⌝ }
+    ensures { λ r. ⌜ r ≡ ifSound p m n d (now (addresses .entry)) (now (blocks .entry))
+        (cond (ltb k n) (placeIn (rows d (now (blocks .entry))) (rowAt (now (addresses .entry)) k)) none) ⌝ }
 {
-    let mut places = [0u16; 1024];
-    let number = sound::tables_refused(addresses, m, n, p, blocks, d, &mut places);
+    let mut heads = [0u16; index::ENTRIES];
+    let number = sound::tables_refused(addresses, m, n, p, blocks, d, &mut heads);
     if number != 0 {
         return fit::NONE;
     }
     if n <= k {
         return fit::NONE;
     }
-    fit::wide(places[k])
+    known::place_of(addresses, k, blocks, d, &heads)
 }
 
 // 1 where some held row but the newest is without its block, else 0.
@@ -80,17 +82,18 @@ pub extern "C" fn tables_probe_some_uncached(
     blocks: &[u8],
     d: usize,
 ) -> usize
-    ensures { λ r. ⌜ r ≡ ifSound p m n d (now (addresses .entry)) (now (blocks .entry)) (mark (not (all (cachedIn (rows d (now (blocks .entry)))) (rows (n - 1) (now (addresses .entry)))))) ⌝ }
+    ensures { λ r. ⌜ r ≡ ifSound p m n d (now (addresses .entry)) (now (blocks .entry))
+        (mark (not (all (cachedIn (rows d (now (blocks .entry)))) (rows (n - 1) (now (addresses .entry)))))) ⌝ }
 {
-    let mut places = [0u16; 1024];
-    let number = sound::tables_refused(addresses, m, n, p, blocks, d, &mut places);
+    let mut heads = [0u16; index::ENTRIES];
+    let number = sound::tables_refused(addresses, m, n, p, blocks, d, &mut heads);
     if number != 0 {
         return fit::NONE;
     }
     if n == 0 {
         return 0;
     }
-    if known::all_cached(addresses, n - 1, blocks, d, &places) {
+    if known::all_cached(addresses, n - 1, blocks, d, &heads) {
         return 0;
     }
     1
@@ -106,13 +109,14 @@ pub extern "C" fn tables_probe_oldest_unknown(
     blocks: &[u8],
     d: usize,
 ) -> usize
-    ensures { λ r. ⌜ r ≡ ifSound p m n d (now (addresses .entry)) (now (blocks .entry)) (number (findFrom (unknownIn (rows n (now (addresses .entry)))) 0 (rows d (now (blocks .entry))))) ⌝ }
+    ensures { λ r. ⌜ r ≡ ifSound p m n d (now (addresses .entry)) (now (blocks .entry))
+        (number (findFrom (unknownIn (rows n (now (addresses .entry)))) 0 (rows d (now (blocks .entry))))) ⌝ }
 {
-    let mut places = [0u16; 1024];
-    let number = sound::tables_refused(addresses, m, n, p, blocks, d, &mut places);
+    let mut heads = [0u16; index::ENTRIES];
+    let number = sound::tables_refused(addresses, m, n, p, blocks, d, &mut heads);
     if number != 0 {
         return fit::NONE;
     }
-    let found = known::oldest_unknown(addresses, n, blocks, d, &places);
+    let found = known::oldest_unknown(addresses, n, blocks, d, &heads);
     fit::number(found)
 }

@@ -3,6 +3,7 @@ use crate::fit;
 use tables::SourceAddress;
 use tables::fresh;
 use tables::put;
+use tables::row;
 use tables::shift;
 ghost use mathlib.Core.Path.{_≡_};
 ghost use mathlib.Core.Bool.{cond};
@@ -24,7 +25,8 @@ pub extern "C" fn tables_probe_remove_row(t: &mut [u8], n: usize, i: usize)
 // Adds a row behind the first `n`.
 #[no_mangle]
 pub extern "C" fn tables_probe_push_address(t: &mut [u8], n: usize, a: u32, g: &[u8], dirty: u8)
-    ensures { λ _. ⌜ now (t .exit) ≡ cond (fitsMore n (now (t .entry)) (now (g .entry))) (rowAdded n (addressBytes (addressRow a (now (g .entry)) dirty)) (now (t .entry))) (now (t .entry)) ⌝ }
+    ensures { λ _. ⌜ now (t .exit) ≡ cond (fitsMore n (now (t .entry)) (now (g .entry)))
+        (rowAdded n (addressBytes (addressRow a (now (g .entry)) dirty)) (now (t .entry))) (now (t .entry)) ⌝ }
 {
     if fit::fits_more(t, n, g) {
         put::push_address(t, n, SourceAddress(a), g, dirty);
@@ -37,7 +39,7 @@ pub extern "C" fn tables_probe_set_clean(t: &mut [u8], n: usize, i: usize)
     ensures { λ _. ⌜ now (t .exit) ≡ cond (fitsRow n (now (t .entry)) i) (rowCleaned i (now (t .entry))) (now (t .entry)) ⌝ }
 {
     if fit::fits_row(t, n, i) {
-        put::set_clean(t, i);
+        row::set_clean(t, i);
     }
 }
 
@@ -64,7 +66,8 @@ pub extern "C" fn tables_probe_to_front(t: &mut [u8], d: usize, i: usize)
 // Fills block row `i` of `d` with the fingerprint `g`, and moves it to the end.
 #[no_mangle]
 pub extern "C" fn tables_probe_put_block(t: &mut [u8], d: usize, i: usize, g: &[u8])
-    ensures { λ _. ⌜ now (t .exit) ≡ cond (fitsBlockWith d (now (t .entry)) i (now (g .entry))) (rowFilled d i (now (g .entry)) (now (t .entry))) (now (t .entry)) ⌝ }
+    ensures { λ _. ⌜ now (t .exit) ≡ cond (fitsBlockWith d (now (t .entry)) i (now (g .entry))) (rowFilled d i (now (g .entry)) (now (t .entry)))
+        (now (t .entry)) ⌝ }
 {
     if fit::fits_block_with(t, d, i, g) {
         put::put_block(t, d, i, g);

@@ -5,10 +5,9 @@ use tables::find;
 use tables::row;
 ghost use mathlib.Core.Path.{_≡_};
 ghost use mathlib.Core.Bool.{cond, _&&_};
-ghost use lib.ListN.{drop};
 ghost use Rattle.tables.specs.Rows.{rows, rowAt};
 ghost use Rattle.tables.specs.Records.{readAddress, readBlock};
-ghost use Rattle.tables.specs.Find.{findFrom, hasAddress, hasFingerprint, isDirty, isDirtyOf, isUsed, caches};
+ghost use Rattle.tables.specs.Find.{findFrom, hasAddress, hasFingerprint, isDirty, isUsed, caches};
 ghost use Rattle.tables_probe.specs.Probe.{none, number, fits, fitsWith, fitsRow};
 
 // The first of `n` address rows with the address `a`.
@@ -26,7 +25,8 @@ pub extern "C" fn tables_probe_find_address(t: &[u8], n: usize, a: u32) -> usize
 // The first of `n` address rows with the fingerprint `g`.
 #[no_mangle]
 pub extern "C" fn tables_probe_find_fingerprint(t: &[u8], n: usize, g: &[u8]) -> usize
-    ensures { λ r. ⌜ r ≡ cond (fitsWith n (now (t .entry)) (now (g .entry))) (number (findFrom (hasFingerprint (now (g .entry))) 0 (rows n (now (t .entry))))) none ⌝ }
+    ensures { λ r. ⌜ r ≡ cond (fitsWith n (now (t .entry)) (now (g .entry)))
+        (number (findFrom (hasFingerprint (now (g .entry))) 0 (rows n (now (t .entry))))) none ⌝ }
 {
     if !fit::fits_with(t, n, g) {
         return fit::NONE;
@@ -44,30 +44,6 @@ pub extern "C" fn tables_probe_find_cached(t: &[u8], n: usize, g: &[u8]) -> usiz
         return fit::NONE;
     }
     let found = find::find_cached(t, n, g);
-    fit::number(found)
-}
-
-// The first dirty row of `n`, from row `from` on.
-#[no_mangle]
-pub extern "C" fn tables_probe_next_dirty(t: &[u8], n: usize, from: usize) -> usize
-    ensures { λ r. ⌜ r ≡ cond (fits n (now (t .entry))) (number (findFrom isDirty from (drop from (rows n (now (t .entry)))))) none ⌝ }
-{
-    if !fit::fits(t, n) {
-        return fit::NONE;
-    }
-    let found = find::next_dirty(t, n, from);
-    fit::number(found)
-}
-
-// The first dirty row of `n` with the fingerprint `g`, from row `from` on.
-#[no_mangle]
-pub extern "C" fn tables_probe_next_dirty_of(t: &[u8], n: usize, from: usize, g: &[u8]) -> usize
-    ensures { λ r. ⌜ r ≡ cond (fitsWith n (now (t .entry)) (now (g .entry))) (number (findFrom (isDirtyOf (now (g .entry))) from (drop from (rows n (now (t .entry)))))) none ⌝ }
-{
-    if !fit::fits_with(t, n, g) {
-        return fit::NONE;
-    }
-    let found = find::next_dirty_of(t, n, from, g);
     fit::number(found)
 }
 

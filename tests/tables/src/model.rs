@@ -162,14 +162,6 @@ pub fn find_cached(rows: &[BlockRow], g: &[u8]) -> usize {
     index(rows.iter().position(|row| row.caches(g)))
 }
 
-pub fn next_dirty(rows: &[AddressRow], from: usize) -> usize {
-    index((from..rows.len()).find(|k| rows[*k].dirty == 1))
-}
-
-pub fn next_dirty_of(rows: &[AddressRow], from: usize, g: &[u8]) -> usize {
-    index((from..rows.len()).find(|k| rows[*k].dirty == 1 && rows[*k].fingerprint[..] == *g))
-}
-
 /// "some row other than the newest has a fingerprint that is not cached"
 pub fn some_uncached(held: &[AddressRow], blocks: &[BlockRow]) -> usize {
     let older = &held[..held.len().saturating_sub(1)];

@@ -17,8 +17,6 @@ mod foreign {
         pub fn tables_probe_find_address(t: P, len: usize, n: usize, a: u32) -> usize;
         pub fn tables_probe_find_fingerprint(t: P, len: usize, n: usize, g: P, glen: usize) -> usize;
         pub fn tables_probe_find_cached(t: P, len: usize, n: usize, g: P, glen: usize) -> usize;
-        pub fn tables_probe_next_dirty(t: P, len: usize, n: usize, from: usize) -> usize;
-        pub fn tables_probe_next_dirty_of(t: P, len: usize, n: usize, from: usize, g: P, glen: usize) -> usize;
         pub fn tables_probe_address_at(t: P, len: usize, n: usize, i: usize) -> u32;
         pub fn tables_probe_slot_at(t: P, len: usize, n: usize, i: usize) -> u32;
         pub fn tables_probe_is_dirty(t: P, len: usize, n: usize, i: usize) -> bool;
@@ -74,8 +72,6 @@ both!(oldest_unknown, tables_probe_oldest_unknown() -> usize);
 shared!(find_address, tables_probe_find_address(n: usize, a: u32) -> usize);
 searching!(find_fingerprint, tables_probe_find_fingerprint(n: usize));
 searching!(find_cached, tables_probe_find_cached(n: usize));
-shared!(next_dirty, tables_probe_next_dirty(n: usize, from: usize) -> usize);
-searching!(next_dirty_of, tables_probe_next_dirty_of(n: usize, from: usize));
 shared!(address_at, tables_probe_address_at(n: usize, i: usize) -> u32);
 shared!(slot_at, tables_probe_slot_at(n: usize, i: usize) -> u32);
 shared!(is_dirty, tables_probe_is_dirty(n: usize, i: usize) -> bool);

@@ -39,9 +39,6 @@ fn compare_questions(t: &Tables, random: &mut Random, context: &str) {
     for g in &wanted {
         assert_eq!(probe::find_cached(&t.blocks, t.d, g), model::find_cached(&blocks, g), "find_cached: {context}");
         assert_eq!(probe::find_fingerprint(&t.addresses, t.n, g), model::find_fingerprint(&held, g), "find_fingerprint: {context}");
-        let from = random.below(t.n + 2);
-        assert_eq!(probe::next_dirty_of(&t.addresses, t.n, from, g), model::next_dirty_of(&held, from, g), "next_dirty_of: {context}");
-        assert_eq!(probe::next_dirty(&t.addresses, t.n, from), model::next_dirty(&held, from), "next_dirty: {context}");
         assert_eq!(probe::find_cached(&t.blocks, t.d, &g[1..]), NONE, "31 bytes: {context}");
     }
     let mut addresses = vec![0, t.p as u32, random.number() as u32];

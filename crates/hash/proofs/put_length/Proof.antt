@@ -1,12 +1,14 @@
 -- `hash::put_length` meets its contract.
 -- Assumes nothing.
+use Rattle.hash.specs.Sha256.{bytes64}
 use Rattle.hash.proofs.Laws.{stored}
 use borrow.Author.Needs.{needs}
 use Rattle.hash.proofs.put_length.Statement.{statement}
 use Rattle.hash.proofs.put_length.Tie as tie
 
 returns : tie.Need-returns
-returns c = stored (c .args .last) (c .args .at) (c .args .bits)
+unfolding bytes64
+returns c = stored (c .args .last) (c .args .at) _ _ _ _ _ _ _ _
 
 pub put-length-spec : {M : Type 1} → statement M
 put-length-spec =

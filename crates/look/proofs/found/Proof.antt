@@ -3,8 +3,9 @@ use native.Mathlib.Omega.{arith}
 use Rattle.paper.specs.Cache.{noCounts}
 use Rattle.paper.specs.Lent.{Ask, boxIn}
 use Rattle.paper.specs.RowBytes.{Bytes}
-use Rattle.refusals.specs.Given.{numbersOf, lent}
-use Rattle.policy.specs.CallLaws.{all-bytes, rep, sizes}
+use Rattle.parts.specs.Rep.{numbersOf}
+use Rattle.refusals.specs.Given.{lent}
+use Rattle.policy.specs.CallLaws.{all-bytes, rep, sized}
 use Rattle.look.specs.LookLaws.{found-flash, found-disk}
 use Rattle.look.proofs.found.Statement.{statement}
 use Rattle.look.proofs.found.Tie as tie
@@ -22,23 +23,23 @@ row-of-requires : tie.Need-row-of-requires
 row-of-requires c κs =
     let s = start c in
     let a = s .args in
-    let z = sizes (a .b) (a .disk .now) (a .flash .now) (a .addresses .now) (a .blocks .now) noCounts (Ask.look (a .a .0)) (s .pre noCounts) (bytesA c) (bytesB c) in
-    omega (arith, z .2, z .3)
+    let z = sized (a .b) (a .disk .now) (a .flash .now) (a .addresses .now) (a .blocks .now) noCounts (Ask.look (a .a .0)) (s .pre noCounts) (bytesA c) (bytesB c) in
+    omega (arith, z .0, z .1)
 
 place-of-row-requires : tie.Need-place-of-row-requires
 place-of-row-requires c κs =
     let s = start (c .before) in
     let a = s .args in
-    let z = sizes (a .b) (a .disk .now) (a .flash .now) (a .addresses .now) (a .blocks .now) noCounts (Ask.look (a .a .0)) (s .pre noCounts) (bytesA (c .before)) (bytesB (c .before)) in
-    (z .2, z .3, z .4)
+    let z = sized (a .b) (a .disk .now) (a .flash .now) (a .addresses .now) (a .blocks .now) noCounts (Ask.look (a .a .0)) (s .pre noCounts) (bytesA (c .before)) (bytesB (c .before)) in
+    z
 
 slot-at-requires : tie.Need-slot-at-requires
 slot-at-requires c κs =
     let h = c .before .before .before .before in
     let s = start h in
     let a = s .args in
-    let z = sizes (a .b) (a .disk .now) (a .flash .now) (a .addresses .now) (a .blocks .now) noCounts (Ask.look (a .a .0)) (s .pre noCounts) (bytesA h) (bytesB h) in
-    omega (arith, z .4, c .if1 .taken)
+    let z = sized (a .b) (a .disk .now) (a .flash .now) (a .addresses .now) (a .blocks .now) noCounts (Ask.look (a .a .0)) (s .pre noCounts) (bytesA h) (bytesB h) in
+    omega (arith, z .2, c .if1 .taken)
 
 returns : tie.Need-returns
 returns c k =

@@ -1,7 +1,8 @@
 -- By the place. Assumes nothing.
 use mathlib.Core.Path.{sym, ap, _∙_}
 use borrow.Author.Needs.{needs}
-use Rattle.refusals.specs.Given.{numbersOf, lent}
+use Rattle.parts.specs.Rep.{numbersOf}
+use Rattle.refusals.specs.Given.{lent}
 use Rattle.look.specs.Look.{answerAt}
 use Rattle.look.specs.LookLaws.{look-answers}
 use Rattle.look.proofs.look.Statement.{statement}

@@ -1,7 +1,8 @@
 -- By the refusal's number. Assumes nothing.
 use mathlib.Core.Path.{sym, _∙_}
 use borrow.Author.Needs.{needs}
-use Rattle.refusals.specs.Given.{numbersOf, lent}
+use Rattle.parts.specs.Rep.{numbersOf}
+use Rattle.refusals.specs.Given.{lent}
 use Rattle.look.specs.LookLaws.{where-refused}
 use Rattle.look.proofs.place_of.Statement.{statement}
 use Rattle.look.proofs.place_of.Tie as tie

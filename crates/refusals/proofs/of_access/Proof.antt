@@ -3,7 +3,8 @@ use mathlib.Core.Path.{sym, _∙_}
 use native.Mathlib.Omega.{arith}
 use borrow.Author.Needs.{needs}
 use Rattle.paper.specs.Lent.{Ask}
-use Rattle.refusals.specs.Given.{numbersOf, countersOf, lent}
+use Rattle.parts.specs.Rep.{numbersOf}
+use Rattle.refusals.specs.Given.{countersOf, lent}
 use Rattle.refusals.specs.Sizes.{Opens, opens-with}
 use Rattle.refusals.proofs.Refusing.{refused-first, access-2, access-3, access-rest}
 use Rattle.refusals.proofs.of_access.Statement.{statement}
@@ -41,7 +42,7 @@ of-state-requires : tie.Need-of-state-requires
 of-state-requires c κs =
     let e = c .before .before .before .before .before in
     let o = opens e in
-    (o .most .blocks, o .most .rows, o .most .slots, o .lengths .addresses, o .lengths .blocks, start e .pre)
+    ((o .most .blocks, o .most .rows, o .most .slots, o .lengths .addresses, o .lengths .blocks), start e .pre)
 
 returns-4 : tie.Need-returns-4
 returns-4 c =
@@ -50,7 +51,7 @@ returns-4 c =
     let f = g .before .before in
     let e = f .before .before in
     let a = start e .args in
-    (t .of-state .ensures .0 ∙ access-rest (a .b) (a .disk .now) (a .flash .now) (a .addresses .now) (a .blocks .now) (countersOf (a .c)) (opens e) (a .a .0) (a .block .now) (f .if2 .left) (sym (g .before .address-outside .ensures) ∙ g .if3 .left), t .of-state .ensures .1)
+    (t .of-state .ensures .0 ∙ access-rest (a .b) (a .disk .now) (a .flash .now) (a .addresses .now) (a .blocks .now) (countersOf (a .c)) (opens e) (a .a .0) (a .block .now) (f .if2 .left) (sym (g .before .address-outside .ensures) ∙ g .if3 .left), t .of-state .ensures .1 .0)
 
 pub of-access-spec : {M : Type 1} → statement M
 of-access-spec = tie.close (tie.spec (λ c κs. search needs) returns returns-2 (λ c κs. search needs) returns-3 of-state-requires (λ c. search needs) returns-4)

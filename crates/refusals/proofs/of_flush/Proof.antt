@@ -2,7 +2,8 @@
 use mathlib.Core.Path.{sym, _∙_}
 use borrow.Author.Needs.{needs}
 use Rattle.paper.specs.Lent.{Ask}
-use Rattle.refusals.specs.Given.{numbersOf, countersOf, lent}
+use Rattle.parts.specs.Rep.{numbersOf}
+use Rattle.refusals.specs.Given.{countersOf, lent}
 use Rattle.refusals.specs.Sizes.{Opens, opens-with}
 use Rattle.refusals.proofs.Refusing.{refused-first, flush-rest}
 use Rattle.refusals.proofs.of_flush.Statement.{statement}
@@ -26,14 +27,14 @@ returns c =
 of-state-requires : tie.Need-of-state-requires
 of-state-requires c κs =
     let o = opens (c .before) in
-    (o .most .blocks, o .most .rows, o .most .slots, o .lengths .addresses, o .lengths .blocks, start (c .before) .pre)
+    ((o .most .blocks, o .most .rows, o .most .slots, o .lengths .addresses, o .lengths .blocks), start (c .before) .pre)
 
 returns-2 : tie.Need-returns-2
 returns-2 c =
     let t = c .before .before in
     let e = t .before .before in
     let a = start e .args in
-    (t .of-state .ensures .0 ∙ flush-rest (a .b) (a .disk .now) (a .flash .now) (a .addresses .now) (a .blocks .now) (countersOf (a .c)) (opens e), t .of-state .ensures .1)
+    (t .of-state .ensures .0 ∙ flush-rest (a .b) (a .disk .now) (a .flash .now) (a .addresses .now) (a .blocks .now) (countersOf (a .c)) (opens e), t .of-state .ensures .1 .0)
 
 pub of-flush-spec : {M : Type 1} → statement M
 of-flush-spec = tie.close (tie.spec (λ c κs. search needs) returns of-state-requires (λ c. search needs) returns-2)

@@ -3,9 +3,11 @@ use mathlib.Core.Path.{sym, _∙_}
 use Prim.Native.Nat.{ℕ}
 use lib.ListN.{length-replicate}
 use borrow.Author.Needs.{needs}
+use Rattle.tables.specs.SoundLaws.{filled-with}
 use Rattle.paper.specs.Cache.{Counters, noCounts}
 use Rattle.paper.specs.Lent.{Ask}
-use Rattle.refusals.specs.Given.{numbersOf, lent}
+use Rattle.parts.specs.Rep.{numbersOf}
+use Rattle.refusals.specs.Given.{lent}
 use Rattle.refusals.specs.Sizes.{Opens, opens-with}
 use Rattle.refusals.proofs.Refusing.{refused-first, look-3, look-rest}
 use Rattle.refusals.proofs.of_look.Statement.{statement}
@@ -33,7 +35,7 @@ returns-2 c k =
 of-tables-requires : tie.Need-of-tables-requires
 of-tables-requires c κs =
     let o = opens (c .before .before .before) noCounts in
-    (o .most .blocks, o .most .rows, o .most .slots, o .lengths .addresses, o .lengths .blocks, length-replicate {A = ℕ} 1024 0)
+    ((o .most .blocks, o .most .rows, o .most .slots, o .lengths .addresses, o .lengths .blocks), (length-replicate {A = ℕ} 4353 0, filled-with 4353 0))
 
 returns-3 : tie.Need-returns-3
 returns-3 c k =

@@ -2,7 +2,8 @@
 use mathlib.Core.Path.{sym, _∙_}
 use borrow.Author.Needs.{needs}
 use Rattle.paper.specs.RefusalLaws.{exactly-opening}
-use Rattle.refusals.specs.Given.{numbersOf, lent}
+use Rattle.parts.specs.Rep.{numbersOf}
+use Rattle.refusals.specs.Given.{lent}
 use Rattle.refusals.specs.Sizes.{most}
 use Rattle.refusals.proofs.Refusing.{wrong-is}
 use Rattle.refusals.proofs.of_opening.Statement.{statement}

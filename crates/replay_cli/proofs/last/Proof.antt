@@ -1,22 +1,24 @@
--- What the end leaves. Assumes nothing.
-use mathlib.Core.Path.{ap}
-use Rattle.session.specs.Memory.{After}
+-- What the byte leaves, and that its text is in the output. Assumes nothing.
+use mathlib.Core.Path.{sym, subst}
 use borrow.Author.Needs.{needs}
+use Rattle.replay_cli.proofs.Within.{Within, ended-within}
 use Rattle.replay_cli.proofs.last.Statement.{statement}
 use Rattle.replay_cli.proofs.last.Tie as tie
 
-returns : tie.Need-returns
-returns c = ap (λ (x : After). x .memory) (c .before .before .before .before .before .before .before .before .before .before .before .before .before .finish .ensures)
+text-requires : tie.Need-text-requires
+text-requires c κs = subst Within (sym (c .before .before .before .before .before .before .before .before .before .before .before .finish .ensures))
+    (ended-within _)
 
 pub last-spec : {M : Type 1} → statement M
 last-spec =
     tie.close
     (tie.spec
     (λ c κs. search needs)
+    text-requires
     (λ c κs. search needs)
     (λ c. search needs)
     (λ c. search needs)
     (λ c. search needs)
     (λ c. search needs)
     (λ c. search needs)
-    returns)
+    (λ c. search needs))

@@ -3,14 +3,15 @@ use mathlib.Core.Path.{_≡_, refl, sym, ap, _∙_}
 use Prim.Native.Nat.{ℕ, suc, _+_, _-_, _≤_, _<_}
 use native.Mathlib.Omega.{arith}
 use lib.ListN.{length, getD}
-use Rattle.session.specs.Memory.{memory, fed}
+use Rattle.session.specs.Memory.{After, memory, fed}
 use Rattle.replay_cli.specs.Chunks.{fedFirst}
 use Rattle.replay_cli.proofs.run.Statement.{statement}
 use Rattle.replay_cli.proofs.run.Tie as tie
 
 abbrev Inv-loop : tie.InvT-loop
 Inv-loop chunk line₀ disk₀ flash₀ addresses₀ blocks₀ out₀ t₀ i₀ line disk flash addresses blocks out t i =
-    (i ≤ length chunk) × (length line ≡ length line₀) × (length disk ≡ length disk₀) × (length flash ≡ length flash₀) × (length addresses ≡ length addresses₀) × (length blocks ≡ length blocks₀) × (length out ≡ length out₀)
+    (i ≤ length chunk) × (length line ≡ length line₀) × (length disk ≡ length disk₀) × (length flash ≡ length flash₀) × (length addresses ≡ length
+    addresses₀) × (length blocks ≡ length blocks₀) × (length out ≡ length out₀)
     × (memory t line disk flash addresses blocks out ≡ fedFirst chunk i (memory t₀ line₀ disk₀ flash₀ addresses₀ blocks₀ out₀))
 
 abbrev μ-loop : tie.MeasureT-loop
@@ -41,18 +42,27 @@ add-i c = omega arith
 step-requires : tie.Need-step-requires Inv-loop μ-loop
 step-requires c κs = tt
 
-below : (c : tie.After-slice-known12 Inv-loop μ-loop) → c .before .before .before .before .before .before .before .before .before .before .before .before .before .before .before .before .before .before .before .before .before .loop .i < length (c .before .before .before .before .before .before .before .before .before .before .before .before .before .before .before .before .before .before .before .before .before .before .before .before .before .before .before .before .before .args .chunk .now)
+below : (c : tie.After-t Inv-loop μ-loop) → c .before .before .before .before .before .before .before .before .before .before .before .before .before
+    .before .before .before .before .before .before .before .before .before .loop .i < length (c .before .before .before .before .before .before
+    .before .before .before .before .before .before .before .before .before .before .before .before .before .before .before .before .before .before
+    .before .before .before .before .before .before .args .chunk .now)
 below c = omega arith
 
 loop-less : tie.Need-loop-less Inv-loop μ-loop
-loop-less c = less (length (c .before .before .before .before .before .before .before .before .before .before .before .before .before .before .before .before .before .before .before .before .before .before .before .before .before .before .before .before .before .args .chunk .now)) (c .before .before .before .before .before .before .before .before .before .before .before .before .before .before .before .before .before .before .before .before .before .loop .i) (below c)
+loop-less c = less (length (c .before .before .before .before .before .before .before .before .before .before .before .before .before .before .before
+    .before .before .before .before .before .before .before .before .before .before .before .before .before .before .before .args .chunk .now)) (c
+    .before .before .before .before .before .before .before .before .before .before .before .before .before .before .before .before .before .before
+    .before .before .before .before .loop .i) (below c)
 
 loop-again : tie.Need-loop-again Inv-loop μ-loop
 loop-again c =
-    let i = c .before .before .before .before .before .before .before .before .before .before .before .before .before .before .before .before .before .before .before .before .before .loop .inv in
-    let k = c .before .before .before .before .before .before .before .before .before .before .before .before .before .before .before .before .before .before .before .before .before .loop .i in
-    let a = c .before .before .before .before .before .before .before .before .before .before .before .before .before .before .before .before .before .before .before .before .before .before .before .before .before .before .before .before .before .args in
-    let f = c .before .before .before .before .before .before .before .before .before .before .before .before .step in
+    let i = c .before .before .before .before .before .before .before .before .before .before .before .before .before .before .before .before .before
+    .before .before .before .before .before .loop .inv in
+    let k = c .before .before .before .before .before .before .before .before .before .before .before .before .before .before .before .before .before
+    .before .before .before .before .before .loop .i in
+    let a = c .before .before .before .before .before .before .before .before .before .before .before .before .before .before .before .before .before
+    .before .before .before .before .before .before .before .before .before .before .before .before .before .args in
+    let f = c .before .before .before .before .before .before .before .before .before .before .before .before .before .step in
     let l = f .kept .1 .1 in (
       sure (length (a .chunk .now)) k (below c),
       l .0 ∙ i .1,
@@ -61,7 +71,8 @@ loop-again c =
       l .1 .1 .1 .0 ∙ i .4,
       l .1 .1 .1 .1 .0 ∙ i .5,
       l .1 .1 .1 .1 .1 .0 ∙ i .6,
-      f .ensures ∙ ap (λ M. (fed (getD (a .chunk .now) k 0) M) .memory) (i .7) ∙ ap (λ n. fedFirst (a .chunk .now) n (memory (a .s) (a .line .now) (a .disk .now) (a .flash .now) (a .addresses .now) (a .blocks .now) (a .out .now))) (sym (next k)),
+      ap (λ (x : After). x .memory) (f .ensures) ∙ ap (λ M. (fed (getD (a .chunk .now) k 0) M) .memory) (i .7) ∙ ap (λ n. fedFirst (a .chunk .now) n
+          (memory (a .s) (a .line .now) (a .disk .now) (a .flash .now) (a .addresses .now) (a .blocks .now) (a .out .now))) (sym (next k)),
     )
 
 same-length : tie.Need-same-length Inv-loop μ-loop
@@ -86,7 +97,8 @@ returns : tie.Need-returns Inv-loop μ-loop
 returns c =
     let a = c .before .before .before .before .before .before .before .before .before .args in
     let i = c .before .loop .inv in
-    i .7 ∙ ap (λ n. fedFirst (a .chunk .now) n (memory (a .s) (a .line .now) (a .disk .now) (a .flash .now) (a .addresses .now) (a .blocks .now) (a .out .now))) (all (length (a .chunk .now)) (c .before .loop .i) (i .0) (omega arith))
+    i .7 ∙ ap (λ n. fedFirst (a .chunk .now) n (memory (a .s) (a .line .now) (a .disk .now) (a .flash .now) (a .addresses .now) (a .blocks .now) (a
+    .out .now))) (all (length (a .chunk .now)) (c .before .loop .i) (i .0) (omega arith))
 
 pub run-spec : {M : Type 1} → statement M
 run-spec =

@@ -15,20 +15,23 @@ use Rattle.serve.proofs.serve_back.Tie as tie
 
 step-requires : tie.Need-step-requires
 step-requires c κs =
-    let start = c .before .before .before .before .before .before .before .before .before .before .before .before .before .before .before .before in
+    let at-sha256 = c .before .before .before .before .before .before .before .before in
+    let start = at-sha256 .before .before .before .before .before .before .before in
+    let p = start .pre .0 in
     let q = start .pre .1 .0 in
-    (search needs, ((q .0, true, q .1, q .2, refl), start .pre .1 .1))
+    let g = at-sha256 .sha256 .ok in
+    ((p .1 .0, p .1 .1, search needs, p .1 .2, p .1 .3, p .1 .4, p .1 .5), ((q .0, true, q .1, q .2, refl), start .pre .1 .1))
 
 returns : tie.Need-returns
 returns c =
-    let at-step = c .before .before .before .before .before .before .before .before .before .before .before in
-    let at-place-of = at-step .before .before .before .before .before .before .before in
+    let at-step = c .before .before .before .before .before .before .before .before .before in
+    let at-place-of = at-step .before .before .before .before .before .before in
     let at-sha256 = at-place-of .before .before .before in
     let start = at-sha256 .before .before .before .before .before .before .before in
     let a = start .args in
     let p = at-place-of .place-of in
     let w = at-step .step in (
-      (w .ensures .0 .0, omega (arith, w .ensures .0 .1), w .ensures .0 .2),
+      (w .ensures .0 .0, omega (arith, w .ensures .0 .1)),
       λ s x h sd ex.
           let f = engine (a .b .size) .hash x in
           let ef = ap sha256 ex ∙ sym (at-sha256 .sha256 .ensures) in
@@ -40,15 +43,4 @@ returns c =
 pub serve-back-spec : {M : Type 1} → statement M
 serve-back-spec =
     tie.close
-    (tie.spec
-    (λ c κs. search needs)
-    (λ c. search needs)
-    (λ c κs. search needs)
-    (λ c. search needs)
-    step-requires
-    (λ c. search needs)
-    (λ c. search needs)
-    (λ c. search needs)
-    (λ c. search needs)
-    (λ c. search needs)
-    returns)
+    (tie.spec (λ c κs. search needs) (λ c. search needs) (λ c κs. search needs) (λ c. search needs) step-requires (λ c. search needs) (λ c. search needs) (λ c. search needs) (λ c. search needs) returns)

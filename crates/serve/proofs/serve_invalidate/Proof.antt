@@ -17,7 +17,7 @@ put-address-requires c κs =
     let s = c .before .before .before .before .before .before .before .before .before .before .before in
     let a = s .args in
     let p = s .pre .0 in
-    (p .5, rw (p .8) (block-ends (a .a .0) (a .b .blocks) (a .b .size) (p .6)))
+    (p .1 .2, rw (p .0) (block-ends (a .a .0) (a .b .blocks) (a .b .size) (p .1 .3)))
 
 returns : tie.Need-returns
 returns c =
@@ -30,10 +30,10 @@ returns c =
     let a = s .args in
     let p = s .pre .0 in (
       (omega arith, omega arith),
-      λ t flash x h sd ex.
+      λ flash t x h sd ex.
           let f = engine (a .b .size) .hash x in
           let ef = ap sha256 ex ∙ sym (g .sha256 .ensures) in
-          invalidate-is (a .b) (a .block .now) (a .disk .now) flash (a .addrs .now) (a .blocks .now) t h (a .a .0) (p .6) x _ (w .drop-row .result) _ _ _
+          invalidate-is (a .b) (a .block .now) (a .disk .now) flash (a .addrs .now) (a .blocks .now) t h (a .a .0) (p .1 .3) x _ (w .drop-row .result) _ _ _
           (yes-is (a .b .size) (a .b .slots) (a .blocks .now) (t .free) (t .used) (h .blocks-are) f (j .place-of .result) (j .place-of .ensures (t .free) (t .used) f (h .blocks-are) ef))
           (k .put-address .ensures ∙ ap (λ (y : List ℕ). splice (a .a .0 * a .b .size) y (a .disk .now)) (sym ex))
           (w .drop-row .ensures (a .b .size) (a .a .0) (t .rows) (t .free) (t .used) (h .rows-are) (h .blocks-are) (sd .addresses) (sd .fingerprints) (i .row-of .ensures (a .b .blocks) (a .b .rows) (t .rows) (h .rows-are))),

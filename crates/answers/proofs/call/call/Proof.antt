@@ -20,15 +20,15 @@ returns-3 c = rw (c .before .before .before .before .before .before .before .bef
 
 returns-4 : tie.Need-returns-4
 unfolding asked
-returns-4 c = rw (c .before .before .before .before .before .before .before .before .before .before .before .before .before .before .line3 .given .1) (c .before .before .before .before .before .before .before .before .through .ensures)
+returns-4 c = rw (c .before .before .before .before .before .before .before .before .before .before .before .before .before .before .line3 .given .1) (c .before .before .before .before .before .before .before .before .write .ensures)
 
 returns-5 : tie.Need-returns-5
 unfolding asked
-returns-5 c = rw (c .before .before .before .before .before .before .before .before .before .before .before .before .before .before .line4 .given .1) (c .before .before .before .before .before .before .before .before .back .ensures)
+returns-5 c = rw (c .before .before .before .before .before .before .before .before .before .before .before .before .before .before .line4 .given .1) (c .before .before .before .before .before .before .before .before .write2 .ensures)
 
 returns-6 : tie.Need-returns-6
 unfolding asked
-returns-6 c = rw (c .before .before .before .before .before .before .before .before .before .before .before .before .line5 .given .1) (c .before .before .before .before .before .before .invalidate .ensures)
+returns-6 c = rw (c .before .before .before .before .before .before .before .before .before .before .before .before .before .before .line5 .given .1) (c .before .before .before .before .before .before .before .before .write3 .ensures)
 
 returns-7 : tie.Need-returns-7
 unfolding asked doing

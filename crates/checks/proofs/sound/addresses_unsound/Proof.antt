@@ -4,7 +4,7 @@ use mathlib.Core.Bool.{not}
 use borrow.Author.Needs.{needs}
 use borrow.Author.Tests.{le-leb, lt-leb, eq-eqb, ne-eqb}
 use Rattle.tables.specs.Sound.{addressesFit}
-use Rattle.tables.specs.Checked.{addresses-checked}
+use Rattle.table_laws.specs.Checked.{addresses-checked}
 use Rattle.checks.proofs.sound.addresses_unsound.Statement.{statement}
 use Rattle.checks.proofs.sound.addresses_unsound.Tie as tie
 

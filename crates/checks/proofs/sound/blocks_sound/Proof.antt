@@ -3,7 +3,7 @@ use mathlib.Core.Path.{_≡_, refl, sym, _∙_}
 use mathlib.Core.Bool.{Bool, true, false, not, false≢true}
 use borrow.Author.Needs.{needs}
 use borrow.Author.Tests.{not-true, not-false}
-use Rattle.tables.specs.Checked.{blocks-checked}
+use Rattle.table_laws.specs.Checked.{blocks-checked}
 use Rattle.tables.specs.SoundLaws.{slots-below}
 use Rattle.checks.proofs.sound.blocks_sound.Statement.{statement}
 use Rattle.checks.proofs.sound.blocks_sound.Tie as tie
@@ -17,7 +17,7 @@ returns c =
     let s = c .before .before .before .before in
     let a = s .args in (
       rw (blocks-checked (a .d) (a .t .now), sym (c .before .rows-ok .ensures) ∙ not-true _ (c .if1 .taken)),
-      ((λ e. absurd (false≢true e)), s .pre .0 .1 .1),
+      ((λ e. absurd (false≢true e)), s .pre .1 .0),
     )
 
 slots-distinct-requires : tie.Need-slots-distinct-requires
@@ -25,7 +25,7 @@ slots-distinct-requires c κs =
     let o = c .before in
     let s = o .before .before .before in
     let a = s .args in
-    (search needs, slots-below 256 (a .d) (a .t .now) (sym (o .rows-ok .ensures) ∙ not-false _ (c .if1 .left)) (s .pre .0 .1 .0))
+    (search needs, slots-below 256 (a .d) (a .t .now) (sym (o .rows-ok .ensures) ∙ not-false _ (c .if1 .left)) (s .pre .0 .1))
 
 returns-2 : tie.Need-returns-2
 returns-2 c =
@@ -34,7 +34,7 @@ returns-2 c =
     let s = e .before .before .before .before in
     let a = s .args in (
       rw (blocks-checked (a .d) (a .t .now), sym (e .before .rows-ok .ensures) ∙ not-false _ (e .if1 .left), sym (w .slots-distinct .ensures) ∙ not-true _ (c .if2 .taken)),
-      ((λ e. absurd (false≢true e)), s .pre .0 .1 .1),
+      ((λ e. absurd (false≢true e)), s .pre .1 .0),
     )
 
 returns-3 : tie.Need-returns-3

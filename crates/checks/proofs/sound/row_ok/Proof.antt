@@ -1,8 +1,6 @@
 -- One return for each test that fails. Assumes nothing.
-use Rattle.tables.specs.Find.{all}
-use Rattle.tables.specs.Sound.{isZero}
 use borrow.Author.Tests.{lt-ltb, le-ltb, not-true, not-false}
-use mathlib.Core.Path.{sym, ap, _∙_}
+use mathlib.Core.Path.{sym, _∙_}
 use borrow.Author.Needs.{needs}
 use Rattle.checks.proofs.sound.row_ok.Statement.{statement}
 use Rattle.checks.proofs.sound.row_ok.Tie as tie
@@ -17,12 +15,11 @@ returns-2 c =
 
 returns-3 : tie.Need-returns-3
 returns-3 c =
-    let g = c .before in
-    let z = g .before in
+    let z = c .before in
     let o = z .before .before in
     let l = o .before .before in
     rw (sym (l .before .slot-at .ensures), lt-ltb _ _ (l .if1 .left), sym (o .before .tail-ok .ensures) ∙ not-false _ (o .if2 .left), sym (z .before .is-used .ensures) ∙ not-true _ (z .if3 .taken))
-    (c .all-zero .ensures ∙ ap (all isZero) (g .block-fingerprint .ensures .0))
+    (c .no-fingerprint .ensures)
 
 returns-4 : tie.Need-returns-4
 returns-4 c =
@@ -40,7 +37,6 @@ row-ok-spec =
     returns
     (λ c κs. search needs)
     returns-2
-    (λ c κs. search needs)
     (λ c κs. search needs)
     (λ c κs. search needs)
     returns-3

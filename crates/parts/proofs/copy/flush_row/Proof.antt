@@ -1,45 +1,52 @@
--- By whether the row is dirty; the slot found is that of its fingerprint. Assumes nothing.
-use borrow.Author.Tests.{not-true}
-use mathlib.Core.Path.{sym, _∙_}
+-- By whether the row is dirty; the slot found is that of its fingerprint: `slot-of-row`. Assumes nothing.
+use mathlib.Core.Path.{_≡_, sym, ap, _∙_}
 use mathlib.Core.Bool.{true}
+use Prim.Native.Nat.{ℕ}
 use native.Mathlib.Omega.{arith}
+use borrow.Author.Tests.{not-true}
 use lib.ListN.{getD}
-use Rattle.parts.specs.Rep.{noRow}
-use Rattle.parts.specs.MoveLaws.{fp-is}
-use Rattle.parts.specs.CopyLaws.{row-left, slotOf-below, left-no}
+use Rattle.paper.specs.Cache.{Box, slotOf}
+use Rattle.paper.specs.Engine.{Fixed, engine}
+use Rattle.parts.specs.Asked.{slotIn}
+use Rattle.parts.specs.Rep.{Rep, noRow}
+use Rattle.parts.specs.CopyLaws.{row-left, slotOf-below, slot-of-row, left-no}
 use borrow.Author.Needs.{needs}
 use Rattle.parts.proofs.copy.flush_row.Statement.{statement}
 use Rattle.parts.proofs.copy.flush_row.Tie as tie
 
 returns : tie.Need-returns
 returns c =
-    let start = c .before .before .before .before .before .before .before in
+    let start = c .before .before .before .before .before .before .before .before in
     let a = start .args in
     (omega arith, λ s h. row-left (a .b) (a .disk .now) (a .flash .now) (a .addrs .now) (a .blocks .now) s h (λ f. true) (a .i) (start .pre .0 .0) (left-no _ true (sym (c .before .is-dirty .ensures) ∙ not-true _ (c .if1 .taken))))
 
+-- the slot found is that of the row's fingerprint
+slot-is : (c : tie.After-slot-in) (B : ℕ)
+    → (let a = c .before .before .before .before .before .before .before .before .before .before .before .args in
+    (s : Box (Fixed 32) (Fixed (a .b .size))) → Rep (a .b) (a .disk .now) (a .flash .now) (a .addrs .now) (a .blocks .now) s
+    → c .slot-in .result .0 ≡ slotOf (engine B) (getD (s .rows) (a .i) noRow .fingerprint) (s .used))
+slot-is c B s h =
+    let start = c .before .before .before .before .before .before .before .before .before .before .before in
+    let a = start .args in
+    c .slot-in .ensures ∙ ap (slotIn (a .blocks .now) (a .b .slots)) (c .before .place-of .ensures)
+    ∙ slot-of-row B (a .b .blocks) (a .b .rows) (a .b .held) (a .b .slots) (a .addrs .now) (a .blocks .now) (s .rows) (s .free) (s .used) (h .rows-are) (h .blocks-are) (start .pre .0 .2) (a .i) (start .pre .0 .0)
+
 copy-row-requires : tie.Need-copy-row-requires
 copy-row-requires c κs =
-    let g = c .before .before .before in
-    let start = g .before .before .before .before .before .before .before .before .before in
+    let k = c .before .before in
+    let start = k .before .before .before .before .before .before .before .before .before .before .before in
     let a = start .args in
-    let s = start .pre .1 .0 in
-    let h = start .pre .1 .1 in
+    let s = start .pre .1 .0 .0 in
+    let h = start .pre .1 .0 .1 in
     let f = getD (s .rows) (a .i) noRow .fingerprint in
-    let p = sym (g .address-fingerprint .ensures .0 ∙ fp-is (a .b .blocks) (a .b .rows) (a .b .held) (a .addrs .now) (s .rows) (h .rows-are) (a .i) (start .pre .0 .0) noRow) in
-    ((start .pre .0 .0, rw (c .before .before .slot-for .ensures 0 (s .free) (s .used) f (h .blocks-are) p) (slotOf-below 0 (a .b .slots) f (s .used) (start .pre .0 .1) (h .blocks-are .used-below)), start .pre .0 .2, start .pre .0 .3), start .pre .1)
+    ((start .pre .0 .0, rw (slot-is k 0 s h) (slotOf-below 0 (a .b .slots) f (s .used) (start .pre .0 .1) (h .blocks-are .used-below)), start .pre .0 .3 .0, start .pre .0 .3 .1), start .pre .1 .0)
 
 returns-2 : tie.Need-returns-2
 returns-2 c =
-    let at-copy-row = c .before .before .before .before in
-    let at-slot-for = at-copy-row .before .before .before in
-    let g = at-slot-for .before in
-    let start = g .before .before .before .before .before .before .before .before .before in
-    let a = start .args in (
-      at-copy-row .copy-row .ensures .0,
-      λ s h.
-          let p = sym (g .address-fingerprint .ensures .0 ∙ fp-is (a .b .blocks) (a .b .rows) (a .b .held) (a .addrs .now) (s .rows) (h .rows-are) (a .i) (start .pre .0 .0) noRow) in
-          at-copy-row .copy-row .ensures .1 s h (sym (at-slot-for .slot-for .ensures (a .b .size) (s .free) (s .used) (getD (s .rows) (a .i) noRow .fingerprint) (h .blocks-are) p)),
-    )
+    let r = c .before .before .before .before in
+    let k = r .before .before .before in
+    let a = k .before .before .before .before .before .before .before .before .before .before .before .args in
+    (r .copy-row .ensures .0, λ s h. r .copy-row .ensures .1 s h (sym (slot-is k (a .b .size) s h)))
 
 pub flush-row-spec : {M : Type 1} → statement M
 flush-row-spec =

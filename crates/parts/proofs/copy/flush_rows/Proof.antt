@@ -1,72 +1,66 @@
 -- the rows before row i are done: each turn is `part-step`
-use mathlib.Core.Path.{_≡_, refl, sym, ap, _∙_}
+use mathlib.Core.Path.{_≡_, refl, ap, _∙_}
 use mathlib.Core.Bool.{true}
 use Prim.Native.Nat.{_≤_, _-_}
 use native.Mathlib.Omega.{arith}
-use lib.ListN.{length, getD}
-use Rattle.paper.specs.Cache.{Box}
-use Rattle.paper.specs.Engine.{Fixed}
-use Rattle.parts.specs.Rep.{Rep, Copied, copiedRows, partBox, noRow}
-use Rattle.parts.specs.CopyLaws.{slot-of-row, slotOf-below}
 use native.Mathlib.Nat.{le-antisymm}
 use native.Mathlib.Numerals.{add-one}
-use Rattle.parts.proofs.Looped.{rep-part, part-step, part-none, slot-part}
+use lib.ListN.{length}
+use Rattle.paper.specs.Cache.{Box}
+use Rattle.paper.specs.Engine.{Fixed}
+use Rattle.parts.specs.Rep.{Rep, Copied, copiedRows, partBox}
+use Rattle.parts.proofs.Looped.{rep-part, part-step, part-none}
 use Rattle.parts.proofs.copy.flush_rows.Statement.{statement}
 use Rattle.parts.proofs.copy.flush_rows.Tie as tie
 
 abbrev Inv-loop : tie.InvT-loop
-Inv-loop b disk₀ flash addrs₀ blocks places count₀ i₀ disk addrs count i =
-    (i ≤ b .held) × (count ≤ i) × (length disk ≡ length disk₀) × (length addrs ≡ length addrs₀) × ((s : Box (Fixed 32) (Fixed (b .size))) → Rep b disk₀ flash addrs₀ blocks s → _≡_ {A = Copied} (record { count = count; disk = disk; addrs = addrs }) (copiedRows b (λ f. true) s i))
+Inv-loop b disk₀ flash addrs₀ blocks heads count₀ i₀ disk addrs count i =
+    (i ≤ b .held) × (count ≤ i) × (length disk ≡ length disk₀) × (length addrs ≡ length addrs₀)
+    × ((s : Box (Fixed 32) (Fixed (b .size))) → Rep b disk₀ flash addrs₀ blocks s → _≡_ {A = Copied} (record { count = count; disk = disk; addrs = addrs }) (copiedRows b (λ f. true) s i))
 
 abbrev μ-loop : tie.MeasureT-loop
-μ-loop b disk₀ flash addrs₀ blocks places count₀ i₀ disk addrs count i =
+μ-loop b disk₀ flash addrs₀ blocks heads count₀ i₀ disk addrs count i =
     b .held - i
 
 loop-holds : tie.Need-loop-holds Inv-loop μ-loop
 loop-holds c =
-    let start = c .before .before .before .before .before in
-    let a = start .args in
+    let a = c .before .before .before .before .before .args in
     (omega arith, omega arith, refl, refl, λ s h. part-none (a .b) (λ f. true) (a .disk .now) (a .flash .now) (a .addrs .now) (a .blocks .now) s h)
 
-copy-row-requires : tie.Need-copy-row-requires Inv-loop μ-loop
-copy-row-requires c κs =
-    let at-if1 = c .before .before .before .before in
+flush-row-requires : tie.Need-flush-row-requires Inv-loop μ-loop
+flush-row-requires c κs =
+    let at-if1 = c .before .before in
     let at-loop = at-if1 .before .before in
     let start = at-loop .before .before .before .before .before .before in
     let a = start .args in
     let s = start .pre .1 .0 .0 in
     let h = start .pre .1 .0 .1 in
-    let l = at-loop .loop in
-    let e = slot-of-row 0 (a .b .blocks) (a .b .rows) (a .b .held) (a .b .slots) (a .addrs .now) (a .blocks .now) (a .places .now) (s .rows) (s .free) (s .used) (h .rows-are) (h .blocks-are) (start .pre .0 .1) (start .pre .1 .1) (l .i) (at-if1 .if1 .taken) in (
-      (omega arith, rw (c .before .before .slot-in .ensures ∙ e) (slotOf-below 0 (a .b .slots) (getD (s .rows) (l .i) noRow .fingerprint) (s .used) (start .pre .0 .0) (h .blocks-are .used-below)), omega arith, omega arith),
-      (partBox (a .b) (λ f. true) s (l .i), rep-part (a .b) (λ f. true) (a .disk .now) (a .flash .now) (a .addrs .now) (a .blocks .now) s h (l .i) (l .count) (l .disk) (l .addrs) (l .inv .4 s h)),
+    let l = at-loop .loop in (
+      (at-if1 .if1 .taken, start .pre .0 .0, start .pre .0 .1, (start .pre .0 .2 .0, l .inv .3 ∙ start .pre .0 .2 .1, start .pre .0 .2 .2)),
+      ((partBox (a .b) (λ f. true) s (l .i), rep-part (a .b) (λ f. true) (a .disk .now) (a .flash .now) (a .addrs .now) (a .blocks .now) s h (l .i) (l .count) (l .disk) (l .addrs) (l .inv .4 s h)), start .pre .1 .1),
     )
 
 loop-again : tie.Need-loop-again Inv-loop μ-loop
 loop-again c =
-    let at-copy-row = c .before .before .before .before in
-    let at-slot-in = at-copy-row .before .before .before in
-    let at-if1 = at-slot-in .before .before in
+    let at-flush-row = c .before .before .before .before in
+    let at-if1 = at-flush-row .before .before .before in
     let at-loop = at-if1 .before .before in
     let start = at-loop .before .before .before .before .before .before in
     let a = start .args in
     let l = at-loop .loop in
-    let f = at-copy-row .copy-row in (
+    let f = at-flush-row .flush-row in (
       omega arith,
       omega arith,
       omega arith,
       omega arith,
       λ s h.
           let q = rep-part (a .b) (λ f. true) (a .disk .now) (a .flash .now) (a .addrs .now) (a .blocks .now) s h (l .i) (l .count) (l .disk) (l .addrs) (l .inv .4 s h) in
-          let e = slot-of-row (a .b .size) (a .b .blocks) (a .b .rows) (a .b .held) (a .b .slots) (a .addrs .now) (a .blocks .now) (a .places .now) (s .rows) (s .free) (s .used) (h .rows-are) (h .blocks-are) (start .pre .0 .1) (start .pre .1 .1) (l .i) (at-if1 .if1 .taken) in
-          let k = slot-part (a .b) (λ f. true) (a .disk .now) (a .flash .now) (a .addrs .now) (a .blocks .now) s h (l .i) (l .count) (l .disk) (l .addrs) (l .inv .4 s h) (at-if1 .if1 .taken) ∙ sym (at-slot-in .slot-in .ensures ∙ e) in
-          rw add-one (part-step (a .b) (λ f. true) (a .disk .now) (a .flash .now) (a .addrs .now) (a .blocks .now) s h (l .i) (l .count) (l .disk) (l .addrs) (l .inv .4 s h) (at-if1 .if1 .taken) (f .result) _ _ (f .ensures .1 (partBox (a .b) (λ f. true) s (l .i)) q k)),
+          rw add-one (part-step (a .b) (λ f. true) (a .disk .now) (a .flash .now) (a .addrs .now) (a .blocks .now) s h (l .i) (l .count) (l .disk) (l .addrs) (l .inv .4 s h) (at-if1 .if1 .taken) (f .result) _ _ (f .ensures .1 (partBox (a .b) (λ f. true) s (l .i)) q)),
     )
 
 returns : tie.Need-returns Inv-loop μ-loop
 returns c =
-    let start = c .before .before .before .before .before .before .before .before in
-    let a = start .args in
+    let a = c .before .before .before .before .before .before .before .before .args in
     let l = c .before .before .loop in
     (omega arith, λ s h. l .inv .4 s h ∙ ap (copiedRows (a .b) (λ f. true) s) (le-antisymm (l .inv .0) (c .if1 .left)))
 
@@ -77,11 +71,7 @@ flush-rows-spec =
     Inv-loop
     μ-loop
     loop-holds
-    (λ c. omega arith)
-    (λ c. omega arith)
-    (λ c. omega (arith, c .shared-slice-known4 .given (c .before .before .before .loop .i)))
-    (λ c κs. omega arith)
-    copy-row-requires
+    flush-row-requires
     (λ c. omega arith)
     (λ c. omega arith)
     (λ c. omega arith)

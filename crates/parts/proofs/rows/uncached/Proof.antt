@@ -1,4 +1,4 @@
--- The law says what the entries of `places` are of the paper's rows. Assumes nothing.
+-- The law says what the index answers of the paper's rows. Assumes nothing.
 use mathlib.Core.Path.{ap, _∙_}
 use mathlib.Core.Bool.{not}
 use borrow.Author.Needs.{needs}

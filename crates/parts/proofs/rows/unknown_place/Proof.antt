@@ -1,4 +1,4 @@
--- The law says what the first block row that is in no entry of `places` is of the paper's rows. Assumes nothing.
+-- The law says what the first block row that no held row has is of the paper's rows. Assumes nothing.
 use mathlib.Core.Path.{sym, _∙_}
 use borrow.Author.Needs.{needs}
 use Rattle.tables.specs.declared.Found.the-variants.{At, Nothing}

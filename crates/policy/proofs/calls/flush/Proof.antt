@@ -6,18 +6,20 @@ use Prim.Native.Nat.{ℕ}
 use native.Mathlib.Omega.{arith}
 use lib.ListN.{length-replicate}
 use borrow.Author.Needs.{needs}
+use Rattle.tables.specs.SoundLaws.{filled-with}
 use Rattle.paper.specs.Cache.{serve, flushed}
-use Rattle.paper.specs.Lent.{Ask, calling, refusal, callOf, boxIn}
+use Rattle.paper.specs.Lent.{Ask, calling, refusal, callOf}
 use Rattle.paper.specs.CallLaws.{served-finds}
 use Rattle.policy.specs.declared.Word.the-variants.{Done}
-use Rattle.refusals.specs.Given.{numbersOf, countersOf, lent}
+use Rattle.parts.specs.Rep.{numbersOf}
+use Rattle.refusals.specs.Given.{countersOf, lent}
 use Rattle.policy.specs.Contract.{told}
-use Rattle.policy.specs.CallLaws.{all-bytes, rep, sizes, finish, keep, fitting}
+use Rattle.policy.specs.CallLaws.{all-bytes, sized, sound, finish, keep, fitting}
 use Rattle.policy.proofs.calls.flush.Statement.{statement}
 use Rattle.policy.proofs.calls.flush.Tie as tie
 
 of-flush-requires : tie.Need-of-flush-requires
-of-flush-requires c κs = length-replicate {A = ℕ} 1024 0
+of-flush-requires c κs = (length-replicate {A = ℕ} 4353 0, filled-with 4353 0)
 
 -- the refusal is 0
 zero : (c : tie.Else1) → (let a = c .before .before .before .before .before .before .before .before .before .before .args in refusal (numbersOf (a .b)) (lent (a .b) (a .disk .now) (a .flash .now) (a .addresses .now) (a .blocks .now) (countersOf (a .c))) (calling Ask.flush) ≡ 0)
@@ -28,7 +30,7 @@ returns c =
     let x = c .before .before .before in
     let a = x .before .before .before .before .before .before .before .before .args in
     ap (λ r. told r (a .disk .now) (a .flash .now) (a .addresses .now) (a .blocks .now) none) (c .refused .ensures)
-    ∙ keep (a .b) (a .disk .now) (a .flash .now) (a .addresses .now) (a .blocks .now) (a .c) Ask.flush (x .of-flush .result) (x .of-flush .ensures .0) (c .before .if1 .taken)
+    ∙ keep (a .b) (a .disk .now) (a .flash .now) (a .addresses .now) (a .blocks .now) (a .c) Ask.flush (x .of-flush .result) (x .of-flush .ensures .0) (c .before .if1 .taken) _ refl
 
 serve-flush-requires : tie.Need-serve-flush-requires
 serve-flush-requires c κs =
@@ -41,11 +43,9 @@ serve-flush-requires c κs =
     let y = all-bytes (a .blocks .now) (λ i. omega (arith, s .shared-slice-known2 .given i)) in
     let k = countersOf (a .c) in
     let o = served-finds (numbersOf (a .b)) (lent (a .b) (a .disk .now) (a .flash .now) (a .addresses .now) (a .blocks .now) k) Ask.flush z in
-    let l = sizes (a .b) (a .disk .now) (a .flash .now) (a .addresses .now) (a .blocks .now) k Ask.flush z x y in
-    let n = w .of-flush .kept .1 .1 .1 .1 .1 .1 .0 ∙ length-replicate {A = ℕ} 1024 0 in (
-      (l .1, o .fits .d-most, l .2, l .3, l .4, omega (arith, l .2, l .5, n)),
-      ((boxIn (numbersOf (a .b)) (lent (a .b) (a .disk .now) (a .flash .now) (a .addresses .now) (a .blocks .now) k), rep (a .b) (a .disk .now) (a .flash .now) (a .addresses .now) (a .blocks .now) k Ask.flush z x y), w .of-flush .ensures .1 (e .if1 .left)),
-    )
+    let l = sized (a .b) (a .disk .now) (a .flash .now) (a .addresses .now) (a .blocks .now) k Ask.flush z x y in
+    let on = sound (a .b) (a .disk .now) (a .flash .now) (a .addresses .now) (a .blocks .now) k Ask.flush z x y in
+    ((o .fits .d-least, o .fits .d-most, l), ((on .0, on .1), w .of-flush .ensures .1 (e .if1 .left)))
 
 answered-requires : tie.Need-answered-requires
 answered-requires c κs =
@@ -66,8 +66,8 @@ returns-2 c =
     let x = all-bytes (a .addresses .now) (λ i. omega (arith, s .before .slice-known2 .given i)) in
     let y = all-bytes (a .blocks .now) (λ i. omega (arith, s .shared-slice-known2 .given i)) in
     let k = countersOf (a .c) in
-    let box = boxIn (numbersOf (a .b)) (lent (a .b) (a .disk .now) (a .flash .now) (a .addresses .now) (a .blocks .now) k) in
-    let left = r .serve-flush .ensures .1 box [] (rep (a .b) (a .disk .now) (a .flash .now) (a .addresses .now) (a .blocks .now) k Ask.flush z x y) in
+    let on = sound (a .b) (a .disk .now) (a .flash .now) (a .addresses .now) (a .blocks .now) k Ask.flush z x y in
+    let left = r .serve-flush .ensures .1 (on .0) [] (on .1) in
     let o = r .serve-flush .result in
     rw (c .answered .ensures)
     (finish (a .b) (a .disk .now) (a .flash .now) (a .addresses .now) (a .blocks .now) k Ask.flush z Done (o .yes) (o .held) (o .flashed) (o .primary) 0 0 (a .c) [] _ _ _ _ [] none refl left refl refl refl refl refl)

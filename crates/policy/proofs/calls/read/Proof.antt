@@ -5,18 +5,20 @@ use Prim.Native.Nat.{ℕ}
 use native.Mathlib.Omega.{arith}
 use lib.ListN.{length-replicate}
 use borrow.Author.Needs.{needs}
+use Rattle.tables.specs.SoundLaws.{filled-with}
 use Rattle.paper.specs.Cache.{Call, hit, miss, serve}
 use Rattle.paper.specs.Engine.{engine}
-use Rattle.paper.specs.Lent.{Ask, calling, refusal, callOf, boxIn}
+use Rattle.paper.specs.Lent.{Ask, calling, refusal, callOf}
 use Rattle.paper.specs.CallLaws.{served-finds}
-use Rattle.refusals.specs.Given.{numbersOf, countersOf, lent}
+use Rattle.parts.specs.Rep.{numbersOf}
+use Rattle.refusals.specs.Given.{countersOf, lent}
 use Rattle.policy.specs.Contract.{told}
-use Rattle.policy.specs.CallLaws.{all-bytes, sure, rep, sizes, block-fits, address-fits, finish, keep, fitting, read-says, said-is, hit-counted, read-block, one-le, yes-of, block-of}
+use Rattle.policy.specs.CallLaws.{all-bytes, access, sound, finish, keep, fitting, read-says, said-is, hit-counted, read-block, one-le, yes-of, block-of}
 use Rattle.policy.proofs.calls.read.Statement.{statement}
 use Rattle.policy.proofs.calls.read.Tie as tie
 
 of-access-requires : tie.Need-of-access-requires
-of-access-requires c κs = length-replicate {A = ℕ} 1024 0
+of-access-requires c κs = (length-replicate {A = ℕ} 4353 0, filled-with 4353 0)
 
 -- the refusal is 0
 zero : (c : tie.Else1) → (let a = c .before .before .before .before .before .before .before .before .before .before .before .before .before .before .args in refusal (numbersOf (a .b)) (lent (a .b) (a .disk .now) (a .flash .now) (a .addresses .now) (a .blocks .now) (countersOf (a .c))) (calling (Ask.read (a .a .0) (a .block .now))) ≡ 0)
@@ -27,7 +29,7 @@ returns c =
     let x = c .before .before .before in
     let a = x .before .before .before .before .before .before .before .before .before .before .before .before .args in
     ap (λ r. told r (a .disk .now) (a .flash .now) (a .addresses .now) (a .blocks .now) (some (a .block .now))) (c .refused .ensures)
-    ∙ keep (a .b) (a .disk .now) (a .flash .now) (a .addresses .now) (a .blocks .now) (a .c) (Ask.read (a .a .0) (a .block .now)) (x .of-access .result) (x .of-access .ensures .0) (c .before .if1 .taken)
+    ∙ keep (a .b) (a .disk .now) (a .flash .now) (a .addresses .now) (a .blocks .now) (a .c) (Ask.read (a .a .0) (a .block .now)) (x .of-access .result) (x .of-access .ensures .0) (c .before .if1 .taken) _ refl
 
 serve-read-requires : tie.Need-serve-read-requires
 serve-read-requires c κs =
@@ -40,31 +42,11 @@ serve-read-requires c κs =
     let y = all-bytes (a .blocks .now) (λ i. omega (arith, s .slice-known4 .given i)) in
     let q = Ask.read (a .a .0) (a .block .now) in
     let k = countersOf (a .c) in
-    let l = sizes (a .b) (a .disk .now) (a .flash .now) (a .addresses .now) (a .blocks .now) k q z x y in (
-      (
-        l .0,
-        l .1,
-        l .2,
-        l .3,
-        l .4,
-        block-fits (a .b) (a .disk .now) (a .flash .now) (a .addresses .now) (a .blocks .now) k q z (a .block .now) refl,
-        address-fits (a .b) (a .disk .now) (a .flash .now) (a .addresses .now) (a .blocks .now) k q z (a .a .0) refl,
-        l .5,
-        w .of-access .kept .1 .1 .1 .1 .1 .1 .1 .1 .0 ∙ length-replicate {A = ℕ} 1024 0,
-      ),
-      (
-        (
-          boxIn (numbersOf (a .b)) (lent (a .b) (a .disk .now) (a .flash .now) (a .addresses .now) (a .blocks .now) k),
-          rep (a .b) (a .disk .now) (a .flash .now) (a .addresses .now) (a .blocks .now) k q z x y,
-          sure (a .b) (a .disk .now) (a .flash .now) (a .addresses .now) (a .blocks .now) k q z,
-        ),
-        w .of-access .ensures .1 (e .if1 .left),
-      ),
-    )
+    (access (a .b) (a .disk .now) (a .flash .now) (a .addresses .now) (a .blocks .now) k q z x y (a .a .0) (a .block .now) refl refl, (sound (a .b) (a .disk .now) (a .flash .now) (a .addresses .now) (a .blocks .now) k q z x y, w .of-access .ensures .1 (e .if1 .left)))
 
 answered-requires : tie.Need-answered-requires
 answered-requires c κs =
-    let r = c .before .before .before .before .before .before .before .before .before .before .before .before .before in
+    let r = c .before .before .before .before .before .before .before .before .before .before .before .before in
     let e = r .before .before .before .before .before .before .before in
     let a = e .before .before .before .before .before .before .before .before .before .before .before .before .before .before .args in
     let o = served-finds (numbersOf (a .b)) (lent (a .b) (a .disk .now) (a .flash .now) (a .addresses .now) (a .blocks .now) (countersOf (a .c))) (Ask.read (a .a .0) (a .block .now)) (zero e) in
@@ -73,7 +55,7 @@ answered-requires c κs =
 returns-2 : tie.Need-returns-2
 unfolding callOf
 returns-2 c =
-    let r = c .before .before .before .before .before .before .before .before .before .before .before .before .before .before in
+    let r = c .before .before .before .before .before .before .before .before .before .before .before .before .before in
     let e = r .before .before .before .before .before .before .before in
     let s = e .before .before .before .before .before .before .before .before .before .before in
     let a = s .before .before .before .before .args in
@@ -83,12 +65,11 @@ returns-2 c =
     let l = a .block .now in
     let q = Ask.read (a .a .0) l in
     let k = countersOf (a .c) in
-    let t = lent (a .b) (a .disk .now) (a .flash .now) (a .addresses .now) (a .blocks .now) k in
-    let box = boxIn (numbersOf (a .b)) t in
-    let left = r .serve-read .ensures .1 box l (rep (a .b) (a .disk .now) (a .flash .now) (a .addresses .now) (a .blocks .now) k q z x y) (sure (a .b) (a .disk .now) (a .flash .now) (a .addresses .now) (a .blocks .now) k q z) in
+    let on = sound (a .b) (a .disk .now) (a .flash .now) (a .addresses .now) (a .blocks .now) k q z x y in
+    let left = r .serve-read .ensures .1 (on .0) l (on .1) (on .2) in
     let o = r .serve-read .result in
-    let says = read-says (a .b .size) (a .b .rows) box (a .a .0) in
-    let out = serve (engine (a .b .size)) (a .b .rows) box (Call.read (a .a .0)) in
+    let says = read-says (numbersOf (a .b)) (on .0) (a .a .0) in
+    let out = serve (engine (a .b .size)) (numbersOf (a .b)) (on .0) (Call.read (a .a .0)) in
     let yes = yes-of (a .b) l out left in
     rw (c .answered .ensures)
     (finish (a .b) (a .disk .now) (a .flash .now) (a .addresses .now) (a .blocks .now) k q z (c .before .before .read-word .result) (o .yes) (o .held) (o .flashed) (o .primary) 1 (c .before .one-if .result) (a .c) l _ _ _ _ _ _ refl left

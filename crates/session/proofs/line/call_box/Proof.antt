@@ -1,7 +1,8 @@
 -- The call made in the first parts of the buffers, and those put back. Assumes nothing.
 use mathlib.Core.Path.{ap, _∙_}
 use borrow.Author.Needs.{needs}
-use Rattle.refusals.specs.Given.{numbersOf, countersOf}
+use Rattle.parts.specs.Rep.{numbersOf}
+use Rattle.refusals.specs.Given.{countersOf}
 use Rattle.answers.specs.Replay.{Done, asked, doing}
 use Rattle.session.proofs.Boxing.{within-is, put-back}
 use Rattle.session.proofs.line.call_box.Statement.{statement}

@@ -5,7 +5,8 @@ use native.Mathlib.Omega.{arith}
 use borrow.Author.Needs.{needs}
 use Rattle.block.specs.Blocks.{splice}
 use Rattle.paper.specs.Lent.{unfit}
-use Rattle.refusals.specs.Given.{numbersOf, countersOf}
+use Rattle.parts.specs.Rep.{numbersOf}
+use Rattle.refusals.specs.Given.{countersOf}
 use Rattle.answers.specs.Replay.{boxNumbers, started}
 use Rattle.session.specs.Memory.{memory, over, stateIn, stored, Holds}
 use Rattle.session.specs.MemoryLaws.{opened-fits}

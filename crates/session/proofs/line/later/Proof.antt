@@ -3,7 +3,8 @@ use mathlib.Core.Path.{ap₂, _∙_}
 use mathlib.Core.List.{[]}
 use native.Mathlib.Omega.{arith}
 use borrow.Author.Needs.{needs}
-use Rattle.refusals.specs.Given.{numbersOf, countersOf}
+use Rattle.parts.specs.Rep.{numbersOf}
+use Rattle.refusals.specs.Given.{countersOf}
 use Rattle.policy.specs.Contract.{answerOf}
 use Rattle.print.specs.Texts.{answerText}
 use Rattle.answers.specs.Replay.{asked, doing}

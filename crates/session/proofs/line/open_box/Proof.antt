@@ -2,7 +2,8 @@
 use Prim.Native.Nat.{_*_}
 use native.Mathlib.Omega.{arith}
 use borrow.Author.Needs.{needs}
-use Rattle.refusals.specs.Given.{numbersOf, countersOf}
+use Rattle.parts.specs.Rep.{numbersOf}
+use Rattle.refusals.specs.Given.{countersOf}
 use Rattle.answers.specs.Replay.{started}
 use Rattle.session.proofs.Boxing.{first-length, put-back}
 use Rattle.session.proofs.line.open_box.Statement.{statement}

@@ -29,7 +29,7 @@ clean-rows-requires c κs =
     let q = start .pre .1 in
     let u = picked-used (a .b .size) (a .b .slots) (a .blocks .now) (q .0 .free) (q .0 .used) (a .t) (q .1 .blocks-are) (q .2) (q .3) (sym (at-is-used .is-used .ensures) ∙ not-false _ (at-if1 .if1 .left)) in
     let g = at-print .block-fingerprint .ensures in (
-      (start .pre .0 .1, g .1, start .pre .0 .2, start .pre .0 .3),
+      (start .pre .0 .1, g .1, start .pre .0 .2 .0, start .pre .0 .2 .1),
       (q .0, getD (q .0 .used) (a .t) noBlock .fingerprint, q .1, u .bytes ∙ sym (g .0), u .slot ∙ sym (q .4)),
     )
 

@@ -3,11 +3,9 @@ use mathlib.Core.Path.{refl, sym, ap, _∙_}
 use Prim.Native.Nat.{_-_}
 use native.Mathlib.Omega.{arith}
 use lib.ListN.{take}
-use Rattle.tables.specs.Rows.{rows}
-use Rattle.tables.specs.PlaceLaws.{places-first}
 use Rattle.paper.specs.KeyedLaws.{clash}
 use Rattle.parts.specs.Asked.{full}
-use Rattle.tables.specs.Written.{front-free}
+use Rattle.table_laws.specs.Written.{front-free}
 use Rattle.step.proofs.Stepping.{gone-out, gone-known, gone-cached, gone-freed}
 use borrow.Author.Needs.{needs}
 use Rattle.step.proofs.steps.step3.Statement.{statement}
@@ -25,12 +23,6 @@ returns-2 c =
     let a = at-if1 .before .before .before .before .args in
     ((λ B l free used gone h hb ds e. gone-known B (a .b .slots) (a .blocks .now) (take (a .b .held - 1) l) l free used hb (a .place) (c .before .knows .result) _ (p .block-fingerprint .ensures .0) (λ q. c .before .knows .ensures (a .b .blocks) (a .b .rows) l q h) (omega (arith, at-if1 .if1 .left)) gone e (c .if2 .taken)), λ f. refl)
 
-uncached-requires : tie.Need-uncached-requires
-uncached-requires c κs =
-    let start = c .before .before .before .before .before .before .before .before .before .before in
-    let a = start .args in
-    (search needs, places-first (rows (a .b .slots) (a .blocks .now)) _ (a .b .held) (a .addrs .now) (a .places .now) (omega arith) (start .pre .1))
-
 returns-3 : tie.Need-returns-3
 returns-3 c =
     let at-if3 = c .before .before .before .before in
@@ -44,7 +36,7 @@ returns-3 c =
       (λ B l free used gone h hb ds e. c .before .before .to-front .ensures
           ∙ gone-freed B (a .b .slots) (a .blocks .now) (take (a .b .held - 1) l) l free used hb (a .place) (at-knows .knows .result) _ (p .block-fingerprint .ensures .0) (λ q. at-knows .knows .ensures (a .b .blocks) (a .b .rows) l q h) (omega (arith, at-if1 .if1 .left)) gone e (at-if2 .if2 .left) ds
           (sym (at-uncached .uncached .ensures B (a .b .blocks) (a .b .rows) (a .b .held) l free used h hb (omega arith)) ∙ at-if3 .if3 .taken)),
-      λ f. clash (ap full (sym (c .before .before .to-front .ensures)) ∙ f) (front-free (a .b .slots) (a .place) (a .blocks .now) (start .pre .0 .3) (omega (arith, at-if1 .if1 .left))),
+      λ f. clash (ap full (sym (c .before .before .to-front .ensures)) ∙ f) (front-free (a .b .slots) (a .place) (a .blocks .now) (start .pre .0 .2 .2) (omega (arith, at-if1 .if1 .left))),
     )
 
 returns-4 : tie.Need-returns-4
@@ -66,7 +58,7 @@ step3-spec =
     (λ c. search needs)
     returns-2
     (λ c. search needs)
-    uncached-requires
+    (λ c κs. search needs)
     (λ c κs. search needs)
     (λ c. search needs)
     returns-3

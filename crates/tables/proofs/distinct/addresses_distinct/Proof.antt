@@ -5,15 +5,15 @@ use Rattle.tables.specs.Bits.{has-bit, no-bits}
 use Rattle.tables.proofs.distinct.addresses_distinct.Statement.{statement}
 use Rattle.tables.proofs.distinct.addresses_distinct.Tie as tie
 
-words-distinct-requires : tie.Need-words-distinct-requires
+numbers-distinct-requires : tie.Need-numbers-distinct-requires
 unfolding readAddress
-words-distinct-requires c κs =
+numbers-distinct-requires c κs =
     let s = c .before .before in
     (search needs, ((λ k h. has-bit 8192 _ (s .pre .1 k h)), no-bits 8192))
 
 returns : tie.Need-returns
 unfolding readAddress
-returns c = c .before .words-distinct .ensures .0
+returns c = c .before .numbers-distinct .ensures .0
 
 pub addresses-distinct-spec : {M : Type 1} → statement M
-addresses-distinct-spec = tie.close (tie.spec (λ c. search needs) words-distinct-requires returns)
+addresses-distinct-spec = tie.close (tie.spec (λ c. search needs) numbers-distinct-requires returns)

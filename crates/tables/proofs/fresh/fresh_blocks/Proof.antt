@@ -33,17 +33,17 @@ loop-again c =
     let a = l .before .before .args in
     let k : ℕ = l .loop .k in
     let t : List ℕ = l .loop .t in
-    let row : List ℕ = r .free-row .result in
+    let row : List ℕ = r .free .result in
     let rest : List ℕ = drop (k * 40 + 40) t in
     let h : k < a .d = r .before .loop-test .taken in
     let lt : length t ≡ length (a .t .now) = l .loop .inv .1 in
     let g : k * 40 + 40 ≤ length t = omega (arith, l .before .before .pre .0) in
-    let lr : length row ≡ 40 = ap length (r .free-row .ensures) ∙ free-length k in
+    let lr : length row ≡ 40 = ap length (r .free .ensures) ∙ free-length k in
     let z : k ≡ 0 + k = omega arith in (
       omega arith,
       ap length (p .push-row .ensures) ∙ length-pushed k t row g lr ∙ lt,
       ap (rows (k + 1)) (p .push-row .ensures) ∙ rows-pushed k t row rest (omega arith) lr
-          ∙ rw (l .loop .inv .2, r .free-row .ensures, add-one)
+          ∙ rw (l .loop .inv .2, r .free .ensures, add-one)
           (sym (ap (λ (x : List ℕ). map blockBytes (map freeRow x)) (slots-snoc 0 k ∙ ap (λ (j : ℕ). slotsFrom 0 k ++ (j ∷ [])) (sym z)) ∙ ap (map blockBytes) (map-++ freeRow (slotsFrom 0 k) (k ∷ [])) ∙ map-++ blockBytes (map freeRow (slotsFrom 0 k)) (freeRow k ∷ []))),
     )
 

@@ -12,7 +12,7 @@ returns c =
     let w = c .before .before .before .before .before in
     let a = w .before .before .before .args in
     c .before .before .push-row .ensures
-    ∙ ap (λ (x : List ℕ). rowAdded (a .n) x (a .t .now)) (w .address-row .ensures)
+    ∙ ap (λ (x : List ℕ). rowAdded (a .n) x (a .t .now)) (w .new-address .ensures)
 
 pub push-address-spec : {M : Type 1} → statement M
 push-address-spec =

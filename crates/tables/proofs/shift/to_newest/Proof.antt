@@ -1,39 +1,26 @@
--- The row is kept aside, the later ones move down, and it is written last: `newest`. Assumes nothing.
-use Rattle.tables.specs.RowLaws.{length-part}
-use Rattle.tables.specs.ShiftLaws.{newest}
-use Prim.Native.Nat.{ℕ, _-_, _*_}
-use mathlib.Core.Path.{_≡_, ap, _∙_}
-use mathlib.Core.List.{List}
+-- The row is kept aside, taken out, and comes back at the end. Assumes nothing.
+use Prim.Native.Nat.{ℕ}
+use mathlib.Core.Path.{sym, ap, _∙_}
+use mathlib.Core.List.{List, [], _∷_, _++_}
 use native.Mathlib.Omega.{arith}
-use lib.ListN.{length, take, drop}
-use lib.Seq.{paste}
+use Rattle.tables.specs.Rows.{rows, flat, removeAt}
+use Rattle.tables.specs.RowLaws.{rows-at}
+use Rattle.tables.specs.ShiftLaws.{replaced-all}
+use Rattle.tables.specs.Operations.{rowNewest}
 use borrow.Author.Needs.{needs}
 use Rattle.tables.proofs.shift.to_newest.Statement.{statement}
 use Rattle.tables.proofs.shift.to_newest.Tie as tie
 
 returns : tie.Need-returns
+unfolding rowNewest
 returns c =
-    let b = c .before .before .before .before .before .before .before .before .before in
-    let a = b .before .before .before .args in
+    let p = c .before .before in
+    let k = p .before .before .before in
+    let a = k .before .before .before .args in
     let t = a .t .now in
-    let l : length (b .row-at .result) ≡ 40 = ap length (b .row-at .ensures) ∙ length-part t (a .i * 40) 40 (omega arith) in
-    c .before .before .write .ensures
-    ∙ rw (l, b .row-at .ensures)
-    (ap (λ (s : List ℕ). paste s (a .d * 40 - 40) (take 40 (drop (a .i * 40) t)) 40) (c .before .before .before .before .before .before .before .move-down .ensures)
-    ∙ newest t (a .d) (a .i) (omega arith) (omega arith))
+    p .replace .ensures
+    ∙ replaced-all t _ (a .d) (a .i) (omega arith)
+    ∙ ap (λ (r : List ℕ). flat (removeAt (rows (a .d) t) (a .i) ++ (r ∷ []))) (k .copy .ensures ∙ sym (rows-at (a .d) t (a .i) (omega arith)))
 
 pub to-newest-spec : {M : Type 1} → statement M
-to-newest-spec =
-    tie.close
-    (tie.spec
-    (λ c. search needs)
-    (λ c. search needs)
-    (λ c. search needs)
-    (λ c κs. search needs)
-    (λ c. search needs)
-    (λ c. search needs)
-    (λ c κs. search needs)
-    (λ c. search needs)
-    (λ c κs. search needs)
-    (λ c. search needs)
-    returns)
+to-newest-spec = tie.close (tie.spec (λ c κs. search needs) (λ c. search needs) (λ c κs. search needs) (λ c. search needs) returns)

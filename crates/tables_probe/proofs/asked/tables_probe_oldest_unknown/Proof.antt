@@ -2,8 +2,11 @@
 use mathlib.Core.Path.{_≡_, sym, ap, _∙_}
 use native.Mathlib.Omega.{arith}
 use borrow.Author.Tests.{eq-eqb, ne-eqb}
-use Rattle.tables.specs.Promises.{Passed, passed}
+use Rattle.table_laws.specs.Promises.{Passed, passed}
 use Rattle.tables_probe.specs.Probe.{number, refused, ifSound}
+use Prim.Native.Nat.{ℕ}
+use lib.ListN.{length-replicate}
+use Rattle.tables.specs.SoundLaws.{filled-with}
 use borrow.Author.Needs.{needs}
 use Rattle.tables_probe.proofs.asked.tables_probe_oldest_unknown.Statement.{statement}
 use Rattle.tables_probe.proofs.asked.tables_probe_oldest_unknown.Tie as tie
@@ -18,6 +21,9 @@ parts c =
     let a = f .before .before .before .before .args in
     passed (a .p) (a .m) (a .n) (a .d) (a .addresses .now) (a .blocks .now) (sym (f .tables-refused .ensures .0) ∙ c .if1 .left)
 
+tables-refused-requires : tie.Need-tables-refused-requires
+tables-refused-requires c κs = (length-replicate {A = ℕ} 4353 0, filled-with 4353 0)
+
 returns : tie.Need-returns
 unfolding ifSound
 returns c = rw (← number-is (c .before .before), ne-eqb _ _ (c .if1 .taken))
@@ -27,8 +33,7 @@ oldest-unknown-requires c κs =
     let e = c .before in
     let f = e .before .before in
     let p = parts e in
-    let l = f .tables-refused .ensures .1 .1 in
-    ((omega arith, (omega arith, p .few)), (p .once, f .tables-refused .ensures .1 .0 (e .if1 .left)))
+    ((omega (arith, p .held, p .sized), omega (arith, p .sized-blocks), p .few), (p .once, f .tables-refused .ensures .1 .0 (e .if1 .left)))
 
 returns-2 : tie.Need-returns-2
 unfolding ifSound
@@ -41,7 +46,7 @@ tables-probe-oldest-unknown-spec =
     tie.close
     (tie.spec
     (λ c. search needs)
-    (λ c κs. search needs)
+    tables-refused-requires
     returns
     (λ c. search needs)
     oldest-unknown-requires

@@ -1,13 +1,14 @@
 -- Where the tables pass, the rows but the newest are asked; no row is the newest of none. Assumes nothing.
 use mathlib.Core.Path.{_≡_, sym, _∙_}
-use Prim.Native.Nat.{_-_}
+use Prim.Native.Nat.{ℕ, _-_}
 use native.Mathlib.Omega.{arith}
 use borrow.Author.Tests.{eq-eqb, ne-eqb}
 use Rattle.tables.specs.Rows.{rows}
 use Rattle.tables.specs.Find.{all}
-use Rattle.tables.specs.Promises.{Passed, passed}
-use Rattle.tables.specs.PlaceLaws.{places-first}
+use Rattle.table_laws.specs.Promises.{Passed, passed}
 use Rattle.tables_probe.specs.Probe.{refused, ifSound}
+use lib.ListN.{length-replicate}
+use Rattle.tables.specs.SoundLaws.{filled-with}
 use borrow.Author.Needs.{needs}
 use Rattle.tables_probe.proofs.asked.tables_probe_some_uncached.Statement.{statement}
 use Rattle.tables_probe.proofs.asked.tables_probe_some_uncached.Tie as tie
@@ -21,6 +22,9 @@ parts c =
     let f = c .before .before in
     let a = f .before .before .before .before .args in
     passed (a .p) (a .m) (a .n) (a .d) (a .addresses .now) (a .blocks .now) (sym (f .tables-refused .ensures .0) ∙ c .if1 .left)
+
+tables-refused-requires : tie.Need-tables-refused-requires
+tables-refused-requires c κs = (length-replicate {A = ℕ} 4353 0, filled-with 4353 0)
 
 returns : tie.Need-returns
 unfolding ifSound
@@ -37,10 +41,8 @@ all-cached-requires : tie.Need-all-cached-requires
 all-cached-requires c κs =
     let e = c .before .before in
     let f = e .before .before in
-    let a = f .before .before .before .before .args in
     let p = parts e in
-    let l = f .tables-refused .ensures .1 .1 in
-    ((omega arith, p .few), places-first (rows (a .d) (a .blocks .now)) (a .n - 1) (a .n) (a .addresses .now) (f .tables-refused .last .1 .1 .1 .1 .1 .1 .0) (omega arith) (f .tables-refused .ensures .1 .0 (e .if1 .left)))
+    ((omega (arith, p .held, p .sized), omega (arith, p .sized-blocks), p .few), f .tables-refused .ensures .1 .0 (e .if1 .left))
 
 returns-3 : tie.Need-returns-3
 unfolding ifSound
@@ -59,7 +61,7 @@ tables-probe-some-uncached-spec =
     tie.close
     (tie.spec
     (λ c. search needs)
-    (λ c κs. search needs)
+    tables-refused-requires
     returns
     returns-2
     (λ c. search needs)

@@ -1,0 +1,60 @@
+//! The refusals of the tables, 6, 7 and 8.
+use crate::engine::Index;
+use crate::layout::*;
+
+/// Adds the used block rows to the index, and gives the first refusal that applies.
+pub fn check<I: Index>(sizes: &Sizes, addresses: &[u8], blocks: &[u8], index: &mut I) -> Result<(), u32> {
+    if !addresses_sound(sizes, addresses) {
+        return Err(6);
+    }
+    if !blocks_sound(sizes.d, blocks, index) {
+        return Err(7);
+    }
+    let has_block = |row: &Row| index.has(blocks, held_fingerprint(row));
+    if rows(&addresses[..sizes.n * ROW]).all(|row| !is_dirty(row) || has_block(row)) {
+        Ok(())
+    } else {
+        Err(8)
+    }
+}
+
+fn addresses_sound(sizes: &Sizes, addresses: &[u8]) -> bool {
+    let Sizes { p, m, n, .. } = *sizes;
+    if n > m {
+        return false;
+    }
+    let (held, behind) = addresses.split_at(n * ROW);
+    let held_sound = if p <= 64 * 64 { held_sound::<64>(p, held) } else { held_sound::<1024>(p, held) };
+    held_sound && all_zero(behind)
+}
+
+/// Whether each row is one of an address below `p`, and no address comes twice: there is a bit for each of WORDS * 64 addresses.
+fn held_sound<const WORDS: usize>(p: usize, held: &[u8]) -> bool {
+    let mut seen = [0u64; WORDS];
+    rows(held).all(|row| {
+        let a = address(row) as usize;
+        a < p && tail_ok(row) && {
+            let (word, bit) = (&mut seen[a / 64], 1 << (a % 64));
+            let new = *word & bit == 0;
+            *word |= bit;
+            new
+        }
+    })
+}
+
+/// Whether all bytes are zero: parts of 128 without a branch inside, so that the compiler takes them by its widest words.
+fn all_zero(bytes: &[u8]) -> bool {
+    bytes.chunks(128).all(|part| part.iter().fold(0, |all, byte| all | byte) == 0)
+}
+
+fn blocks_sound<I: Index>(d: usize, blocks: &[u8], index: &mut I) -> bool {
+    index.reserve(d);
+    let mut slots = [false; 256];
+    let mut any_used = false;
+    rows(blocks).enumerate().all(|(k, row)| {
+        let slot = slot(row);
+        any_used |= is_used(row);
+        let alone = tail_ok(row) && slot < d && !std::mem::replace(&mut slots[slot], true);
+        alone && if is_used(row) { index.add(blocks, k) } else { !any_used && all_zero(cached_fingerprint(row)) }
+    })
+}

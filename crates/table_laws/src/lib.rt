@@ -1,0 +1,1 @@
+// What holds of the tables beside what their functions promise: laws and examples, no code.

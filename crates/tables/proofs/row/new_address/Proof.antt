@@ -1,0 +1,38 @@
+-- The address, then the fingerprint, then the dirty byte: `addr-made`. Assumes nothing.
+use Rattle.tables.specs.Records.{addressBytes, bytes4}
+use Rattle.tables.specs.ShiftLaws.{addr-made}
+use Prim.Native.Nat.{ℕ}
+use mathlib.Core.Path.{_≡_, refl, ap, _∙_}
+use mathlib.Core.List.{List, [], _∷_, _++_}
+use native.Mathlib.Omega.{arith}
+use lib.ListN.{length, set}
+use borrow.Author.Needs.{needs}
+use Rattle.tables.proofs.row.new_address.Statement.{statement}
+use Rattle.tables.proofs.row.new_address.Tie as tie
+
+returns : tie.Need-returns
+unfolding addressBytes
+returns c =
+    let a = c .before .before .before .before .args in
+    let lg : length (a .g .now) ≡ 32 = omega arith in
+    let w = bytes4 (a .a .0) in
+    let row : List ℕ = w ++ (0 ∷ 0 ∷ 0 ∷ 0 ∷ 0 ∷ 0 ∷ 0 ∷ 0 ∷ 0 ∷ 0 ∷ 0 ∷ 0 ∷ 0 ∷ 0 ∷ 0 ∷ 0 ∷ 0 ∷ 0 ∷ 0 ∷ 0 ∷ 0 ∷ 0 ∷ 0 ∷ 0 ∷ 0 ∷ 0 ∷ 0 ∷ 0 ∷ 0 ∷ 0 ∷ 0 ∷ 0 ∷ 0 ∷ 0 ∷ 0 ∷ 0 ∷ []) in
+    ap (λ (x : List ℕ). set x 36 (a .dirty)) (c .before .write .ensures)
+    ∙ addr-made row w (a .g .now) (a .dirty) refl lg refl refl
+
+pub new-address-spec : {M : Type 1} → statement M
+new-address-spec =
+    tie.close
+    (tie.spec
+    (λ c. search needs)
+    (λ c. search needs)
+    (λ c. search needs)
+    (λ c. search needs)
+    (λ c. search needs)
+    (λ c. search needs)
+    (λ c. search needs)
+    (λ c. search needs)
+    (λ c. search needs)
+    (λ c κs. search needs)
+    (λ c. search needs)
+    returns)
