@@ -77,7 +77,7 @@ module _ (B P m n : ℕ) (t : List ℕ) (l : List (AddressRow (Fixed 32))) (h : 
 
 pub back-is : (b : BoxRecord) (lent : List ℕ) (s : Box (Fixed 32) (Fixed (b .size))) (a : ℕ) (x : Fixed (b .size))
     → leaves b lent (answer (engine (b .size)) (cond (cached (engine (b .size)) (engine (b .size) .hash x) (s .used)) sameBlock newBlock) none 0
-        (step (engine (b .size)) (b .rows) s (asks a (engine (b .size) .hash x) x (dirtied (engine (b .size)) (engine (b .size) .hash x) (rowOf a (s .rows))))))
+    (step (engine (b .size)) (b .rows) s (asks a (engine (b .size) .hash x) x (dirtied (engine (b .size)) (engine (b .size) .hash x) (rowOf a (s .rows))))))
     ≡ leaves b lent (serve (engine (b .size)) (numbersOf b) s (Call.back a x))
 unfolding serve writeBack
 back-is b lent s a x = refl
