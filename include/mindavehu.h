@@ -155,7 +155,8 @@ uint32_t mindavehu_write_through(uint8_t *state, size_t state_length, uint32_t a
                                  const uint8_t *block, size_t block_length,
                                  uint8_t *answer, size_t answer_length);
 
-/* Write back: `block` goes into the cache, and to the disk when it leaves the cache or at a flush. Answers SAME or NEW. */
+/* Write back: `block` goes into the cache, and to the disk when it leaves the cache or at a flush. An address that is held, clean,
+ * with the same content stays clean, and nothing is copied for it later. Answers SAME or NEW. */
 uint32_t mindavehu_write_back(uint8_t *state, size_t state_length, uint32_t address,
                               uint8_t *disk, size_t disk_length,
                               uint8_t *flash, size_t flash_length,

@@ -224,8 +224,9 @@ pub fn write<I: Index>(state: &mut [u8], a: u32, disk: &mut [u8], flash: &mut [u
     if !dirty {
         copy(block, 0, disk, a as usize, sizes.b);
     }
+    let unchanged = held.is_some_and(|k| !is_dirty(row(addresses, k)) && *held_fingerprint(row(addresses, k)) == g);
     let mut taken = Taken { sizes, index: &index, state, disk, flash, addresses, blocks };
-    let (flash_writes, primary_writes) = taken.step(a, held, &g, cached, block, dirty);
+    let (flash_writes, primary_writes) = taken.step(a, held, &g, cached, block, dirty && !unchanged);
     done(state, answer, word, flash_writes, primary_writes + !dirty as u64)
 }
 

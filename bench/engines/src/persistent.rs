@@ -213,7 +213,8 @@ impl Persistent {
     pub fn write_back(&mut self, a: u32, disk: &mut [u8], flash: &mut [u8], block: &[u8], answer: &mut [u8]) -> u32 {
         let g = fingerprint(block);
         let word = self.same_or_new(&g);
-        let writes = self.step(a, g, block, true, disk, flash);
+        let unchanged = self.held.get(&a).is_some_and(|row| !row.dirty && row.fingerprint == g);
+        let writes = self.step(a, g, block, !unchanged, disk, flash);
         self.done(answer, word, writes)
     }
 

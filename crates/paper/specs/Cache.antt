@@ -306,9 +306,17 @@ module _ {F X : Type 0} (H : Hashing F X) where
   writeThrough m s a b =
       answer (sameOrNew s b) none 1 (step H m (onDisk s a b) (record { address = a; fingerprint = H .hash b; block = b; dirty = false }))
 
-  -- "Write back: the step runs, dirty, also where a was held already with the same content. Disk address a isn't written by this call."
+  -- "a write back to a held, clean address with the same fingerprint leaves the row clean": the dirty value of a write back of fingerprint g
+  abbrev pub dirtied : F → Option (AddressRow F) → Bool
+  dirtied g none = true
+  dirtied g (some r) = r .dirty || not (H .same g (r .fingerprint))
+
+  -- "Write back: the step runs, dirty": but for that. "Disk address a isn't written by this call."
+  abbrev pub backRequest : Box F X → ℕ → X → Request F X
+  backRequest s a b = record { address = a; fingerprint = H .hash b; block = b; dirty = dirtied (H .hash b) (rowOf a (s .rows)) }
+
   unfoldable pub writeBack : ℕ → Box F X → ℕ → X → Outcome F X
-  writeBack m s a b = answer (sameOrNew s b) none 0 (step H m s (record { address = a; fingerprint = H .hash b; block = b; dirty = true }))
+  writeBack m s a b = answer (sameOrNew s b) none 0 (step H m s (backRequest s a b))
 
   -- "Write invalidate: the block goes to disk. If a is held, its row is taken out; if no row then has its fingerprint and it is cached,
   -- that block row becomes free and moves to the front."

@@ -8,7 +8,7 @@ use native.Mathlib.Omega.{arith}
 use lib.ListN.{length, getD}
 use Rattle.paper.specs.Cache.{Numbers, Hashing, AddressRow, Box, BlockRows, Stepped, Request, Outcome, Word, newest, copies, isLost, step, step1, step3}
 use Rattle.paper.specs.Cache.{step4, stored, Call, read, through, back, invalidate, look, flush, onDisk, rowWithBlock, answer, readAs, writeThrough}
-use Rattle.paper.specs.Cache.{writeBack, writeInvalidate, lookAs, flushed, serve, oneIf, isHit, sameOrNew, blockOf, hit, miss}
+use Rattle.paper.specs.Cache.{backRequest, writeBack, writeInvalidate, lookAs, flushed, serve, oneIf, isHit, sameOrNew, blockOf, hit, miss}
 use Rattle.paper.specs.KeyedLaws.{by-test}
 use Rattle.paper.specs.Cases.{by-step1, by-step4}
 use Rattle.paper.specs.Sound.{Sound, sound-step1, sound-onDisk}
@@ -84,8 +84,8 @@ module _ {F X : Type 0} (H : Hashing F X) where
       answer-few (sameOrNew H s b) none 1 (N .m + 0) (N .m + 1) (step H (N .m) (onDisk H s a b) q)
       (step-few N (onDisk H s a b) q (sound-onDisk H N s a b h) m1) (omega arith)
   serve-few N s (back a b) h m1 =
-      let q : Request F X = record { address = a; fingerprint = H .hash b; block = b; dirty = true } in
-      answer-few (sameOrNew H s b) none 0 (N .m + 1) (N .m + 1) (step H (N .m) s q) (step-few N s q h m1) (omega arith)
+      let q : Request F X = backRequest H s a b in
+      answer-few (sameOrNew H s b) none 0 (N .m + oneIf (q .dirty)) (N .m + 1) (step H (N .m) s q) (step-few N s q h m1) (omega (arith, one-if-le (q .dirty)))
   serve-few N s (invalidate a b) h m1 = (omega arith, omega arith)
   serve-few N s (look a) h m1 = go (rowWithBlock H s a)
     where

@@ -9,7 +9,7 @@ use lib.Dec.{eqb}
 use lib.ListN.{length, getD}
 use Rattle.paper.specs.Cache.{Numbers, Hashing, AddressRow, BlockRow, Box, BlockRows, rowOf, withoutAddress, known, cached, blockOf, cleaned}
 use Rattle.paper.specs.Cache.{someUncached, Call, read, through, back, invalidate, look, flush, onDisk, rowWithBlock, answer, readAs, writeThrough}
-use Rattle.paper.specs.Cache.{writeBack, dropped, writeInvalidate, lookAs, flushed, serve, fresh, freed}
+use Rattle.paper.specs.Cache.{backRequest, writeBack, dropped, writeInvalidate, lookAs, flushed, serve, fresh, freed}
 use Rattle.paper.specs.KeyedLaws.{by-test, either, clash, or-left, or-right, or-both, eqb→≡, eqb-self, All, Distinct, has-without-other, has-without, has-without-self, lost-with}
 use Rattle.paper.specs.Machines.{someUnknown, OrphanLaw, plainNext}
 use Rattle.paper.specs.Events.{Event, Throughout}
@@ -69,7 +69,7 @@ module _ {F X : Type 0} (H : Hashing F X) where
   noWaste-serve N s (read a) d l = noWaste-readAs (N .m) s a (rowWithBlock H s a) d l
   noWaste-serve N s (look a) d l = noWaste-lookAs s a (rowWithBlock H s a) l
   noWaste-serve N s (through a b) d l = noWaste-step H (N .m) (onDisk H s a b) (record { address = a; fingerprint = H .hash b; block = b; dirty = false }) d l
-  noWaste-serve N s (back a b) d l = noWaste-step H (N .m) s (record { address = a; fingerprint = H .hash b; block = b; dirty = true }) d l
+  noWaste-serve N s (back a b) d l = noWaste-step H (N .m) s (backRequest H s a b) d l
   noWaste-serve N s (invalidate a b) d l = noWaste-invalidate s a b d l
   noWaste-serve N s flush d l = noWaste-flushed (λ f. true) (s .rows) (s .used) l
 

@@ -8,9 +8,10 @@ use Prim.Native.Nat.{ℕ, _≤_, _<_}
 use lib.Dec.{eqb}
 use lib.ListN.{set, length-set}
 use lib.Seq.{ext-getD}
+use borrow.Author.Tests.{not-false}
 use Rattle.paper.specs.Cache.{Numbers, Hashing, AddressRow, BlockRow, Box, BlockRows, held, rowOf, withoutAddress, known, cached, blockOf, copied, Call}
 use Rattle.paper.specs.Cache.{read, through, back, invalidate, look, flush, Within, onDisk, rowWithBlock, ifCached, answer, readAs, writeThrough}
-use Rattle.paper.specs.Cache.{writeBack, dropped, writeInvalidate, lookAs, flushed, serve, freed}
+use Rattle.paper.specs.Cache.{dirtied, backRequest, writeBack, dropped, writeInvalidate, lookAs, flushed, serve, freed}
 use Rattle.paper.specs.KeyedLaws.{by-test, either, clash, or-both, or-false-left, or-false-right, and-left, eqb→≡, eqb-swap, All, Distinct, all-left, all-right, all-map, all-without, all-both, find-some, find-none}
 use Rattle.paper.specs.Machines.{plainNext, plainBlock, writtenBy}
 use Rattle.paper.specs.Events.{Event, boxBlocks, plainBlocks, written, Throughout, FlushesWhole}
@@ -178,6 +179,20 @@ module _ {F X : Type 0} (H : Hashing F X) (In : X → Type 0) (only : (b c : X) 
       ext-getD (H .blank) (copied H any (s .rows) (s .used) (s .flash) (s .disk)) plain (l ∙ h .diskLength ∙ sym (f .plainLength))
       (λ i k. flushed-at N plain s h f i)
 
+  -- where a write back leaves the row clean, the disk has its block already
+  still-clean : (N : Numbers) (plain : List X) (s : Box F X) (a : ℕ) (b : X) (o : Option (AddressRow F)) → rowOf a (s .rows) ≡ o → Sound H N s
+      → Faithful H In (N .P) plain s → In b → a < N .P → dirtied H (H .hash b) o ≡ false → at H (s .disk) a ≡ b
+  still-clean N plain s a b none e h f bi w k = absurd (true≢false k)
+  still-clean N plain s a b (some r) e h f bi w k =
+      let other = not (H .same (H .hash b) (r .fingerprint)) in
+      let c : r .dirty ≡ false = or-false-left (r .dirty) other k in
+      let n : other ≡ false = or-false-right (r .dirty) other k in
+      let g : H .hash b ≡ r .fingerprint = H .same→≡ (H .hash b) (r .fingerprint) (not-false (H .same (H .hash b) (r .fingerprint)) n) in
+      let y = find-some eqb (λ r. r .address) (RowTrue H In plain) a (s .rows) r e (f .rowsTrue) in
+      let pin : In (at H plain a) = all-at In plain a (H .blank) (f .plainIn) (subst (λ n. a < n) (sym (f .plainLength)) w) in
+      f .current a (row-clean H a (s .rows) r (h .addresses) e c)
+      ∙ only (at H plain a) b pin bi (ap (H .hash) (ap (at H plain) (eqb→≡ a (r .address) (y .1))) ∙ sym (y .0) ∙ sym g)
+
   pub faithful-serve : (N : Numbers) (plain : List X) (s : Box F X) (c : Call X) → Sound H N s → Faithful H In (N .P) plain s → 1 ≤ N .m → 1 ≤ N .d
       → Within (N .P) c → WritesIn H In c
       → Faithful H In (N .P) (plainNext plain c) ((serve H N s c) .box) × ((serve H N s c) .block ≡ plainBlock (H .blank) plain c)
@@ -202,9 +217,9 @@ module _ {F X : Type 0} (H : Hashing F X) (In : X → Type 0) (only : (b c : X) 
       )
   faithful-serve N plain s (back a b) h f m1 d1 w i =
       let pl = subst (λ n. a < n) (sym (f .plainLength)) w in (
-        faithful-step H In only N (set plain a b) s (record { address = a; fingerprint = H .hash b; block = b; dirty = true }) h
-            (but-set H In a (N .P) b plain s f (i .0))
-            m1 d1 w refl (i .0) (sym (at-set-same H plain a b pl)) (λ k. absurd (true≢false k)),
+        faithful-step H In only N (set plain a b) s (backRequest H s a b) h (but-set H In a (N .P) b plain s f (i .0))
+            m1 d1 w refl (i .0) (sym (at-set-same H plain a b pl))
+            (λ k. still-clean N plain s a b (rowOf a (s .rows)) refl h f (i .0) w k ∙ sym (at-set-same H plain a b pl)),
         refl,
       )
   faithful-serve N plain s (invalidate a b) h f m1 d1 w i = (faithful-invalidate N plain s a b h f (i .0) w, refl)

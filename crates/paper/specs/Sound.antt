@@ -14,7 +14,7 @@ use Rattle.paper.specs.Keyed.{has, without}
 use Rattle.paper.specs.Cache.{Numbers, Hashing, AddressRow, BlockRow, Box, RowOut, BlockRows, Request, newest, blockRow, held, rowOf, withoutAddress}
 use Rattle.paper.specs.Cache.{known, cached, withoutBlock, slotOf, blockOf, cleaned, copied, isLost, step, step1, step3, step4, freed, oldestUnknown}
 use Rattle.paper.specs.Cache.{stored, Call, read, through, back, invalidate, look, flush, Within, onDisk, rowWithBlock, answer, readAs, writeThrough}
-use Rattle.paper.specs.Cache.{writeBack, dropped, writeInvalidate, lookAs, flushed, serve, fresh}
+use Rattle.paper.specs.Cache.{backRequest, writeBack, dropped, writeInvalidate, lookAs, flushed, serve, fresh}
 use Rattle.paper.specs.KeyedLaws.{by-test, either, clash, or-left, or-right, or-false-right, and-left, and-right, eqb→≡, eqb-self, All, Distinct, all-append, all-map, all-without, all-both, has-without-other, has-without, has-without-self, without-absent, distinct-without, distinct-snoc}
 use Rattle.paper.specs.Cases.{by-step1, by-step3, by-step4, Chosen}
 use Rattle.paper.specs.Orphans.{apart, cached-in, cached-add, cached-self, oldestUnknown-some}
@@ -359,7 +359,7 @@ module _ {F X : Type 0} (H : Hashing F X) where
   sound-serve N s (read a) h m1 d1 w = sound-readAs N s a (rowWithBlock H s a) h m1 d1 w
   sound-serve N s (through a b) h m1 d1 w
       = sound-step N (onDisk H s a b) (record { address = a; fingerprint = H .hash b; block = b; dirty = false }) (sound-onDisk N s a b h) m1 d1 w
-  sound-serve N s (back a b) h m1 d1 w = sound-step N s (record { address = a; fingerprint = H .hash b; block = b; dirty = true }) h m1 d1 w
+  sound-serve N s (back a b) h m1 d1 w = sound-step N s (backRequest H s a b) h m1 d1 w
   sound-serve N s (invalidate a b) h m1 d1 w = sound-invalidate N s a b h
   sound-serve N s (look a) h m1 d1 w = sound-lookAs N s a (rowWithBlock H s a) h
   sound-serve N s flush h m1 d1 w = sound-flushed N s h

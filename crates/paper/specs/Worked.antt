@@ -329,15 +329,34 @@ more =
       disk = 9 ∷ 5 ∷ 2 ∷ 3 ∷ 4 ∷ 5 ∷ 6 ∷ 7 ∷ [];
       counters = counters 0 0 2 2;
     })
-    -- Write back of the content that a held address has already makes a clean row dirty, and leaves a dirty one dirty.
+    -- Write back of the content that a held address has already leaves a clean row clean, and a dirty one dirty; of another content, it makes a clean row dirty.
     ∷ example 2 2 (record {
       said = says (through 0 5) newBlock 1 1 ∷ says (back 0 5) sameBlock 0 0 ∷ says (back 1 6) newBlock 1 0 ∷ says (back 1 6) sameBlock 0 0 ∷ [];
       returned = [];
-      rows = dirty 0 5 ∷ dirty 1 6 ∷ [];
+      rows = clean 0 5 ∷ dirty 1 6 ∷ [];
       blocks = blockIn 5 0 ∷ blockIn 6 1 ∷ [];
       flash = 5 ∷ 6 ∷ [];
       disk = 5 ∷ 1 ∷ 2 ∷ 3 ∷ 4 ∷ 5 ∷ 6 ∷ 7 ∷ [];
       counters = counters 0 0 2 1;
+    })
+    ∷ example 2 2 (record {
+      said = says (through 0 5) newBlock 1 1 ∷ says (back 0 6) newBlock 1 0 ∷ [];
+      returned = [];
+      rows = dirty 0 6 ∷ [];
+      blocks = blockIn 5 0 ∷ blockIn 6 1 ∷ [];
+      flash = 5 ∷ 6 ∷ [];
+      disk = 5 ∷ 1 ∷ 2 ∷ 3 ∷ 4 ∷ 5 ∷ 6 ∷ 7 ∷ [];
+      counters = counters 0 0 2 1;
+    })
+    -- The same where its block is not in flash: it is stored, and the row stays clean.
+    ∷ example 2 1 (record {
+      said = says (read 0) miss 1 0 ∷ says (read 1) miss 1 0 ∷ says (back 0 0) newBlock 1 0 ∷ [];
+      returned = 0 ∷ 1 ∷ [];
+      rows = clean 1 1 ∷ clean 0 0 ∷ [];
+      blocks = blockIn 0 0 ∷ [];
+      flash = 0 ∷ [];
+      disk = slotsFrom 0 8;
+      counters = counters 2 0 3 0;
     })
     -- A read hit keeps the dirty value, 1 or 0, and makes its row newest in both tables.
     ∷ example 2 2 (record {

@@ -1,6 +1,6 @@
 -- The calls, from their steps. Assumes nothing.
 use mathlib.Core.Path.{_≡_, refl, sym, ap, ap₂, _∙_}
-use mathlib.Core.Bool.{Bool, true, false, cond}
+use mathlib.Core.Bool.{Bool, true, false, not, cond}
 use mathlib.Core.List.{List, [], _++_, append-nil}
 use mathlib.Core.Option.{Option, none, some}
 use Prim.Native.Nat.{ℕ, _≤_, _<_, _+_, _*_}
@@ -12,13 +12,17 @@ use borrow.Author.Tests.{ltb-true, ltb-false}
 use Rattle.block.specs.Blocks.{splice}
 use Rattle.parts.specs.declared.BoxRecord.{BoxRecord}
 use Rattle.paper.specs.KeyedLaws.{by-test}
-use Rattle.paper.specs.Cache.{AddressRow, BlockRow, Box, Call, Word, sameBlock, newBlock, Stepped, answer, cached, serve, writeBack, writeThrough, writeInvalidate, flushed, onDisk, withoutAddress, dropped, cleaned, copied, copies, step, hit, miss, readAs, rowWithBlock, rowOf, ifCached, blockOf}
+use Rattle.paper.specs.Cache.{AddressRow, BlockRow, Box, Call, Word, sameBlock, newBlock, Stepped, answer, cached, serve, writeBack, writeThrough, writeInvalidate, flushed, dirtied, onDisk, withoutAddress, dropped, cleaned, copied, copies, step, hit, miss, readAs, rowWithBlock, rowOf, ifCached, blockOf}
 use Rattle.paper.specs.Sound.{length-cleaned}
 use Rattle.paper.specs.Engine.{Fixed, engine}
-use Rattle.paper.specs.Lent.{join}
+use Rattle.paper.specs.Lent.{join, bit}
 use Rattle.paper.specs.Index.{indexWhere, has-yes, has-no, find-yes, find-no}
 use Rattle.parts.specs.Rep.{numbersOf, noRow, Rep, Copied, copiedRows, partBox}
-use Rattle.paper.specs.Layout.{Blocks, addressesOf}
+use Rattle.paper.specs.Layout.{Addrs, Blocks, addressesOf}
+use Rattle.tables.specs.Rows.{rowAt}
+use Rattle.tables.specs.Find.{isDirty, hasFingerprint}
+use Rattle.parts.specs.MoveLaws.{row-is, dirty-is}
+use Rattle.parts.specs.TableLaws.{has-fp}
 use Rattle.step.specs.Steps.{out4, After, after, asks, blockBytes}
 use Rattle.serve.specs.Calls.{isYes, returned, Leaves, leaves, HitAt}
 use Rattle.parts.specs.CopyLaws.{put-block-is}
@@ -50,7 +54,30 @@ answer-is b lent w o more t y0 held flashed p q disk flash addrs blocks block e 
       block = eb j;
     }
 
-pub back-is : (b : BoxRecord) (lent : List ℕ) (s : Box (Fixed 32) (Fixed (b .size))) (a : ℕ) (x : Fixed (b .size)) → leaves b lent (answer (engine (b .size)) (cond (cached (engine (b .size)) (engine (b .size) .hash x) (s .used)) sameBlock newBlock) none 0 (step (engine (b .size)) (b .rows) s (asks a (engine (b .size) .hash x) x true)))
+-- the dirty value of a write back: no such row, a dirty row, the same fingerprint, another
+module _ (B P m n : ℕ) (t : List ℕ) (l : List (AddressRow (Fixed 32))) (h : Addrs P m n t l) (a i : ℕ) (ei : i ≡ indexWhere (λ x. eqb a (x .address)) l)
+    (f : Fixed 32) (g : List ℕ) (ef : f .0 ≡ g) where
+  pub value-none : n ≤ i → 1 ≡ bit (dirtied (engine B) f (rowOf a l))
+  value-none k =
+      let e : rowOf a l ≡ none = find-no eqb (λ (x : AddressRow (Fixed 32)). x .address) a l (omega (arith, ei, k, h .count)) in
+      rw e refl
+
+  row-here : i < n → rowOf a l ≡ some (getD l i noRow)
+  row-here k =
+      find-yes eqb (λ (x : AddressRow (Fixed 32)). x .address) a l noRow (omega (arith, ei, k, h .count)) ∙ ap (λ (j : ℕ). some (getD l j noRow)) (sym ei)
+
+  pub value-dirty : i < n → isDirty (rowAt t i) ≡ true → 1 ≡ bit (dirtied (engine B) f (rowOf a l))
+  value-dirty k d = rw (row-here k, sym (dirty-is P m n t l h i k noRow) ∙ d) refl
+
+  pub value-clean : i < n → isDirty (rowAt t i) ≡ false → (y : Bool) → hasFingerprint g (rowAt t i) ≡ y → bit (not y) ≡ bit (dirtied (engine B) f (rowOf a l))
+  value-clean k d y e =
+      let z : engine B .same f (getD l i noRow .fingerprint) ≡ y
+      = sym (has-fp g f ef (getD l i noRow)) ∙ ap (hasFingerprint g) (sym (row-is P m n t l h i k noRow)) ∙ e in
+      rw (row-here k, sym (dirty-is P m n t l h i k noRow) ∙ d, z) refl
+
+pub back-is : (b : BoxRecord) (lent : List ℕ) (s : Box (Fixed 32) (Fixed (b .size))) (a : ℕ) (x : Fixed (b .size))
+    → leaves b lent (answer (engine (b .size)) (cond (cached (engine (b .size)) (engine (b .size) .hash x) (s .used)) sameBlock newBlock) none 0
+    (step (engine (b .size)) (b .rows) s (asks a (engine (b .size) .hash x) x (dirtied (engine (b .size)) (engine (b .size) .hash x) (rowOf a (s .rows))))))
     ≡ leaves b lent (serve (engine (b .size)) (numbersOf b) s (Call.back a x))
 unfolding serve writeBack
 back-is b lent s a x = refl

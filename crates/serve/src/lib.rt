@@ -4,13 +4,18 @@ use parts::copy;
 use parts::rows;
 use step::steps;
 use tables::SourceAddress;
+use tables::find;
+use tables::row;
 ghost use mathlib.Core.Path.{_≡_};
 ghost use mathlib.Core.List.{List};
 ghost use Prim.Native.Nat.{ℕ, _+_, _*_, _<_, _≤_};
 ghost use lib.ListN.{length};
 ghost use mathlib.Core.Option.{Option};
-ghost use Rattle.paper.specs.Cache.{Box, Call, serve, rowWithBlock};
+ghost use Rattle.paper.specs.Cache.{AddressRow, Box, Call, serve, rowOf, rowWithBlock, dirtied};
 ghost use Rattle.paper.specs.Engine.{Fixed, engine};
+ghost use Rattle.paper.specs.Layout.{Addrs};
+ghost use Rattle.paper.specs.Lent.{bit};
+ghost use Rattle.tables.specs.Rows.{tableBytes};
 ghost use Rattle.parts.specs.Rep.{numbersOf, Sized, Rep, Lent};
 ghost use Rattle.tables.specs.Index.{Indexed};
 ghost use Rattle.step.specs.Steps.{Sure};
@@ -30,6 +35,25 @@ pub enum Write {
     Through,
     Back,
     Invalidate,
+}
+
+// The dirty value of a write back of the fingerprint `g` to `a`: 0 where `a` is held, clean, with `g`.
+fn dirty_value(b: BoxRecord, a: SourceAddress, addrs: &[u8], g: &[u8]) -> u8
+    requires { ⌜ (b .held ≤ b .rows) × (length (now addrs) ≡ tableBytes (b .rows)) × (length (now g) ≡ 32) ⌝ }
+    ensures { λ r. ⌜ ((B : ℕ) (l : List (AddressRow (Fixed 32))) (f : Fixed 32)
+        → Addrs (b .blocks) (b .rows) (b .held) (now (addrs .entry)) l → f .0 ≡ now (g .entry) → r ≡ bit (dirtied (engine B) f (rowOf (a .0) l))) ⌝ }
+{
+    let i = rows::row_of(addrs, b.held, a);
+    if b.held <= i {
+        return 1;
+    }
+    if row::is_dirty(addrs, i) {
+        return 1;
+    }
+    if find::fingerprint_is(addrs, i, g) {
+        return 0;
+    }
+    1
 }
 
 // Write back.
@@ -52,7 +76,8 @@ fn serve_back(
 {
     let g = hash::sha256(block);
     let j = rows::place_of(blocks, b.slots, &g);
-    let d = steps::step(b, a, 1, disk, flash, addrs, blocks, &g, block, heads);
+    let w = dirty_value(b, a, addrs, &g);
+    let d = steps::step(b, a, w, disk, flash, addrs, blocks, &g, block, heads);
     Served {
         yes: j < b.slots,
         held: d.held,
@@ -193,7 +218,7 @@ fn read_hit(
 {
     let g = rows::fp_at(addrs, i);
     let dirty = rows::dirty_at(addrs, i);
-    let slot = tables::row::slot_at(blocks, j);
+    let slot = row::slot_at(blocks, j);
     block::copy_all(block::in_slot(flash, slot, b.size), block);
     steps::renew(b, a, i, j, dirty, addrs, blocks, &g);
     Served {

@@ -162,7 +162,9 @@ impl Cache {
         if to_disk {
             self.disk.put(a as usize, block);
         }
-        let mut writes = self.step(a, g, block, dirty);
+        // "a write back to a held, clean address with the same fingerprint leaves the row clean" (document 02, U1)
+        let unchanged = self.held.get(&a) == Some(&Held { fingerprint: g, dirty: false });
+        let mut writes = self.step(a, g, block, dirty && !unchanged);
         writes.primary += to_disk as u64;
         self.counted(word, writes)
     }

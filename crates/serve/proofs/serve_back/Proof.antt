@@ -1,11 +1,11 @@
 -- The step gives all but the word, which the place found first gives. Assumes nothing.
 use Rattle.hash.specs.Sha256.{sha256}
 use mathlib.Core.Path.{refl, sym, ap, _∙_}
-use mathlib.Core.Bool.{true, cond}
+use mathlib.Core.Bool.{cond}
 use mathlib.Core.Option.{none}
 use native.Mathlib.Omega.{arith}
-use Rattle.paper.specs.Cache.{cached, sameBlock, newBlock, step}
-use Rattle.paper.specs.Engine.{engine}
+use Rattle.paper.specs.Cache.{cached, dirtied, rowOf, sameBlock, newBlock, step}
+use Rattle.paper.specs.Engine.{Fixed, engine}
 use native.Mathlib.Nat.{zero-add}
 use Rattle.step.specs.Steps.{asks}
 use Rattle.serve.specs.ServeLaws.{yes-is, answer-is, back-is}
@@ -15,17 +15,23 @@ use Rattle.serve.proofs.serve_back.Tie as tie
 
 step-requires : tie.Need-step-requires
 step-requires c κs =
-    let at-sha256 = c .before .before .before .before .before .before .before .before in
+    let at-value = c .before .before .before .before .before in
+    let at-sha256 = at-value .before .before .before .before .before .before in
     let start = at-sha256 .before .before .before .before .before .before .before in
+    let a = start .args in
     let p = start .pre .0 in
     let q = start .pre .1 .0 in
     let g = at-sha256 .sha256 .ok in
-    ((p .1 .0, p .1 .1, search needs, p .1 .2, p .1 .3, p .1 .4, p .1 .5), ((q .0, true, q .1, q .2, refl), start .pre .1 .1))
+    let x : Fixed (a .b .size) = (a .block .now, p .1 .2) in
+    let f = engine (a .b .size) .hash x in
+    let v = at-value .dirty-value .ensures (a .b .size) (q .0 .rows) f (q .1 .rows-are) (sym (at-sha256 .sha256 .ensures)) in
+    ((p .1 .0, p .1 .1, search needs, p .1 .2, p .1 .3, p .1 .4, p .1 .5), ((q .0, dirtied (engine (a .b .size)) f (rowOf (a .a .0) (q .0 .rows)), q .1, q .2, v), start .pre .1 .1))
 
 returns : tie.Need-returns
 returns c =
     let at-step = c .before .before .before .before .before .before .before .before .before in
-    let at-place-of = at-step .before .before .before .before .before .before in
+    let at-value = at-step .before .before .before .before .before .before in
+    let at-place-of = at-value .before .before .before in
     let at-sha256 = at-place-of .before .before .before in
     let start = at-sha256 .before .before .before .before .before .before .before in
     let a = start .args in
@@ -35,12 +41,14 @@ returns c =
       λ s x h sd ex.
           let f = engine (a .b .size) .hash x in
           let ef = ap sha256 ex ∙ sym (at-sha256 .sha256 .ensures) in
-          answer-is (a .b) (a .block .now) (cond (cached (engine (a .b .size)) f (s .used)) sameBlock newBlock) none 0 (step (engine (a .b .size)) (a .b .rows) s (asks (a .a .0) f x true)) _ (w .result .held) (w .result .flashed) (w .result .primary) (w .result .primary) _ _ _ _ (a .block .now)
-          (w .ensures .1 s f x true h sd ef ex refl) (yes-is (a .b .size) (a .b .slots) (a .blocks .now) (s .free) (s .used) (h .blocks-are) f (p .result) (p .ensures (s .free) (s .used) f (h .blocks-are) ef)) (sym (zero-add (w .result .primary))) refl
+          let v = dirtied (engine (a .b .size)) f (rowOf (a .a .0) (s .rows)) in
+          let v = dirtied (engine (a .b .size)) f (rowOf (a .a .0) (s .rows)) in
+          answer-is (a .b) (a .block .now) (cond (cached (engine (a .b .size)) f (s .used)) sameBlock newBlock) none 0 (step (engine (a .b .size)) (a .b .rows) s (asks (a .a .0) f x v)) _ (w .result .held) (w .result .flashed) (w .result .primary) (w .result .primary) _ _ _ _ (a .block .now)
+          (w .ensures .1 s f x v h sd ef ex (at-value .dirty-value .ensures (a .b .size) (s .rows) f (h .rows-are) ef)) (yes-is (a .b .size) (a .b .slots) (a .blocks .now) (s .free) (s .used) (h .blocks-are) f (p .result) (p .ensures (s .free) (s .used) f (h .blocks-are) ef)) (sym (zero-add (w .result .primary))) refl
           ∙ back-is (a .b) (a .block .now) s (a .a .0) x,
     )
 
 pub serve-back-spec : {M : Type 1} → statement M
 serve-back-spec =
     tie.close
-    (tie.spec (λ c κs. search needs) (λ c. search needs) (λ c κs. search needs) (λ c. search needs) step-requires (λ c. search needs) (λ c. search needs) (λ c. search needs) (λ c. search needs) returns)
+    (tie.spec (λ c κs. search needs) (λ c. search needs) (λ c κs. search needs) (λ c. search needs) (λ c κs. search needs) (λ c. search needs) step-requires (λ c. search needs) (λ c. search needs) (λ c. search needs) (λ c. search needs) returns)
