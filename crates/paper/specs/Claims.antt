@@ -134,7 +134,9 @@ abbrev onePrint : Hashing ℕ ℕ
 onePrint = record { same = eqb; same→≡ = eqb→≡; same-refl = eqb-self; hash = λ x. 0; blank = 0 }
 
 pub premise-by-example : NoTwoShare onePrint (4 ∷ 5 ∷ []) → ⊥
-premise-by-example only = let e : _≡_ {A = ℕ} 4 5 = only 4 5 (List·Memᴰ·head refl) (List·Memᴰ·tail (List·Memᴰ·head refl)) refl in absurd (omega arith)
+premise-by-example only =
+    let e : _≡_ {A = ℕ} 4 5 = only 4 5 (List·Memᴰ·head refl) (List·Memᴰ·tail (List·Memᴰ·head refl)) refl in
+    absurd (omega arith)
 
 -- 1, 6, 7 and 8 are none of the numbers of a list
 pub numbers-by-example : (k : ℕ) → ServedOr239 k → (k ≢ 1) × (k ≢ 6) × (k ≢ 7) × (k ≢ 8)
@@ -191,5 +193,6 @@ module _ (N : Numbers) where
   reads-alone t rs opens =
       sym (seen-shown (opened N t) rs)
       ∙ (demand-3 N t (map asRead rs) opens) .printed (no-write rs)
-      ∙ ap (printedTrace (engine (N .B) .same) (N .m) (N .d) (contentOf (engine (N .B)) (firstPlain N (opened N t))) (record { addresses = []; fingerprints = [] }))
+      ∙ ap
+      (printedTrace (engine (N .B) .same) (N .m) (N .d) (contentOf (engine (N .B)) (firstPlain N (opened N t))) (record { addresses = []; fingerprints = [] }))
       (fed-reads (opened N t) rs)
