@@ -183,7 +183,7 @@ uint32_t mindavehu_flush(uint8_t *state, size_t state_length,
                          uint8_t *answer, size_t answer_length);
 
 /* Tells where the block at the address is: CACHE or DISK, then the byte of flash or disk where it starts, then its length B.
- * Nothing is moved or counted. */
+ * Nothing is moved or counted. A refused look keeps the answer's bytes: what they held before is no part. */
 uint32_t mindavehu_look(const uint8_t *state, size_t state_length, uint32_t address,
                         const uint8_t *disk, size_t disk_length,
                         const uint8_t *flash, size_t flash_length,

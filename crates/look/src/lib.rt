@@ -11,7 +11,7 @@ ghost use Rattle.paper.specs.Lent.{Ask, calling, refusal, call};
 ghost use Rattle.parts.specs.Rep.{numbersOf};
 ghost use Rattle.refusals.specs.Given.{lent};
 ghost use Rattle.policy.specs.Contract.{answerOf};
-ghost use Rattle.look.specs.Look.{whereIs};
+ghost use Rattle.look.specs.Look.{whereIs, partAt};
 
 // Where the block of an address is, or the number of the refusal.
 pub enum Place {
@@ -79,7 +79,7 @@ pub fn look(
     }
 }
 
-// Look's part: the block of `a`, empty where the look is refused.
+// Look's part: the block of `a`, empty where the look is refused. It is the part of the flash at its slot, or of the disk at its address.
 pub fn look_part<'a>(
     b: BoxRecord,
     a: SourceAddress,
@@ -90,6 +90,8 @@ pub fn look_part<'a>(
 ) -> &'a [u8]
     ensures { λ r. ⌜ ((k : Counters) → now r ≡ (call (numbersOf b) (lent b (now (disk .entry)) (now (flash .entry)) (now (addresses .entry))
         (now (blocks .entry)) k) (Ask.look (a .0))) .part) ⌝ }
+    ensures { λ r. ⌜ ((k : Counters) → now r ≡ partAt (b .size) (a .0) (now (flash .entry)) (now (disk .entry))
+        (whereIs (numbersOf b) (lent b (now (disk .entry)) (now (flash .entry)) (now (addresses .entry)) (now (blocks .entry)) k) (a .0))) ⌝ }
 {
     match place_of(b, a, disk, flash, addresses, blocks) {
         Place::Refused(_) => &disk[0..0],

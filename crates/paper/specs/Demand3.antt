@@ -75,17 +75,23 @@ seenAfter N t [] = []
 seenAfter N t (q ∷ qs) =
     ifRead (callOf (N .B) q) (λ a. seenIn (boxIn N (next N t q)) (wordOf ((call N t q) .answer))) (seenAfter N (next N t q) qs)
 
+-- "Plain disk: P blocks, first those of the disk."
+abbrev pub firstPlain : (N : Numbers) → Lent → List (Fixed (N .B))
+firstPlain N t = split (N .B) (N .P) (t .disk)
+
+-- The premise, of the first plain disk and the blocks written in the list: no two different blocks of these share a fingerprint.
+abbrev pub Premise : (N : Numbers) → Lent → List Ask → Type 0
+Premise N t qs = NoTwoShare (engine (N .B)) (firstPlain N t ++ written N t qs)
+
 -- "Demand 3 is one claim about the whole list of calls, not one for each call. A list begins with a fresh box over any disk and flash bytes."
--- t is the fresh box, and the plain disk begins as the blocks of t's disk. `fingerprints`, `blocks` and `flushes` are under the premise.
+-- t is the fresh box. `fingerprints`, `blocks` and `flushes` are under the premise.
 -- `printed` is of a list with no write in it: of reads alone, or with looks and flushes among them.
 pub record Demand3 (N : Numbers) (t : Lent) (qs : List Ask) : Type 0 where
   pub numbers : All ServedOr239 (refusals N t qs)
-  pub orphans : Throughout N (λ x plain. OrphanLaw (engine (N .B)) (boxIn N x)) t (split (N .B) (N .P) (t .disk)) qs
-  pub fingerprints : NoTwoShare (engine (N .B)) (split (N .B) (N .P) (t .disk) ++ written N t qs)
-      → Throughout N (λ x plain. TrueFingerprints (engine (N .B)) (boxIn N x) plain) t (split (N .B) (N .P) (t .disk)) qs
-  pub blocks : NoTwoShare (engine (N .B)) (split (N .B) (N .P) (t .disk) ++ written N t qs) → EachServed N (ShowsPlain N) t (split (N .B) (N .P) (t .disk)) qs
-  pub flushes : NoTwoShare (engine (N .B)) (split (N .B) (N .P) (t .disk) ++ written N t qs)
-      → EachServed N (FlushesWhole N) t (split (N .B) (N .P) (t .disk)) qs
+  pub orphans : Throughout N (λ x plain. OrphanLaw (engine (N .B)) (boxIn N x)) t (firstPlain N t) qs
+  pub fingerprints : Premise N t qs → Throughout N (λ x plain. TrueFingerprints (engine (N .B)) (boxIn N x) plain) t (firstPlain N t) qs
+  pub blocks : Premise N t qs → EachServed N (ShowsPlain N) t (firstPlain N t) qs
+  pub flushes : Premise N t qs → EachServed N (FlushesWhole N) t (firstPlain N t) qs
   pub printed : All (λ q. NoWrite (callOf (N .B) q)) qs
-      → seenAfter N t qs ≡ printedTrace (engine (N .B) .same) (N .m) (N .d) (contentOf (engine (N .B)) (split (N .B) (N .P) (t .disk)))
+      → seenAfter N t qs ≡ printedTrace (engine (N .B) .same) (N .m) (N .d) (contentOf (engine (N .B)) (firstPlain N t))
       (record { addresses = []; fingerprints = [] }) (readsOf N t qs)

@@ -9,7 +9,7 @@ use lib.Dec.{eqb}
 use borrow.Author.Tests.{eqb-true, eqb-false, not-false}
 use Rattle.tables.specs.Records.{addressTable, blockTable, freeRow, slotsFrom, freshAddresses, freshBlocks}
 use Rattle.paper.specs.Cache as Paper
-use Rattle.paper.specs.Cache.{Numbers, Hashing, Box, noCounts}
+use Rattle.paper.specs.Cache.{Numbers, Hashing, Box, Counters, noCounts}
 use Rattle.paper.specs.KeyedLaws.{All, by-test, clash}
 use Rattle.paper.specs.Engine.{Fixed, engine}
 use Rattle.paper.specs.Lent.{Lent, Ask, opening, calling, callOf, lentBlock, addressOf, wrongBuffers, wrongBlock, outside, counts, over, unfit, refusal}
@@ -29,7 +29,7 @@ use Rattle.paper.specs.EventList.{OnEvents, on-events}
 use Rattle.paper.specs.Parts.{length-split, join-split}
 use Rattle.paper.specs.LentLaws.{Lengths, right-lengths, Passes, sound-passes, lent-back}
 use Rattle.paper.specs.RefusalLaws.{exactly-opening, served-is, keeps, opened-is}
-use Rattle.paper.specs.CallLaws.{fits, served-finds, outcome, served-lent, served-box, served-passes}
+use Rattle.paper.specs.CallLaws.{fits, served-finds, outcome, outcome-sound, served-lent, served-box, served-passes, look-counts}
 
 -- a test and its opposite
 cond-not : {A : Type 0} (b : Bool) (x y : A) → cond (not b) x y ≡ cond b y x
@@ -277,3 +277,36 @@ module _ (N : Numbers) where
 -- The theorem: demand 3 for every list of calls, from a fresh box over any disk and flash bytes, wherever the opening is not refused
 pub demand-3 : (N : Numbers) (t : Lent) (qs : List Ask) → refusal N t opening ≡ 0 → Demand3 N (opened N t) qs
 demand-3 N t qs opens = demand-3-from N t opens qs
+
+-- lent memory that some sound box writes
+abbrev pub Written : (N : Numbers) → Lent → Type 0
+Written N t = (s : Box (Fixed 32) (Fixed (N .B))) × (k : Counters) × Sound (engine (N .B)) N s × (t ≡ lentOf N s k)
+
+-- a fresh box is such, and what a call leaves where it found such
+pub opened-written : (N : Numbers) (t : Lent) → refusal N t opening ≡ 0 → Written N (opened N t)
+opened-written N t o = (_, noCounts, fresh-sound N t o, fresh-lent N t o)
+
+pub call-written : (N : Numbers) (t : Lent) (q : Ask) → Written N t → Written N (next N t q)
+call-written N t q w =
+    by-test (eqb (refusal N t (calling q)) 0)
+    (λ y. let e = eqb-true (refusal N t (calling q)) 0 y in (_, _, outcome-sound N t q e, served-lent N t q e))
+    (λ y. subst (Written N) (sym (keeps N t q (eqb-false (refusal N t (calling q)) 0 y) .lent)) w)
+
+-- there a look leaves what is lent as it is
+pub look-stays : (N : Numbers) (t : Lent) (a : ℕ) → Written N t → (call N t (Ask.look a)) .lent ≡ t
+unfolding callOf lentOf
+look-stays N t a w =
+    let q = Ask.look a in
+    by-test (eqb (refusal N t (calling q)) 0)
+    (λ y.
+    let e = eqb-true (refusal N t (calling q)) 0 y in
+    let f = (served-finds N t q e) .fits in
+    let s = w .0 in
+    let k = w .1 in
+    let back : boxIn N t ≡ s = ap (boxIn N) (w .3) ∙ lent-back N s (w .2) k (f .P-most) (f .d-most) in
+    let box : (outcome N t q) .box ≡ s = Quiet.look-same (engine (N .B)) N (boxIn N t) a ∙ back in
+    let own = ap (λ (x : Lent). x .counters) (served-lent N t q e) in
+    let same = look-counts N t a in
+    let mine = ap (λ (x : Lent). x .counters) (w .3) in
+    served-lent N t q e ∙ ap₂ {C = Lent} (lentOf N) box (sym own ∙ same ∙ mine) ∙ sym (w .3))
+    (λ y. keeps N t q (eqb-false (refusal N t (calling q)) 0 y) .lent)

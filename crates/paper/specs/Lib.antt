@@ -13,6 +13,9 @@ pub mod Demand3Laws
 pub mod RefusalLaws
 pub mod CallLaws
 pub mod Premise
+-- what the definitions and the claims mean, by name and by example; a list of reads alone; what a write back leaves on the disk
+pub mod Claims
+pub mod BackKeeps
 -- lemmas
 pub mod KeyedLaws
 pub mod Events

@@ -68,23 +68,31 @@ served-word : (N : Numbers) (t : Lent) (q : Ask) → refusal N t (calling q) ≡
 unfolding served
 served-word N t q e = ap (λ (x : After). x .answer) (served-is N t q e)
 
-module _ (q : Ask) (s disk flash addresses blocks l : List ℕ) (h : fitting s l ≡ true) (bytes : (i : ℕ) → getD s i 0 < 256) where
+module _ (q : Ask) (s disk flash addresses blocks l : List ℕ) (h : fitting s l ≡ true) where
   seventy-two : length s ≡ 72
   unfolding fitting
   seventy-two = eqb-true (length s) 72 (and-left (eqb (length s) 72) (eqb (length l) 24) h)
 
-  -- after a call the bytes carry what the paper's call left, served or refused
-  pub carried : (let z = leaves q s disk flash addresses blocks l in Carries (z .state) (z .disk) (z .flash) (z .addresses) (z .blocks) (numbersOf (recordIn s)) ((call (numbersOf (recordIn s)) (lentIn s disk flash addresses blocks) q) .lent))
+  -- after a call the bytes carry what the paper's call left, served or refused, where the counters have 64 bits
+  pub carried-64 : In64 (countersOf (countersIn s))
+      → (let z = leaves q s disk flash addresses blocks l in Carries (z .state) (z .disk) (z .flash) (z .addresses) (z .blocks) (numbersOf (recordIn s))
+      ((call (numbersOf (recordIn s)) (lentIn s disk flash addresses blocks) q) .lent))
   unfolding leaves
-  carried =
+  carried-64 b =
       let N = numbersOf (recordIn s) in
       let t = lentIn s disk flash addresses blocks in
       rw h
       (by-test (eqb (refusal N t (calling q)) 0)
       (λ y. let e = eqb-true (refusal N t (calling q)) 0 y in
-      next-served s seventy-two l (call N t q) _ _ _ (served-word N t q e) (held-below N t q e) (counters-stay N t q (in64 s bytes)))
+      next-served s seventy-two l (call N t q) _ _ _ (served-word N t q e) (held-below N t q e) (counters-stay N t q b))
       (λ y. let k = keeps N t q (eqb-false (refusal N t (calling q)) 0 y) in
       next-refused s seventy-two l (call N t q) _ disk flash addresses blocks (k .answer) (k .lent)))
+
+  -- they have where the state is of bytes
+  pub carried : ((i : ℕ) → getD s i 0 < 256)
+      → (let z = leaves q s disk flash addresses blocks l in Carries (z .state) (z .disk) (z .flash) (z .addresses) (z .blocks) (numbersOf (recordIn s))
+      ((call (numbersOf (recordIn s)) (lentIn s disk flash addresses blocks) q) .lent))
+  carried bytes = carried-64 (in64 s bytes)
 
 -- after an opening they carry the fresh box, or where it is refused what was given, with n = 0
 module _ (s disk flash addresses blocks : List ℕ) (h : length s ≡ 72) where

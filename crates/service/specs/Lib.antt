@@ -2,3 +2,5 @@
 pub mod Left
 -- a call reads what the call before it wrote
 pub mod Carried
+-- a whole list of C calls from an opening: each is the paper's, and demand 3 holds of the list
+pub mod Listed

@@ -1,0 +1,151 @@
+-- Demand 3 of the calls on lent bytes: from an opened box, for every list of calls of which each meets its contract, what each answers and leaves is the
+-- paper's, and `Demand3` holds of the list. Assumes nothing.
+use mathlib.Core.Path.{_≡_, refl, sym, ap, _∙_, subst, subst₂}
+use mathlib.Core.List.{List, [], _∷_, map}
+use mathlib.Core.Option.{Option, none}
+use Prim.Native.Nat.{ℕ}
+use lib.Dec.{eqb}
+use borrow.Author.Tests.{eqb-true, eqb-false}
+use Rattle.counters.specs.declared.Counters as Code
+use Rattle.paper.specs.KeyedLaws.{by-test}
+use Rattle.paper.specs.Cache.{Numbers, Counters}
+use Rattle.paper.specs.Lent.{Lent, Ask, After, opening, calling, refusal, served, call, opened}
+use Rattle.paper.specs.RefusalLaws.{served-is, keeps}
+use Rattle.paper.specs.Demand3.{next, Demand3}
+use Rattle.paper.specs.Demand3Laws.{demand-3, Written, opened-written, call-written, look-stays}
+use Rattle.parts.specs.declared.BoxRecord.{BoxRecord}
+use Rattle.parts.specs.Rep.{numbersOf}
+use Rattle.refusals.specs.Given.{countersOf, lent}
+use Rattle.open.specs.declared.Begun.{Begun}
+use Rattle.open.specs.Contract.{Opened, begun, opens, numberOf}
+use Rattle.policy.specs.declared.Answer as CodeAnswer
+use Rattle.policy.specs.Contract.{answerOf, Told, told, called}
+
+-- what passes from call to call
+pub record Kept : Type 0 where
+  pub box : BoxRecord
+  pub disk : List ℕ
+  pub flash : List ℕ
+  pub addresses : List ℕ
+  pub blocks : List ℕ
+  pub counters : Code.Counters
+
+abbrev pub lentIn : Kept → Lent
+lentIn y = lent (y .box) (y .disk) (y .flash) (y .addresses) (y .blocks) (countersOf (y .counters))
+
+-- a call that was made: what was asked, what it answered, what it left of what passes on and of the one block lent to it, and the part it returned
+pub record Made : Type 0 where
+  pub ask : Ask
+  pub answer : CodeAnswer.Answer
+  pub left : Kept
+  pub block : Option (List ℕ)
+  pub part : List ℕ
+
+abbrev pub afterOf : Made → After
+afterOf c = record { answer = answerOf (c .answer); lent = lentIn (c .left); block = c .block; part = c .part }
+
+-- the contract of a read, a write or a flush; none returns a part
+abbrev pub Calls : Kept → Made → Type 0
+Calls y c =
+    (told (record { answer = c .answer; box_record = c .left .box; counters = c .left .counters })
+    (c .left .disk) (c .left .flash) (c .left .addresses) (c .left .blocks) (c .block)
+    ≡ called (y .box) (lentIn y) (c .ask))
+    × (c .part ≡ [])
+
+-- the contracts of `look` and `look_part`; a look is lent nothing to write
+abbrev pub Looks : Kept → Made → Type 0
+Looks y c =
+    (answerOf (c .answer) ≡ (call (numbersOf (y .box)) (lentIn y) (c .ask)) .answer)
+    × (c .part ≡ (call (numbersOf (y .box)) (lentIn y) (c .ask)) .part)
+    × (c .left ≡ y)
+    × (c .block ≡ none)
+
+abbrev pub Meets : Kept → Made → Ask → Type 0
+Meets y c (Ask.look a) = Looks y c
+Meets y c (Ask.read a l) = Calls y c
+Meets y c (Ask.through a l) = Calls y c
+Meets y c (Ask.back a l) = Calls y c
+Meets y c (Ask.invalidate a l) = Calls y c
+Meets y c Ask.flush = Calls y c
+
+-- calls one after the other, each on what the last one left
+unfoldable pub InTurn : Kept → List Made → Type 0
+InTurn y [] = Unit {0}
+InTurn y (c ∷ cs) = Meets y c (c .ask) × InTurn (c .left) cs
+
+-- each answers and leaves what the paper's call does, on what the paper's last call left
+unfoldable pub Follows : Numbers → Lent → List Made → Type 0
+Follows N t [] = Unit {0}
+Follows N t (c ∷ cs) = (numbersOf (c .left .box) ≡ N) × (afterOf c ≡ call N t (c .ask)) × Follows N (next N t (c .ask)) cs
+
+-- a look is lent no block
+look-block : (N : Numbers) (t : Lent) (a : ℕ) → (call N t (Ask.look a)) .block ≡ none
+unfolding served
+look-block N t a =
+    let q = Ask.look a in
+    by-test (eqb (refusal N t (calling q)) 0)
+    (λ y. ap (λ (x : After). x .block) (served-is N t q (eqb-true (refusal N t (calling q)) 0 y)))
+    (λ y. keeps N t q (eqb-false (refusal N t (calling q)) 0 y) .block)
+
+module _ (N : Numbers) where
+  -- the bytes are the paper's
+  pub record Is (y : Kept) (t : Lent) : Type 0 where
+    pub numbers : numbersOf (y .box) ≡ N
+    pub lent : lentIn y ≡ t
+
+  called-is : (y : Kept) (t : Lent) (c : Made) → Is y t → Calls y c → (numbersOf (c .left .box) ≡ N) × (afterOf c ≡ call N t (c .ask))
+  called-is y t c i m =
+      let e = m .0 in
+      let p = m .1 in
+      let a : afterOf c ≡ call (numbersOf (y .box)) (lentIn y) (c .ask)
+      = (λ j. record { answer = answerOf (c .answer); lent = lentIn (c .left); block = c .block; part = p j }) ∙ ap (λ (x : Told). x .after) e in
+      (ap (λ (x : Told). x .numbers) e ∙ i .numbers, subst₂ (λ (M : Numbers) (x : Lent). afterOf c ≡ call M x (c .ask)) (i .numbers) (i .lent) a)
+
+  looked-is : (y : Kept) (t : Lent) (c : Made) (a : ℕ) → Is y t → Written N t → c .ask ≡ Ask.look a → Looks y c
+      → (numbersOf (c .left .box) ≡ N) × (afterOf c ≡ call N t (c .ask))
+  looked-is y t c a i w q m =
+      let e : answerOf (c .answer) ≡ (call N t (c .ask)) .answer
+      = subst₂ (λ (M : Numbers) (x : Lent). answerOf (c .answer) ≡ (call M x (c .ask)) .answer) (i .numbers) (i .lent) (m .0) in
+      let p : c .part ≡ (call N t (c .ask)) .part
+      = subst₂ (λ (M : Numbers) (x : Lent). c .part ≡ (call M x (c .ask)) .part) (i .numbers) (i .lent) (m .1) in
+      let l : lentIn (c .left) ≡ (call N t (c .ask)) .lent
+      = ap lentIn (m .2) ∙ i .lent ∙ sym (subst (λ (x : Ask). (call N t x) .lent ≡ t) (sym q) (look-stays N t a w)) in
+      let b : c .block ≡ (call N t (c .ask)) .block
+      = m .3 ∙ sym (subst (λ (x : Ask). (call N t x) .block ≡ none) (sym q) (look-block N t a)) in
+      (ap (λ (x : Kept). numbersOf (x .box)) (m .2) ∙ i .numbers, λ j. record { answer = e j; lent = l j; block = b j; part = p j })
+
+  meets-is : (y : Kept) (t : Lent) (c : Made) (q : Ask) → Is y t → Written N t → c .ask ≡ q → Meets y c q
+      → (numbersOf (c .left .box) ≡ N) × (afterOf c ≡ call N t (c .ask))
+  meets-is y t c (Ask.look a) i w e m = looked-is y t c a i w e m
+  meets-is y t c (Ask.read a l) i w e m = called-is y t c i m
+  meets-is y t c (Ask.through a l) i w e m = called-is y t c i m
+  meets-is y t c (Ask.back a l) i w e m = called-is y t c i m
+  meets-is y t c (Ask.invalidate a l) i w e m = called-is y t c i m
+  meets-is y t c Ask.flush i w e m = called-is y t c i m
+
+  follows : (y : Kept) (t : Lent) (cs : List Made) → Is y t → Written N t → InTurn y cs → Follows N t cs
+  unfolding InTurn Follows
+  follows y t [] i w m = tt
+  follows y t (c ∷ cs) i w m =
+      let h = meets-is y t c (c .ask) i w refl (m .0) in
+      (h .0, h .1, follows (c .left) (next N t (c .ask)) cs (record { numbers = h .0; lent = ap (λ (x : After). x .lent) (h .1) }) (call-written N t (c .ask) w) (m .1))
+
+-- what an opening left
+abbrev pub first : Begun → (disk flash addresses blocks : List ℕ) → Kept
+first r disk flash addresses blocks =
+    record { box = r .box_record; disk = disk; flash = flash; addresses = addresses; blocks = blocks; counters = r .counters }
+
+-- The theorem. `open` was called, by its contract told r and left addresses′ and blocks′, and was not refused; then any list of calls, one after the other.
+module _ (b : BoxRecord) (disk flash addresses blocks : List ℕ) (k : Counters) (r : Begun) (addresses′ blocks′ : List ℕ) (cs : List Made) where
+  abbrev pub given : Lent
+  given = lent b disk flash addresses blocks k
+
+  pub policy-demand-3 : begun r disk flash addresses′ blocks′ ≡ opens b disk flash addresses blocks k → numberOf (r .answer) ≡ 0
+      → InTurn (first r disk flash addresses′ blocks′) cs
+      → Follows (numbersOf b) (opened (numbersOf b) given) cs × Demand3 (numbersOf b) (opened (numbersOf b) given) (map (λ c. c .ask) cs)
+  policy-demand-3 e z m =
+      let o : refusal (numbersOf b) given opening ≡ 0 = sym (ap (λ (x : Opened). x .number) e) ∙ z in
+      let i : Is (numbersOf b) (first r disk flash addresses′ blocks′) (opened (numbersOf b) given)
+      = record { numbers = ap (λ (x : Opened). x .numbers) e; lent = ap (λ (x : Opened). x .lent) e } in
+      (follows (numbersOf b) (first r disk flash addresses′ blocks′) (opened (numbersOf b) given) cs i (opened-written (numbersOf b) given o) m,
+      demand-3 (numbersOf b) given (map (λ c. c .ask) cs) o)
