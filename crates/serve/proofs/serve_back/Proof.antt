@@ -13,28 +13,33 @@ use borrow.Author.Needs.{needs}
 use Rattle.serve.proofs.serve_back.Statement.{statement}
 use Rattle.serve.proofs.serve_back.Tie as tie
 
+block-sha256-requires : tie.Need-block-sha256-requires
+block-sha256-requires c κs =
+    let p = c .before .before .before .before .before .before .pre .0 .1 in
+    rw (p .2) (p .6)
+
 step-requires : tie.Need-step-requires
 step-requires c κs =
-    let at-sha256 = c .before .before .before .before .before .before .before .before in
-    let start = at-sha256 .before .before .before .before .before .before .before in
+    let at-hash = c .before .before .before .before .before .before .before .before in
+    let start = at-hash .before .before .before .before .before .before .before in
     let p = start .pre .0 in
     let q = start .pre .1 .0 in
-    let g = at-sha256 .sha256 .ok in
+    let g = at-hash .block-sha256 .ok in
     ((p .1 .0, p .1 .1, search needs, p .1 .2, p .1 .3, p .1 .4, p .1 .5), ((q .0, true, q .1, q .2, refl), start .pre .1 .1))
 
 returns : tie.Need-returns
 returns c =
     let at-step = c .before .before .before .before .before .before .before .before .before in
     let at-place-of = at-step .before .before .before .before .before .before in
-    let at-sha256 = at-place-of .before .before .before in
-    let start = at-sha256 .before .before .before .before .before .before .before in
+    let at-hash = at-place-of .before .before .before in
+    let start = at-hash .before .before .before .before .before .before .before in
     let a = start .args in
     let p = at-place-of .place-of in
     let w = at-step .step in (
       (w .ensures .0 .0, omega (arith, w .ensures .0 .1)),
       λ s x h sd ex.
           let f = engine (a .b .size) .hash x in
-          let ef = ap sha256 ex ∙ sym (at-sha256 .sha256 .ensures) in
+          let ef = ap sha256 ex ∙ sym (at-hash .block-sha256 .ensures) in
           answer-is (a .b) (a .block .now) (cond (cached (engine (a .b .size)) f (s .used)) sameBlock newBlock) none 0 (step (engine (a .b .size)) (a .b .rows) s (asks (a .a .0) f x true)) _ (w .result .held) (w .result .flashed) (w .result .primary) (w .result .primary) _ _ _ _ (a .block .now)
           (w .ensures .1 s f x true h sd ef ex refl) (yes-is (a .b .size) (a .b .slots) (a .blocks .now) (s .free) (s .used) (h .blocks-are) f (p .result) (p .ensures (s .free) (s .used) f (h .blocks-are) ef)) (sym (zero-add (w .result .primary))) refl
           ∙ back-is (a .b) (a .block .now) s (a .a .0) x,
@@ -43,4 +48,4 @@ returns c =
 pub serve-back-spec : {M : Type 1} → statement M
 serve-back-spec =
     tie.close
-    (tie.spec (λ c κs. search needs) (λ c. search needs) (λ c κs. search needs) (λ c. search needs) step-requires (λ c. search needs) (λ c. search needs) (λ c. search needs) (λ c. search needs) returns)
+    (tie.spec block-sha256-requires (λ c. search needs) (λ c κs. search needs) (λ c. search needs) step-requires (λ c. search needs) (λ c. search needs) (λ c. search needs) (λ c. search needs) returns)
