@@ -104,7 +104,8 @@ size-whole B (inr (inr (inr (inr (inl e))))) = (omega (arith, e), omega (arith, 
 size-whole B (inr (inr (inr (inr (inr (inl e)))))) = (omega (arith, e), omega (arith, e))
 size-whole B (inr (inr (inr (inr (inr (inr e)))))) = (omega (arith, e), omega (arith, e))
 
--- U4: "B is a multiple of 64, so padding always fills one chunk": a block of each of the seven sizes, padded as any message is, is the block and then its last chunk
+-- U4: "B is a multiple of 64, so padding always fills one chunk": a block of each of the seven sizes, padded as any message is, is the block and then
+-- its last chunk
 pub one-chunk : (m : List ℕ) → Size (length m) → pad m ≡ m ++ lastChunk (bitLength (length m))
 unfolding pad padded lastChunk
 one-chunk m s =

@@ -12,11 +12,14 @@ use Rattle.hash.proofs.fingerprint.block_sha256.Tie as tie
 
 returns : tie.Need-returns
 returns c =
-    let start = c .before .before .before .before .before .before .before .before in
+    let at-blocks = c .before .before .before in
+    let at-last-chunk = at-blocks .before .before in
+    let at-bit-length = at-last-chunk .before in
+    let start = at-bit-length .before .before in
     c .digest .ensures
     ∙ ap (λ (l : List ℕ). digest l 8)
     (c .before .compress .ensures
-    ∙ rw (c .before .before .before .blocks2 .ensures, c .before .before .before .before .initial .ensures, c .before .before .before .before .before .last-chunk .ensures, c .before .before .before .before .before .before .bit-length .ensures))
+    ∙ rw (at-blocks .blocks2 .ensures, at-blocks .before .initial .ensures, at-last-chunk .last-chunk .ensures, at-bit-length .bit-length .ensures))
     ∙ sym (whole (now (start .args .block)) (start .pre))
 
 pub block-sha256-spec : {M : Type 1} → statement M
