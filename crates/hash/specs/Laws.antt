@@ -1,13 +1,16 @@
--- Laws on SHA-256 for those who cite it: how long a digest is and what its bytes are, and that the padding is the standard's, its length bytes included.
+-- Laws on SHA-256 for those who cite it: how long a digest is and what its bytes are, and that the padding is the standard's, its length bytes included,
+-- the last chunk of a block of the cache too.
 -- Assumes nothing.
 use mathlib.Core.Path.{_≡_, refl, sym, ap, _∙_}
 use mathlib.Core.List.{List, [], _∷_, _++_, append-assoc}
+use mathlib.Core.Logic.{_⊎_, inl, inr}
 use Prim.Native.Nat.{ℕ, zero, suc, _+_, _-_, _*_, _/_, _%_, _^_, _≤_, _<_}
 use native.Mathlib.Omega.{arith}
 use lib.ListN.{length, length-append, length-replicate, getD, drop, replicate}
 use lib.Pow.{mod-pow-add}
 use lib.Seq.{drop-at}
 use Rattle.hash.specs.Sha256.{zeros, padded, pad, bytes32, bytes64, H0, blocks, digest, sha256}
+use Rattle.hash.specs.LastChunk.{Size, bitLength, lastChunk}
 
 length-digest : (h : List ℕ) (n : ℕ) → length (digest h n) ≡ 4 * n
 unfolding digest bytes32
@@ -80,3 +83,36 @@ pad-length m =
     let e : pad m ≡ p ++ q = sym (append-assoc m (0x80 ∷ replicate (zeros n) 0) q) in
     let l : length (p ++ q) ≡ length p + 8 = length-append p q in
     ap (λ t. value (drop (length t - 8) t)) e ∙ ap value (drop-at p q (length (p ++ q) - 8) (omega (arith, l))) ∙ bytes64-value (8 * n % 2 ^ 64) ∙ omega arith
+
+-- the cases are eight times the size
+pub bit-length-is : (B : ℕ) → Size B → bitLength B ≡ 8 * B
+unfolding bitLength
+bit-length-is B (inl e) = rw e
+bit-length-is B (inr (inl e)) = rw e
+bit-length-is B (inr (inr (inl e))) = rw e
+bit-length-is B (inr (inr (inr (inl e)))) = rw e
+bit-length-is B (inr (inr (inr (inr (inl e))))) = rw e
+bit-length-is B (inr (inr (inr (inr (inr (inl e)))))) = rw e
+bit-length-is B (inr (inr (inr (inr (inr (inr e)))))) = rw e
+
+-- a size is a number of whole chunks, and at most 4,096
+pub size-whole : (B : ℕ) → Size B → (B % 64 ≡ 0) × (B ≤ 4096)
+size-whole B (inl e) = (omega (arith, e), omega (arith, e))
+size-whole B (inr (inl e)) = (omega (arith, e), omega (arith, e))
+size-whole B (inr (inr (inl e))) = (omega (arith, e), omega (arith, e))
+size-whole B (inr (inr (inr (inl e)))) = (omega (arith, e), omega (arith, e))
+size-whole B (inr (inr (inr (inr (inl e))))) = (omega (arith, e), omega (arith, e))
+size-whole B (inr (inr (inr (inr (inr (inl e)))))) = (omega (arith, e), omega (arith, e))
+size-whole B (inr (inr (inr (inr (inr (inr e)))))) = (omega (arith, e), omega (arith, e))
+
+-- U4: "B is a multiple of 64, so padding always fills one chunk": a block of each of the seven sizes, padded as any message is, is the block and then
+-- its last chunk
+pub one-chunk : (m : List ℕ) → Size (length m) → pad m ≡ m ++ lastChunk (bitLength (length m))
+unfolding pad padded lastChunk
+one-chunk m s =
+    let w = size-whole (length m) s in
+    let w₀ = w .0 in
+    let w₁ = w .1 in
+    let z : zeros (length m) ≡ 55 = omega arith in
+    let b : 8 * length m % 2 ^ 64 ≡ bitLength (length m) = omega arith ∙ sym (bit-length-is (length m) s) in
+    rw (z, b)

@@ -1,9 +1,10 @@
-// Prints the SHA-256 digests of the standard's example messages, one to a line.
+// Prints the SHA-256 digests of the standard's example messages, and of a block of each size of the cache, one to a line.
 ghost use mathlib.Core.Path.{_≡_};
 ghost use Prim.Native.Nat.{_<_};
 ghost use lib.ListN.{length, replicate};
 ghost use Rattle.io.specs.Digits.{glyph as glyphOf};
 ghost use Rattle.hash.specs.Sha256 as S;
+ghost use Rattle.hash.specs.LastChunk.{Size};
 ghost use Rattle.hash_vectors.specs.Hex as Hex;
 
 // The letter of a hexadecimal digit.
@@ -40,13 +41,47 @@ fn of_message(message: &[u8]) -> [u8; 64]
     hex(hash::sha256(message))
 }
 
-// Writes a line with a message's digest and its name.
-fn show(name: &[u8], message: &[u8]) {
-    let text = of_message(message);
+// The digest of a block, in hexadecimal.
+fn of_block(block: &[u8]) -> [u8; 64]
+    requires { ⌜ Size (length (now block)) ⌝ }
+    ensures { λ r. ⌜ 64 ≡ length r ⌝ }
+    ensures { λ r. ⌜ r ≡ Hex.hex (S.sha256 (now (block .entry))) 32 ⌝ }
+{
+    hex(hash::fingerprint::block_sha256(block))
+}
+
+// Writes a line with a digest and the name of what it is of.
+fn line(text: [u8; 64], name: &[u8])
+    requires { ⌜ 64 ≡ length text ⌝ }
+{
     io::write_all(1, &text);
     io::write_all(1, b"  ");
     io::write_all(1, name);
     io::write_all(1, b"\n");
+}
+
+// Writes a line with a message's digest and its name.
+fn show(name: &[u8], message: &[u8]) {
+    line(of_message(message), name);
+}
+
+// Writes a line with a block's digest and its name.
+fn show_block(name: &[u8], block: &[u8])
+    requires { ⌜ Size (length (now block)) ⌝ }
+{
+    line(of_block(block), name);
+}
+
+// A block of each size, of letters.
+fn blocks() {
+    let letters = [b'a'; 4096];
+    show_block(b"a, 64 times", &letters[0..64]);
+    show_block(b"a, 128 times", &letters[0..128]);
+    show_block(b"a, 256 times", &letters[0..256]);
+    show_block(b"a, 512 times", &letters[0..512]);
+    show_block(b"a, 1024 times", &letters[0..1024]);
+    show_block(b"a, 2048 times", &letters[0..2048]);
+    show_block(b"a, 4096 times", &letters[0..4096]);
 }
 
 // A million letters. The length is what lending the array needs.
@@ -57,7 +92,7 @@ fn million() -> [u8; 1000000]
     [b'a'; 1000000]
 }
 
-// The empty message, then the standard's messages of 24, 448 and 896 bits and of a million letters.
+// The empty message, then the standard's messages of 24, 448 and 896 bits and of a million letters, then the blocks.
 fn main() {
     show(b"empty", b"");
     show(b"abc", b"abc");
@@ -68,4 +103,5 @@ fn main() {
     show(two_full_blocks, two_full_blocks);
     let letters = million();
     show(b"a, a million times", &letters);
+    blocks();
 }

@@ -2,12 +2,13 @@
 use mathlib.Core.Path.{_≡_, refl, sym, ap, ap₂, _∙_, subst}
 use mathlib.Core.Bool.{true, and-false, false, not, _&&_, _||_}
 use mathlib.Core.List.{List, [], _∷_}
-use mathlib.Core.Logic.{_≢_}
+use mathlib.Core.Logic.{_≢_, _⊎_, inl, inr}
 use mathlib.Core.Option.{Option, none, some, Option·map}
 use Prim.Native.Nat.{ℕ, _≤_, _<_, _+_, _^_}
 use native.Mathlib.Omega.{arith}
 use lib.Dec.{eqb, leb, ltb}
 use borrow.Author.Tests.{eqb-true, eqb-false, leb-true, leb-false, ltb-false, not-false}
+use Rattle.hash.specs.LastChunk.{Size}
 use Rattle.tables.specs.Unsound.{elem}
 use Rattle.paper.specs.Cache.{Numbers, Box, About, about, Below, flushed, Outcome, Within, Counters, counted, serve, oneIf, isRead, isHit}
 use Rattle.paper.specs.KeyedLaws.{All, clash, by-test, or-false-left, or-false-right, and-left, and-right}
@@ -23,8 +24,33 @@ use Rattle.paper.specs.LentForth.{lent-forth}
 use Rattle.paper.specs.RefusalLaws.{exactly, served-is, keeps}
 use Rattle.paper.specs.FewWrites.{one-if-le, serve-few, look-nothing}
 
+-- a number of a list is its first or one of the others
+elem-either : (x y : ℕ) (ys : List ℕ) → elem x (y ∷ ys) ≡ true → (x ≡ y) ⊎ (elem x ys ≡ true)
+unfolding elem
+elem-either x y ys = by-test (eqb x y) (λ e. λ h. inl (eqb-true x y e)) (λ e. rw e (λ h. inr h))
+
+elem-only : (x y : ℕ) → elem x (y ∷ []) ≡ true → x ≡ y
+unfolding elem
+elem-only x y = by-test (eqb x y) (λ e. λ h. eqb-true x y e) (λ e. rw e (λ h. clash h refl))
+
+or-else : {A B C : Type 0} → A ⊎ B → (B → C) → A ⊎ C
+or-else (inl a) f = inl a
+or-else (inr b) f = inr (f b)
+
+-- one of the seven sizes
+seven : (B : ℕ) → elem B (64 ∷ 128 ∷ 256 ∷ 512 ∷ 1024 ∷ 2048 ∷ 4096 ∷ []) ≡ true → Size B
+seven B h =
+    or-else (elem-either B 64 _ h)
+    (λ h₁. or-else (elem-either B 128 _ h₁)
+    (λ h₂. or-else (elem-either B 256 _ h₂)
+    (λ h₃. or-else (elem-either B 512 _ h₃)
+    (λ h₄. or-else (elem-either B 1024 _ h₄)
+    (λ h₅. or-else (elem-either B 2048 _ h₅)
+    (λ h₆. elem-only B 4096 h₆))))))
+
 -- numbers that pass 1
 pub record Fits (N : Numbers) : Type 0 where
+  pub B-size : Size (N .B)
   pub P-most : N .P ≤ 65536
   pub m-least : 1 ≤ N .m
   pub m-most : N .m ≤ 1024
@@ -43,6 +69,7 @@ fits N h =
     let m = not-false (between 1 1024 (N .m)) (or-false-right (a || b) c h₃) in
     let d′ = not-false (between 1 256 (N .d)) (or-false-right (a || b || c) d h) in
     record {
+      B-size = seven (N .B) (not-false _ (or-false-left a b (or-false-left (a || b) c h₃)));
       P-most = leb-true (N .P) 65536 (and-right (leb 1 (N .P)) (leb (N .P) 65536) p);
       m-least = leb-true 1 (N .m) (and-left (leb 1 (N .m)) (leb (N .m) 1024) m);
       m-most = leb-true (N .m) 1024 (and-right (leb 1 (N .m)) (leb (N .m) 1024) m);

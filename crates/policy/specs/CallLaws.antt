@@ -74,7 +74,7 @@ module _ (b : BoxRecord) (disk flash addrs blocks : List ℕ) (k : Counters) (q 
   sized x y = (rep x y .rows-are .few, finds .passes .lengths .addresses, finds .passes .lengths .blocks)
 
   pub access : Bytes addrs → Bytes blocks → (a : ℕ) (l : List ℕ) → addressOf q ≡ some a → lentBlock q ≡ some l → Access b a l addrs blocks
-  access x y a l ea el = (finds .fits .m-least, finds .fits .d-least, block-fits l el, address-fits a ea, finds .fits .m-most, sized x y)
+  access x y a l ea el = (finds .fits .m-least, finds .fits .d-least, block-fits l el, address-fits a ea, finds .fits .m-most, sized x y, finds .fits .B-size)
 
   abbrev pub sound : Bytes addrs → Bytes blocks → LentSound b disk flash addrs blocks
   sound x y = (boxIn (numbersOf b) (lent b disk flash addrs blocks k), rep x y, sure)

@@ -5,6 +5,7 @@ use mathlib.Core.List.{List}
 use mathlib.Core.Option.{Option, none, some}
 use Prim.Native.Nat.{ℕ}
 use lib.ListN.{length}
+use Rattle.hash.specs.LastChunk.{Size}
 use Rattle.parts.specs.declared.BoxRecord.{BoxRecord}
 use Rattle.serve.specs.declared.Served.{Served}
 use Rattle.serve.specs.declared.Write.{Write}
@@ -33,9 +34,10 @@ abbrev pub returned : {B : ℕ} → Option (Fixed B) → List ℕ → List ℕ
 returned none lent = lent
 returned (some x) lent = x .0
 
--- what a read or a write needs of the box: room, a block of its size, an address on its disk, and tables of its lengths
+-- what a read or a write needs of the box: room, a block of its size, an address on its disk, tables of its lengths, and a size that is one of the seven
 abbrev pub Access : BoxRecord → (a : ℕ) → (block addrs blocks : List ℕ) → Type 0
-Access b a block addrs blocks = (0 < b .rows) × (0 < b .slots) × (length block ≡ b .size) × (a < b .blocks) × (b .rows ≤ 1024) × Sized b addrs blocks
+Access b a block addrs blocks =
+    (0 < b .rows) × (0 < b .slots) × (length block ≡ b .size) × (a < b .blocks) × (b .rows ≤ 1024) × Sized b addrs blocks × Size (b .size)
 
 -- lent bytes of some sound box
 abbrev pub LentSound : (b : BoxRecord) → (disk flash addrs blocks : List ℕ) → Type 0

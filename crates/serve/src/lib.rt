@@ -1,4 +1,5 @@
 // The calls that are not refused, on the bytes of a paper box.
+use hash::fingerprint;
 use parts::BoxRecord;
 use parts::copy;
 use parts::rows;
@@ -74,7 +75,7 @@ fn serve_back(
     ensures { λ r. ⌜ Wrote Back b (a .0) (now (disk .entry)) (now (flash .entry)) (now (addrs .entry)) (now (blocks .entry)) (now (block .entry))
         (left r (now (disk .exit)) (now (flash .exit)) (now (addrs .exit)) (now (blocks .exit)) (now (block .entry))) ⌝ }
 {
-    let g = hash::sha256(block);
+    let g = fingerprint::block_sha256(block);
     let j = rows::place_of(blocks, b.slots, &g);
     let w = dirty_value(b, a, addrs, &g);
     let d = steps::step(b, a, w, disk, flash, addrs, blocks, &g, block, heads);
@@ -131,7 +132,7 @@ fn serve_through(
     ensures { λ r. ⌜ Wrote Through b (a .0) (now (disk .entry)) (now (flash .entry)) (now (addrs .entry)) (now (blocks .entry)) (now (block .entry))
         (left r (now (disk .exit)) (now (flash .exit)) (now (addrs .exit)) (now (blocks .exit)) (now (block .entry))) ⌝ }
 {
-    let g = hash::sha256(block);
+    let g = fingerprint::block_sha256(block);
     let j = rows::place_of(blocks, b.slots, &g);
     block::put_address(block, disk, a, b.size);
     let d = steps::step(b, a, 0, disk, flash, addrs, blocks, &g, block, heads);
@@ -158,7 +159,7 @@ fn serve_invalidate(
     ensures { λ r. ⌜ ((flash : List ℕ) → Wrote Invalidate b (a .0) (now (disk .entry)) flash (now (addrs .entry)) (now (blocks .entry)) (now (block .entry))
         (left r (now (disk .exit)) flash (now (addrs .exit)) (now (blocks .exit)) (now (block .entry)))) ⌝ }
 {
-    let g = hash::sha256(block);
+    let g = fingerprint::block_sha256(block);
     let j = rows::place_of(blocks, b.slots, &g);
     let i = rows::row_of(addrs, b.held, a);
     block::put_address(block, disk, a, b.size);
@@ -251,7 +252,7 @@ fn read_miss(
         ≡ leaves b lent (serve (engine (b .size)) (numbersOf b) s (Call.read (a .0)))) ⌝ }
 {
     block::copy_all(block::at_address(disk, a, b.size), block);
-    let g = hash::sha256(block);
+    let g = fingerprint::block_sha256(block);
     let d = steps::step(b, a, 0, disk, flash, addrs, blocks, &g, block, heads);
     Served {
         yes: false,

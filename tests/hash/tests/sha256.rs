@@ -1,6 +1,6 @@
 //! The proved SHA-256 against the standard's examples and against RustCrypto's `sha2`.
 use common::Random;
-use hash::{hex, other, proved};
+use hash::{hex, other, proved, proved_block};
 
 /// The standard's messages, with the digests as NIST prints them.
 #[test]
@@ -36,7 +36,7 @@ fn every_length() {
     println!("1,101 messages of 0 to 1,100 bytes agree with RustCrypto's (seed {seed})");
 }
 
-/// The seven block sizes of the cache: one byte repeated, for each byte, and random bytes.
+/// The seven block sizes of the cache, as messages and as blocks: one byte repeated, for each byte, and random bytes.
 #[test]
 fn block_sizes() {
     let seed = 3;
@@ -46,13 +46,26 @@ fn block_sizes() {
         for byte in 0..=255 {
             let block = vec![byte; size];
             assert_eq!(proved(&block), other(&block), "size {size}, byte {byte}");
+            assert_eq!(proved_block(&block), other(&block), "a block, size {size}, byte {byte}");
         }
         for turn in 0..100 {
             let block = random.bytes(size);
             assert_eq!(proved(&block), other(&block), "seed {seed}, size {size}, turn {turn}");
+            assert_eq!(proved_block(&block), other(&block), "a block, seed {seed}, size {size}, turn {turn}");
         }
     }
     println!("{} blocks of 64 to 4,096 bytes agree with RustCrypto's (seed {seed})", sizes.len() * 356);
+}
+
+/// Bytes that are no block, handed over as one: every length from 0 to 4,200 gets its digest, so that no size beside the seven is taken for one.
+#[test]
+fn no_blocks() {
+    let seed = 6;
+    let bytes = Random(seed).bytes(4200);
+    for length in 0..=4200 {
+        assert_eq!(proved_block(&bytes[..length]), other(&bytes[..length]), "seed {seed}, length {length}");
+    }
+    println!("4,201 slices of 0 to 4,200 bytes, handed over as blocks, agree with RustCrypto's (seed {seed})");
 }
 
 /// Random messages, which begin at any place of a buffer so that no alignment is special.

@@ -12,6 +12,11 @@ use Rattle.serve.specs.ServeLaws.{yes-is, invalidate-is}
 use Rattle.serve.proofs.serve_invalidate.Statement.{statement}
 use Rattle.serve.proofs.serve_invalidate.Tie as tie
 
+block-sha256-requires : tie.Need-block-sha256-requires
+block-sha256-requires c κs =
+    let p = c .before .before .before .before .pre .0 .1 in
+    rw (p .2) (p .6)
+
 put-address-requires : tie.Need-put-address-requires
 put-address-requires c κs =
     let s = c .before .before .before .before .before .before .before .before .before .before .before in
@@ -32,7 +37,7 @@ returns c =
       (omega arith, omega arith),
       λ flash t x h sd ex.
           let f = engine (a .b .size) .hash x in
-          let ef = ap sha256 ex ∙ sym (g .sha256 .ensures) in
+          let ef = ap sha256 ex ∙ sym (g .block-sha256 .ensures) in
           invalidate-is (a .b) (a .block .now) (a .disk .now) flash (a .addrs .now) (a .blocks .now) t h (a .a .0) (p .1 .3) x _ (w .drop-row .result) _ _ _
           (yes-is (a .b .size) (a .b .slots) (a .blocks .now) (t .free) (t .used) (h .blocks-are) f (j .place-of .result) (j .place-of .ensures (t .free) (t .used) f (h .blocks-are) ef))
           (k .put-address .ensures ∙ ap (λ (y : List ℕ). splice (a .a .0 * a .b .size) y (a .disk .now)) (sym ex))
@@ -43,7 +48,7 @@ pub serve-invalidate-spec : {M : Type 1} → statement M
 serve-invalidate-spec =
     tie.close
     (tie.spec
-    (λ c κs. search needs)
+    block-sha256-requires
     (λ c. search needs)
     (λ c κs. search needs)
     (λ c κs. search needs)

@@ -18,6 +18,11 @@ use borrow.Author.Needs.{needs}
 use Rattle.serve.proofs.serve_through.Statement.{statement}
 use Rattle.serve.proofs.serve_through.Tie as tie
 
+block-sha256-requires : tie.Need-block-sha256-requires
+block-sha256-requires c κs =
+    let p = c .before .before .before .before .before .before .pre .0 .1 in
+    rw (p .2) (p .6)
+
 put-address-requires : tie.Need-put-address-requires
 put-address-requires c κs =
     let start = c .before .before .before .before .before .before .before .before .before .before .before in
@@ -28,12 +33,12 @@ put-address-requires c κs =
 step-requires : tie.Need-step-requires
 step-requires c κs =
     let at-put-address = c .before .before .before .before .before .before .before in
-    let at-sha256 = at-put-address .before .before .before .before .before in
-    let start = at-sha256 .before .before .before .before .before .before .before in
+    let at-hash = at-put-address .before .before .before .before .before in
+    let start = at-hash .before .before .before .before .before .before .before in
     let a = start .args in
     let p = start .pre .0 in
     let q = start .pre .1 .0 in
-    let g = at-sha256 .sha256 .ok in
+    let g = at-hash .block-sha256 .ok in
     let x : Fixed (a .b .size) = (a .block .now, p .1 .2) in (
       (p .1 .0, p .1 .1, search needs, p .1 .2, p .1 .3, p .1 .4, p .1 .5),
       ((onDisk (engine (a .b .size)) (q .0) (a .a .0) x, false, rep-onDisk (a .b) (a .disk .now) (a .flash .now) (a .addrs .now) (a .blocks .now) (q .0) (q .1) (a .a .0) (p .1 .3) x _ (at-put-address .put-address .ensures), sound-onDisk (engine (a .b .size)) (numbersOf (a .b)) (q .0) (a .a .0) x (q .2), refl), start .pre .1 .1),
@@ -50,15 +55,15 @@ returns c =
     let at-step = c .before .before .before .before .before .before .before .before .before .before in
     let at-put-address = at-step .before .before .before .before .before .before .before .before in
     let at-place-of = at-put-address .before .before in
-    let at-sha256 = at-place-of .before .before .before in
-    let start = at-sha256 .before .before .before .before .before .before .before in
+    let at-hash = at-place-of .before .before .before in
+    let start = at-hash .before .before .before .before .before .before .before in
     let a = start .args in
     let p = at-place-of .place-of in
     let w = at-step .step in (
       (w .ensures .0 .0, omega (arith, w .ensures .0 .1)),
       λ s x h sd ex.
           let f = engine (a .b .size) .hash x in
-          let ef = ap sha256 ex ∙ sym (at-sha256 .sha256 .ensures) in
+          let ef = ap sha256 ex ∙ sym (at-hash .block-sha256 .ensures) in
           let t = onDisk (engine (a .b .size)) s (a .a .0) x in
           answer-is (a .b) (a .block .now) (cond (cached (engine (a .b .size)) f (s .used)) sameBlock newBlock) none 1 (step (engine (a .b .size)) (a .b .rows) t (asks (a .a .0) f x false)) _ (w .result .held) (w .result .flashed) (w .result .primary) (1 + w .result .primary) _ _ _ _ (a .block .now)
           (w .ensures .1 t f x false (rep-onDisk (a .b) (a .disk .now) (a .flash .now) (a .addrs .now) (a .blocks .now) s h (a .a .0) (start .pre .0 .1 .3) x _ (at-put-address .put-address .ensures ∙ ap (λ (y : List ℕ). splice (a .a .0 * a .b .size) y (a .disk .now)) (sym ex))) (sound-onDisk (engine (a .b .size)) (numbersOf (a .b)) s (a .a .0) x sd) ef ex refl)
@@ -69,4 +74,4 @@ returns c =
 pub serve-through-spec : {M : Type 1} → statement M
 serve-through-spec =
     tie.close
-    (tie.spec (λ c κs. search needs) (λ c. search needs) (λ c κs. search needs) put-address-requires (λ c. search needs) step-requires add-t31 (λ c. search needs) (λ c. search needs) (λ c. search needs) (λ c. search needs) returns)
+    (tie.spec block-sha256-requires (λ c. search needs) (λ c κs. search needs) put-address-requires (λ c. search needs) step-requires add-t31 (λ c. search needs) (λ c. search needs) (λ c. search needs) (λ c. search needs) returns)
