@@ -146,6 +146,7 @@ module _ (b : BoxRecord) (disk flash addresses blocks : List ℕ) (k : Counters)
   policy-demand-3 e z m =
       let o : refusal (numbersOf b) given opening ≡ 0 = sym (ap (λ (x : Opened). x .number) e) ∙ z in
       let i : Is (numbersOf b) (first r disk flash addresses′ blocks′) (opened (numbersOf b) given)
-      = record { numbers = ap (λ (x : Opened). x .numbers) e; lent = ap (λ (x : Opened). x .lent) e } in
-      (follows (numbersOf b) (first r disk flash addresses′ blocks′) (opened (numbersOf b) given) cs i (opened-written (numbersOf b) given o) m,
-      demand-3 (numbersOf b) given (map (λ c. c .ask) cs) o)
+      = record { numbers = ap (λ (x : Opened). x .numbers) e; lent = ap (λ (x : Opened). x .lent) e } in (
+        follows (numbersOf b) (first r disk flash addresses′ blocks′) (opened (numbersOf b) given) cs i (opened-written (numbersOf b) given o) m,
+        demand-3 (numbersOf b) given (map (λ c. c .ask) cs) o,
+      )

@@ -188,9 +188,9 @@ module _ (N : Numbers) where
     k,
     says t y (c .ask) (c .answer) k,
     by-test (eqb (length (c .answer)) 24)
-    (λ z. rw z (follows (next N t (c .ask)) (keptBy y (c .ask) (c .answer)) cs (carries-on t y (c .ask) (c .answer) k b w z)
-    (counters-stay N t (c .ask) b) (call-written N t (c .ask) w)))
-    (λ z. rw z (subst (λ (x : Kept). Follows N t x cs) (sym (stays t y (c .ask) (c .answer) k z)) (follows t y cs k b w))),
+        (λ z. rw z (follows (next N t (c .ask)) (keptBy y (c .ask) (c .answer)) cs (carries-on t y (c .ask) (c .answer) k b w z)
+        (counters-stay N t (c .ask) b) (call-written N t (c .ask) w)))
+        (λ z. rw z (subst (λ (x : Kept). Follows N t x cs) (sym (stays t y (c .ask) (c .answer) k z)) (follows t y cs k b w))),
   )
 
 module _ (s disk flash addresses blocks : List ℕ) (cs : List Made) (h : length s ≡ 72) where
@@ -222,6 +222,6 @@ module _ (s disk flash addresses blocks : List ℕ) (cs : List Made) (h : length
       → Follows numbers (opened numbers given) first cs × Demand3 numbers (opened numbers given) (asksOf cs)
   service-demand-3 o = (
     follows numbers (opened numbers given) first cs (carried-open s disk flash addresses blocks h) (fresh-64 (opens o))
-    (opened-written numbers given (opens o)),
+        (opened-written numbers given (opens o)),
     demand-3 numbers given (asksOf cs) (opens o),
   )
