@@ -131,6 +131,23 @@ static void replay(void)
     drop(&b);
 }
 
+/* A page saved unchanged stays clean, also where its block has left flash; saved with another content it is dirty until a flush. */
+static void saved_unchanged(void)
+{
+    struct box b = make(64, 8, 2, 1);
+    EXPECT(open_box(&b) == 0);
+    EXPECT(read_block(&b, 1) == 0 && says(&b, MINDAVEHU_MISS, 1, 0));
+    EXPECT(back(&b, 1, 1) == 0 && says(&b, MINDAVEHU_SAME, 0, 0));
+    EXPECT(flush(&b) == 0 && says(&b, MINDAVEHU_DONE, 0, 0));
+    EXPECT(read_block(&b, 2) == 0 && says(&b, MINDAVEHU_MISS, 1, 0));
+    EXPECT(back(&b, 1, 1) == 0 && says(&b, MINDAVEHU_NEW, 1, 0));
+    EXPECT(flush(&b) == 0 && says(&b, MINDAVEHU_DONE, 0, 0));
+    EXPECT(back(&b, 1, 2) == 0 && back(&b, 1, 2) == 0 && says(&b, MINDAVEHU_SAME, 0, 0));
+    EXPECT(flush(&b) == 0 && says(&b, MINDAVEHU_DONE, 0, 1) && filled(b.disk + 64, 64, 2));
+    EXPECT(counted(&b, 2, 0, 4, 1));
+    drop(&b);
+}
+
 /* Tuesday to Thursday: one content at two addresses, eviction of a dirty address, flush. */
 static void sharing(void)
 {
@@ -224,6 +241,7 @@ static void refusals(void)
 int main(void)
 {
     replay();
+    saved_unchanged();
     sharing();
     writes();
     refusals();
