@@ -1,7 +1,7 @@
 /* Mindavehu: a deduplicating flash cache with D-LRU replacement, in memory that the caller lends.
  *
  * Link with libservice.a (`rt staticlib service`). The library keeps nothing between calls, allocates nothing and reads no clock:
- * whatever a call needs and leaves is in the buffers below. Each call is proved to do what document 01 says, on any bytes.
+ * whatever a call needs and leaves is in the buffers below. Each call is proved to do what documents 01 and 02 say, on any bytes.
  *
  * The box: B bytes a block (64, 128, 256, 512, 1024, 2048 or 4096), P disk blocks (1 to 65536), at most m addresses held (1 to 1024),
  * d cached blocks (1 to 256). n is the number of addresses held now.
@@ -165,10 +165,11 @@ uint32_t mindavehu_write_back(uint8_t *state, size_t state_length, uint32_t addr
                               const uint8_t *block, size_t block_length,
                               uint8_t *answer, size_t answer_length);
 
-/* Write invalidate: `block` goes to the disk at the address, and the address leaves the cache. Answers SAME or NEW. */
+/* Write invalidate: `block` goes to the disk at the address, and the address leaves the cache. The flash is lent as to the other
+ * writes; it is as it was afterwards. Answers SAME or NEW. */
 uint32_t mindavehu_write_invalidate(uint8_t *state, size_t state_length, uint32_t address,
                                     uint8_t *disk, size_t disk_length,
-                                    const uint8_t *flash, size_t flash_length,
+                                    uint8_t *flash, size_t flash_length,
                                     uint8_t *addresses, size_t addresses_length,
                                     uint8_t *blocks, size_t blocks_length,
                                     const uint8_t *block, size_t block_length,

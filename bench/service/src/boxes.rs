@@ -175,7 +175,7 @@ pub fn empty(shape: Shape) -> Start {
     Start::new("empty tables", shape, opened(shape, &contents), contents)
 }
 
-/// The bucket of a fingerprint in the index of the proved engine, as crates/checks/src/index.rt has it.
+/// The bucket of a fingerprint by its first two bytes, which give the buckets of the proved engine's index where they can (crates/checks/src/index.rt).
 fn bucket(g: &[u8]) -> u16 {
     u16::from_le_bytes([g[0], g[1]]) % 4096
 }

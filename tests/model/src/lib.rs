@@ -1,4 +1,4 @@
-//! The cache of document 01 in maps and queues, made from the document alone, to compare an engine over tables with.
+//! The cache of documents 01 and 02 in maps and queues, made from the documents alone, to compare an engine over tables with.
 //!
 //! `Cache` runs calls from a fresh box. `Lent` is a box in bytes, any bytes: `carry_out` gives what a call must answer and what every buffer
 //! must hold after it. `machines` has the two machines that the document compares a list of calls with.
