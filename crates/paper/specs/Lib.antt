@@ -2,6 +2,7 @@
 -- lent memory and refusals, worked refusals, the machines compared with, demand 3. (`All` is in KeyedLaws.)
 pub mod Keyed
 pub mod Cache
+pub mod Batch
 pub mod Worked
 pub mod Engine
 pub mod Lent
@@ -36,5 +37,6 @@ pub mod SoundTests
 pub mod LentLaws
 pub mod LentForth
 pub mod FewWrites
+pub mod BatchLaws
 pub mod Index
 pub mod Layout

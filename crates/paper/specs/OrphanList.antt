@@ -18,11 +18,12 @@ use Rattle.paper.specs.Sound.{Sound, sound-serve, sound-fresh}
 use Rattle.paper.specs.PlainDisk.{ServedWithin}
 
 module _ {F X : Type 0} (H : Hashing F X) where
-  noWaste-readAs : (m : ℕ) (s : Box F X) (a : ℕ) (o : Option (AddressRow F)) → Distinct eqb (λ r. r .address) (s .rows) → NoWaste H (s .rows) (s .used)
-      → NoWaste H ((readAs H m s a o) .box .rows) ((readAs H m s a o) .box .used)
+  pub noWaste-readAs : (m : ℕ) (s : Box F X) (a : ℕ) (x : X) (o : Option (AddressRow F)) → Distinct eqb (λ r. r .address) (s .rows) → NoWaste H (s .rows) (s .used)
+      → NoWaste H ((readAs H m s a x o) .box .rows) ((readAs H m s a x o) .box .used)
   unfolding readAs answer
-  noWaste-readAs m s a (some r) d l = noWaste-step H m s (record { address = a; fingerprint = r .fingerprint; block = blockOf H (r .fingerprint) (s .used) (s .flash); dirty = r .dirty }) d l
-  noWaste-readAs m s a none d l = noWaste-step H m s (record { address = a; fingerprint = H .hash (getD (s .disk) a (H .blank)); block = getD (s .disk) a (H .blank); dirty = false }) d l
+  noWaste-readAs m s a x (some r) d l =
+      noWaste-step H m s (record { address = a; fingerprint = r .fingerprint; block = blockOf H (r .fingerprint) (s .used) (s .flash); dirty = r .dirty }) d l
+  noWaste-readAs m s a x none d l = noWaste-step H m s (record { address = a; fingerprint = H .hash x; block = x; dirty = false }) d l
 
   noWaste-lookAs : (s : Box F X) (a : ℕ) (o : Option (AddressRow F)) → NoWaste H (s .rows) (s .used) → NoWaste H ((lookAs H s a o) .box .rows) ((lookAs H s a o) .box .used)
   unfolding lookAs
@@ -66,7 +67,7 @@ module _ {F X : Type 0} (H : Hashing F X) where
   pub noWaste-serve : (N : Numbers) (s : Box F X) (c : Call X) → Distinct eqb (λ r. r .address) (s .rows) → NoWaste H (s .rows) (s .used)
       → NoWaste H ((serve H N s c) .box .rows) ((serve H N s c) .box .used)
   unfolding serve writeThrough writeBack answer flushed
-  noWaste-serve N s (read a) d l = noWaste-readAs (N .m) s a (rowWithBlock H s a) d l
+  noWaste-serve N s (read a) d l = noWaste-readAs (N .m) s a (getD (s .disk) a (H .blank)) (rowWithBlock H s a) d l
   noWaste-serve N s (look a) d l = noWaste-lookAs s a (rowWithBlock H s a) l
   noWaste-serve N s (through a b) d l = noWaste-step H (N .m) (onDisk H s a b) (record { address = a; fingerprint = H .hash b; block = b; dirty = false }) d l
   noWaste-serve N s (back a b) d l = noWaste-step H (N .m) s (backRequest H s a b) d l

@@ -102,7 +102,8 @@ module _ {F X : Type 0} (H : Hashing F X) (In : X → Type 0) (only : (b c : X) 
 
   faithful-readAs : (N : Numbers) (plain : List X) (s : Box F X) (a : ℕ) (o : Option (AddressRow F)) → rowWithBlock H s a ≡ o → Sound H N s
       → Faithful H In (N .P) plain s → 1 ≤ N .m → 1 ≤ N .d → a < N .P
-      → Faithful H In (N .P) plain ((readAs H (N .m) s a o) .box) × ((readAs H (N .m) s a o) .block ≡ some (at H plain a))
+      → Faithful H In (N .P) plain ((readAs H (N .m) s a (at H (s .disk) a) o) .box)
+      × ((readAs H (N .m) s a (at H (s .disk) a) o) .block ≡ some (at H plain a))
   unfolding readAs answer
   faithful-readAs N plain s a (some r) e h f m1 d1 w =
       let b = blockOf H (r .fingerprint) (s .used) (s .flash) in
