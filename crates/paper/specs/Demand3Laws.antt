@@ -193,7 +193,7 @@ module _ (N : Numbers) where
     fits-numbers = (exactly-opening N t .gives-0 .0 opens) .0
 
     lengths : Lengths N t
-    lengths = right-lengths N t ((exactly-opening N t .gives-0 .0 opens) .1)
+    lengths = right-lengths N t ((exactly-opening N t .gives-0 .0 opens) .1 .0)
 
     fresh-lent : opened N t ≡ lentOf N (Paper.fresh (N .d) flash disk) noCounts
     unfolding fresh lentOf freshAddresses freshBlocks flash disk
