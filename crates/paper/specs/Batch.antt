@@ -1,7 +1,7 @@
 -- U2. "One call over a list of addresses fills a buffer of as many blocks." The call on paper, and the reads done in turn, with which it is compared.
 -- Assumes nothing.
 use mathlib.Core.Bool.{Bool, true, false, not, _&&_, cond}
-use mathlib.Core.List.{List, [], _∷_, _++_}
+use mathlib.Core.List.{List, [], _∷_, _++_, map}
 use mathlib.Core.Option.{Option, none, some}
 use Prim.Native.Nat.{ℕ, _+_}
 use lib.Dec.{eqb}
@@ -14,6 +14,12 @@ use Rattle.paper.specs.Cache.{rowWithBlock, readAs, serve}
 pub record Filled (X : Type 0) : Type 0 where
   pub address : ℕ
   pub block : X
+
+abbrev pub addressesIn : {X : Type 0} → List (Filled X) → List ℕ
+addressesIn fs = map (λ f. f .address) fs
+
+abbrev pub blocksIn : {X : Type 0} → List (Filled X) → List X
+blocksIn fs = map (λ f. f .block) fs
 
 -- What the call leaves after some of its reads: the box, the buffer so far, the counters, and of the call's own: hits, misses, flash writes,
 -- primary writes, and fetches from the disk

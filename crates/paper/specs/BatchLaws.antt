@@ -16,13 +16,7 @@ use Rattle.paper.specs.OrphanList.{noWaste-readAs}
 use Rattle.paper.specs.Faithful.{at}
 use Rattle.paper.specs.PlainDisk.{Good, faithful-serve}
 use Rattle.paper.specs.FewWrites.{one-if-le, FewBy, readAs-few}
-use Rattle.paper.specs.Batch.{Filled, Batched, isMiss, seen, firstRead, start, source, blockIn, added, batchRead, batch, inTurn}
-
-abbrev pub addressesIn : {X : Type 0} → List (Filled X) → List ℕ
-addressesIn fs = map (λ f. f .address) fs
-
-abbrev pub blocksIn : {X : Type 0} → List (Filled X) → List X
-blocksIn fs = map (λ f. f .block) fs
+use Rattle.paper.specs.Batch.{Filled, Batched, addressesIn, blocksIn, isMiss, seen, firstRead, start, source, blockIn, added, batchRead, batch, inTurn}
 
 pub map-last : {X Y : Type 0} (f : X → Y) (xs : List X) (y : X) → map f (xs ++ (y ∷ [])) ≡ map f xs ++ (f y ∷ [])
 map-last f [] y = refl
@@ -91,17 +85,17 @@ module _ {F X : Type 0} (H : Hashing F X) (N : Numbers) where
       ∙ ap (λ x. x ++ l) (map-last (λ (f : Filled X). f .address) (t .filled) (record { address = a; block = blockIn H (turnOf t a .block) }))
       ∙ append-assoc (addressesIn (t .filled)) (a ∷ []) l
 
-  -- what needs no premise: the box stays sound, and nothing is wasted
+  -- what needs no premise: the box stays sound, and where nothing was wasted nothing is
   pub batch-sound : 1 ≤ N .m → 1 ≤ N .d → (t : Batched F X) (l : List ℕ) → All (λ a. a < N .P) l → Sound H N (t .box)
-      → NoWaste H (t .box .rows) (t .box .used)
-      → Sound H N ((batch H N t l) .box) × NoWaste H ((batch H N t l) .box .rows) ((batch H N t l) .box .used)
+      → Sound H N ((batch H N t l) .box)
+      × (NoWaste H (t .box .rows) (t .box .used) → NoWaste H ((batch H N t l) .box .rows) ((batch H N t l) .box .used))
   unfolding batch batchRead
-  batch-sound m1 d1 t [] w h n = (h, n)
-  batch-sound m1 d1 t (a ∷ l) w h n =
+  batch-sound m1 d1 t [] w h = (h, λ n. n)
+  batch-sound m1 d1 t (a ∷ l) w h =
       let b = source H (t .box) a (firstRead a (t .filled)) in
       let o = rowWithBlock H (t .box) a in
-      batch-sound m1 d1 (batchRead H N t a) l (w .1) (sound-readAs H N (t .box) a b o h m1 d1 (w .0))
-      (noWaste-readAs H (N .m) (t .box) a b o (h .addresses) n)
+      let r = batch-sound m1 d1 (batchRead H N t a) l (w .1) (sound-readAs H N (t .box) a b o h m1 d1 (w .0)) in
+      (r .0, λ n. r .1 (noWaste-readAs H (N .m) (t .box) a b o (h .addresses) n))
 
   pub batch-grows : 1 ≤ N .m → 1 ≤ N .d → N .m ≤ 1024 → (t : Batched F X) (l : List ℕ) → Sound H N (t .box) → All (λ a. a < N .P) l
       → GrownBy (length l) (t .counters) ((batch H N t l) .counters)

@@ -182,7 +182,7 @@ pub record In64 (k : Counters) : Type 0 where
 abbrev Half : Counters → Type 0
 Half k = (k .reads ≤ 2 ^ 63) × (k .hits ≤ 2 ^ 63) × (k .flashWrites ≤ 2 ^ 63) × (k .primaryWrites ≤ 2 ^ 63)
 
-not-over : (k : Counters) → over k ≡ false → Half k
+pub not-over : (k : Counters) → over k ≡ false → Half k
 unfolding over
 not-over k h =
     let a = ltb (2 ^ 63) (k .reads) in

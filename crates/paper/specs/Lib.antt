@@ -6,6 +6,7 @@ pub mod Batch
 pub mod Worked
 pub mod Engine
 pub mod Lent
+pub mod BatchLent
 pub mod Refused
 pub mod Machines
 pub mod Demand3
@@ -38,5 +39,6 @@ pub mod LentLaws
 pub mod LentForth
 pub mod FewWrites
 pub mod BatchLaws
+pub mod BatchLentLaws
 pub mod Index
 pub mod Layout

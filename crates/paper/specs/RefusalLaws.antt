@@ -19,7 +19,7 @@ use Rattle.paper.specs.Lent.{served, kept, call, fresh, unopened, opened
 abbrev pub numbersOf : List Test → List ℕ
 numbersOf l = map (λ x. x .number) l
 
-abbrev isIn : ℕ → List ℕ → Bool
+abbrev pub isIn : ℕ → List ℕ → Bool
 isIn n l = has eqb (λ k. k) n l
 
 -- 0 and the numbers are all different
