@@ -13,11 +13,11 @@ use Rattle.tables.specs.Unsound.{addressesUnsound, blocksUnsound, dirtyUncached
 use Rattle.paper.specs.Cache.{Numbers, Call, counted, serve}
 use Rattle.paper.specs.KeyedLaws.{eqb-self, All, or-false-left, or-false-right}
 use Rattle.paper.specs.Engine.{Fixed, engine}
-use Rattle.paper.specs.Lent.{Lent, Ask, test, calling, callOf, refusal, unfit, wrongBuffers, otherLength, over, boxIn, lentOf, served}
+use Rattle.paper.specs.Lent.{Lent, Ask, test, oneOf, calling, callOf, refusal, unfit, wrongBuffers, otherLength, over, boxIn, lentOf, served}
 use Rattle.paper.specs.Sound.{Sound, sound-serve}
 use Rattle.paper.specs.Orphans.{NoWaste}
 use Rattle.paper.specs.LentLaws.{Passes, right-lengths, passes-sound, sound-passes, lent-back}
-use Rattle.paper.specs.RefusalLaws.{Apart, NoneOf, isIn, gives, gives-none, in-first}
+use Rattle.paper.specs.RefusalLaws.{Apart, NoneOf, gives, gives-none, in-first}
 use Rattle.paper.specs.CallLaws.{Fits, fits, In64, not-over}
 use Rattle.paper.specs.Batch.{Batched, start, added, inTurn}
 use Rattle.paper.specs.BatchLaws.{batch-sound, batch-grows}
@@ -65,7 +65,7 @@ module _ (N : Numbers) (t : Lent) (l buffer : List ℕ) where
     pub gives-8 : number ≡ 8 ↔ (NoneOf (test1 ∷ test2 ∷ test10 ∷ test3 ∷ test6 ∷ test7 ∷ []) × (test8 ≡ true))
     pub gives-9 : number ≡ 9 ↔ (NoneOf (test1 ∷ test2 ∷ test10 ∷ test3 ∷ test6 ∷ test7 ∷ test8 ∷ []) × (test9 ≡ true))
     pub gives-0 : number ≡ 0 ↔ NoneOf (test1 ∷ test2 ∷ test10 ∷ test3 ∷ test6 ∷ test7 ∷ test8 ∷ test9 ∷ [])
-    pub no-other : isIn number (0 ∷ 1 ∷ 2 ∷ 10 ∷ 3 ∷ 6 ∷ 7 ∷ 8 ∷ 9 ∷ []) ≡ true
+    pub no-other : oneOf number (0 ∷ 1 ∷ 2 ∷ 10 ∷ 3 ∷ 6 ∷ 7 ∷ 8 ∷ 9 ∷ []) ≡ true
 
   pub exactly-batch : ExactlyBatch
   unfolding batchRefusal

@@ -9,6 +9,7 @@ use lib.ListN.{length, drop}
 use Rattle.tables.specs.Records as Table
 use Rattle.tables.specs.Records.{addressTable, heldRows, blockTable, blockRows, freeRow, freshAddresses, freshBlocks}
 use Rattle.tables.specs.Unsound.{elem, addressesUnsound, blocksUnsound, dirtyUncached}
+use Rattle.paper.specs.Keyed.{has}
 use Rattle.paper.specs.Cache.{Numbers, AddressRow, BlockRow, Box, Call, About, about, Word, Counters, noCounts, counted, serve}
 use Rattle.paper.specs.Engine.{Fixed, fit, engine}
 use Rattle.tables.specs.Rows.{tableBytes}
@@ -167,6 +168,9 @@ test b n = record { holds = b; number = n }
 abbrev pub first : List Test → ℕ
 first [] = 0
 first (x ∷ xs) = cond (x .holds) (x .number) (first xs)
+
+abbrev pub oneOf : ℕ → List ℕ → Bool
+oneOf n l = has eqb (λ k. k) n l
 
 -- the tests of the tables, which every call but opening makes
 abbrev pub tableTests : Numbers → Lent → List Test → List Test

@@ -30,7 +30,6 @@ pub mod OrphanList
 pub mod Order
 pub mod Printed
 pub mod Quiet
-pub mod EventList
 pub mod Parts
 pub mod RowBytes
 pub mod TestLaws

@@ -8,19 +8,15 @@ use lib.Dec.{eqb}
 use lib.ListN.{take, drop}
 use borrow.Author.Tests.{ne-eqb}
 use Rattle.tables.specs.Unsound.{addressesUnsound, blocksUnsound, dirtyUncached}
-use Rattle.paper.specs.Keyed.{has}
 use Rattle.paper.specs.KeyedLaws.{All, Distinct, by-test, either, clash, eqb→≡, eqb-self, or-cases, or-left, or-right, or-false-left, or-false-right}
 use Rattle.paper.specs.Cache.{Numbers}
 use Rattle.paper.specs.Lent.{Lent, Ask, opening, calling, addressOf, lentBlock, unfit, wrongBuffers, wrongBlock, outside, over, counts}
-use Rattle.paper.specs.Lent.{Test, test, first, tests, refusal, refused}
+use Rattle.paper.specs.Lent.{Test, test, first, oneOf, tests, refusal, refused}
 use Rattle.paper.specs.Lent.{served, kept, call, fresh, unopened, opened}
 
 -- the numbers of tests
 abbrev pub numbersOf : List Test → List ℕ
 numbersOf l = map (λ x. x .number) l
-
-abbrev pub isIn : ℕ → List ℕ → Bool
-isIn n l = has eqb (λ k. k) n l
 
 -- 0 and the numbers are all different
 abbrev pub Apart : List Test → Type 0
@@ -33,26 +29,26 @@ NoneOf l = All (λ b. b ≡ false) l
 abbrev pub holdings : List Test → List Bool
 holdings l = map (λ x. x .holds) l
 
-in-middle : (before : List Test) (x : Test) (after : List Test) → isIn (x .number) (numbersOf (before ++ (x ∷ after))) ≡ true
+in-middle : (before : List Test) (x : Test) (after : List Test) → oneOf (x .number) (numbersOf (before ++ (x ∷ after))) ≡ true
 in-middle [] x after = rw (eqb-self (x .number)) refl
-in-middle (y ∷ ys) x after = or-right (eqb (x .number) (y .number)) (isIn (x .number) (numbersOf (ys ++ (x ∷ after)))) (in-middle ys x after)
+in-middle (y ∷ ys) x after = or-right (eqb (x .number) (y .number)) (oneOf (x .number) (numbersOf (ys ++ (x ∷ after)))) (in-middle ys x after)
 
 -- what is given is 0 or one of the numbers
-pub in-first : (l : List Test) → isIn (first l) (0 ∷ numbersOf l) ≡ true
+pub in-first : (l : List Test) → oneOf (first l) (0 ∷ numbersOf l) ≡ true
 in-first [] = refl
 in-first (x ∷ xs) =
     by-test (x .holds)
-    (λ e. rw e (or-right (eqb (x .number) 0) (isIn (x .number) (numbersOf (x ∷ xs))) (in-middle [] x xs)))
-    (λ e. rw e (either (or-cases (eqb (first xs) 0) (isIn (first xs) (numbersOf xs)) (in-first xs))
-    (λ y. or-left (eqb (first xs) 0) (isIn (first xs) (numbersOf (x ∷ xs))) y)
-    (λ y. or-right (eqb (first xs) 0) (isIn (first xs) (numbersOf (x ∷ xs))) (or-right (eqb (first xs) (x .number)) (isIn (first xs) (numbersOf xs)) y))))
+    (λ e. rw e (or-right (eqb (x .number) 0) (oneOf (x .number) (numbersOf (x ∷ xs))) (in-middle [] x xs)))
+    (λ e. rw e (either (or-cases (eqb (first xs) 0) (oneOf (first xs) (numbersOf xs)) (in-first xs))
+    (λ y. or-left (eqb (first xs) 0) (oneOf (first xs) (numbersOf (x ∷ xs))) y)
+    (λ y. or-right (eqb (first xs) 0) (oneOf (first xs) (numbersOf (x ∷ xs))) (or-right (eqb (first xs) (x .number)) (oneOf (first xs) (numbersOf xs)) y))))
 
 -- the tests but the first are apart too
 apart-rest : (x : Test) (xs : List Test) → Apart (x ∷ xs) → Apart xs
-apart-rest x xs d = (or-false-right (eqb 0 (x .number)) (isIn 0 (numbersOf xs)) (d .0), d .1 .1)
+apart-rest x xs d = (or-false-right (eqb 0 (x .number)) (oneOf 0 (numbersOf xs)) (d .0), d .1 .1)
 
 not-zero : (x : Test) (xs : List Test) → Apart (x ∷ xs) → x .number ≢ 0
-not-zero x xs d e = clash (rw e refl) (or-false-left (eqb 0 (x .number)) (isIn 0 (numbersOf xs)) (d .0))
+not-zero x xs d e = clash (rw e refl) (or-false-left (eqb 0 (x .number)) (oneOf 0 (numbersOf xs)) (d .0))
 
 -- Each number is given exactly where its test holds and none before it does, and 0 exactly where none holds.
 pub gives : (before : List Test) (x : Test) (after : List Test) → Apart (before ++ (x ∷ after))
@@ -60,7 +56,7 @@ pub gives : (before : List Test) (x : Test) (after : List Test) → Apart (befor
 gives [] x after d = (
   by-test (x .holds)
       (λ y. rw y (λ e. (tt, refl)))
-      (λ y. rw y (λ e. either (or-cases (eqb (first after) 0) (isIn (first after) (numbersOf after)) (in-first after))
+      (λ y. rw y (λ e. either (or-cases (eqb (first after) 0) (oneOf (first after) (numbersOf after)) (in-first after))
       (λ z. absurd (not-zero x after d (sym e ∙ eqb→≡ (first after) 0 z)))
       (λ z. clash (rw e at z) (d .1 .0)))),
   λ h. rw (h .1) refl,
@@ -117,7 +113,7 @@ module _ (N : Numbers) (t : Lent) (q : Ask) where
     pub gives-8 : number ≡ 8 ↔ (NoneOf (test1 ∷ test2 ∷ test3 ∷ test6 ∷ test7 ∷ []) × (test8 ≡ true))
     pub gives-9 : number ≡ 9 ↔ (NoneOf (test1 ∷ test2 ∷ test3 ∷ test6 ∷ test7 ∷ test8 ∷ []) × (test9 ≡ true))
     pub gives-0 : number ≡ 0 ↔ NoneOf (test1 ∷ test2 ∷ test3 ∷ test6 ∷ test7 ∷ test8 ∷ test9 ∷ [])
-    pub no-other : isIn number (0 ∷ 1 ∷ 2 ∷ 3 ∷ 6 ∷ 7 ∷ 8 ∷ 9 ∷ []) ≡ true
+    pub no-other : oneOf number (0 ∷ 1 ∷ 2 ∷ 3 ∷ 6 ∷ 7 ∷ 8 ∷ 9 ∷ []) ≡ true
 
   pub exactly : Exactly
   unfolding refusal
@@ -148,7 +144,7 @@ pub record ExactlyOpening (N : Numbers) (t : Lent) : Type 0 where
   pub gives-1 : refusal N t opening ≡ 1 ↔ (NoneOf [] × (unfit N ≡ true))
   pub gives-2 : refusal N t opening ≡ 2 ↔ (NoneOf (unfit N ∷ []) × (wrongBuffers N t ≡ true))
   pub gives-0 : refusal N t opening ≡ 0 ↔ NoneOf (unfit N ∷ wrongBuffers N t ∷ [])
-  pub no-other : isIn (refusal N t opening) (0 ∷ 1 ∷ 2 ∷ []) ≡ true
+  pub no-other : oneOf (refusal N t opening) (0 ∷ 1 ∷ 2 ∷ []) ≡ true
 
 pub exactly-opening : (N : Numbers) (t : Lent) → ExactlyOpening N t
 unfolding refusal
