@@ -32,9 +32,9 @@ use Rattle.paper.specs.Quiet.{traceOf, printed-quiet}
 use Rattle.paper.specs.Parts.{length-split, join-split}
 use Rattle.paper.specs.LentLaws.{Lengths, right-lengths, Passes, passes-sound, sound-passes, lent-back}
 use Rattle.paper.specs.RefusalLaws.{exactly-opening, served-is, keeps, opened-is}
-use Rattle.paper.specs.CallLaws.{fits, served-finds, outcome, outcome-sound, served-lent, served-box, served-passes, look-counts}
+use Rattle.paper.specs.CallLaws.{fits, served-finds, outcome, outcome-sound, served-lent, served-box, served-passes, look-counts, In64, counters-stay}
 use Rattle.paper.specs.BatchLaws.{batch-sound, batch-good, batch-in-turn, batch-blocks}
-use Rattle.paper.specs.BatchLentLaws.{batch-finds, batch-served, batch-keeps, batch-lent, batch-leaves, batch-box, batch-passes, in-turn-is}
+use Rattle.paper.specs.BatchLentLaws.{batch-finds, batch-served, batch-keeps, batch-lent, batch-leaves, batch-box, batch-passes, batch-fits, in-turn-is}
 
 pub head-≡ : {A : Type 0} {x y : A} {l k : List A} → _≡_ {A = List A} (x ∷ l) (y ∷ k) → x ≡ y
 head-≡ e = cc
@@ -385,11 +385,23 @@ Written N t = (s : Box (Fixed 32) (Fixed (N .B))) × (k : Counters) × Sound (en
 pub opened-written : (N : Numbers) (t : Lent) → refusal N t opening ≡ 0 → Written N (opened N t)
 opened-written N t o = (_, noCounts, fresh-sound N t o, fresh-lent N t o)
 
-pub call-written : (N : Numbers) (t : Lent) (q : Ask) → Written N t → Written N (next N t (one q))
-call-written N t q w =
+pub next-written : (N : Numbers) (t : Lent) (q : Asking) → Written N t → Written N (next N t q)
+next-written N t (one q) w =
     by-test (eqb (refusal N t (calling q)) 0)
     (λ y. let e = eqb-true (refusal N t (calling q)) 0 y in (_, _, outcome-sound N t q e, served-lent N t q e))
     (λ y. subst (Written N) (sym (keeps N t q (eqb-false (refusal N t (calling q)) 0 y) .lent)) w)
+next-written N t (many l b) w =
+    by-test (eqb (batchRefusal N t l b) 0)
+    (λ y. let e = eqb-true (batchRefusal N t l b) 0 y in (_, _, batch-leaves N t l b e .0, batch-lent N t l b e))
+    (λ y. subst (Written N) (sym (batch-keeps N t l b (eqb-false (batchRefusal N t l b) 0 y) .lent)) w)
+
+-- counters of 64 bits keep to them, whatever is asked
+pub next-64 : (N : Numbers) (t : Lent) (q : Asking) → In64 (t .counters) → In64 ((next N t q) .counters)
+next-64 N t (one q) h = counters-stay N t q h
+next-64 N t (many l b) h =
+    by-test (eqb (batchRefusal N t l b) 0)
+    (λ y. batch-fits N t l b (eqb-true (batchRefusal N t l b) 0 y))
+    (λ y. subst (λ (x : Lent). In64 (x .counters)) (sym (batch-keeps N t l b (eqb-false (batchRefusal N t l b) 0 y) .lent)) h)
 
 -- there a look leaves what is lent as it is
 pub look-stays : (N : Numbers) (t : Lent) (a : ℕ) → Written N t → (call N t (Ask.look a)) .lent ≡ t

@@ -8,6 +8,7 @@ pub mod Engine
 pub mod Lent
 pub mod BatchLent
 pub mod Refused
+pub mod BatchWorked
 pub mod Machines
 pub mod Demand3
 -- the theorem: demand 3 of every list; what refused and served calls leave; that the premise can be met
