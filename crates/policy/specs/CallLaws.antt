@@ -62,12 +62,12 @@ module _ (b : BoxRecord) (disk flash addrs blocks : List ℕ) (k : Counters) (q 
   block-fits : (l : List ℕ) → lentBlock q ≡ some l → length l ≡ b .size
   block-fits l p =
       let x = exactly (numbersOf b) (lent b disk flash addrs blocks k) q .gives-0 .0 e in
-      eqb-true (length l) (b .size) (not-false (eqb (length l) (b .size)) (sym (ap (wrongBlock (b .size)) p) ∙ or-false-right (wrongBuffers (numbersOf b) (lent b disk flash addrs blocks k)) (wrongBlock (b .size) (lentBlock q)) (x .1)))
+      eqb-true (length l) (b .size) (not-false (eqb (length l) (b .size)) (sym (ap (wrongBlock (b .size)) p) ∙ or-false-right (wrongBuffers (numbersOf b) (lent b disk flash addrs blocks k)) (wrongBlock (b .size) (lentBlock q)) (x .1 .0)))
 
   pub address-fits : (a : ℕ) → addressOf q ≡ some a → a < b .blocks
   address-fits a p =
       let x = exactly (numbersOf b) (lent b disk flash addrs blocks k) q .gives-0 .0 e in
-      leb-false (b .blocks) a (sym (ap (outside (b .blocks)) p) ∙ x .2)
+      leb-false (b .blocks) a (sym (ap (outside (b .blocks)) p) ∙ x .1 .1 .0)
 
   -- what a served call finds: tables of the box's lengths, a sound box, a disk of its length, and its counters
   pub sized : Bytes addrs → Bytes blocks → Sized b addrs blocks
@@ -172,11 +172,12 @@ module _ (N : Numbers) (s : Box (Fixed 32) (Fixed (N .B))) (a : ℕ) where
   -- a read's word is hit or miss
   pub read-says : (serve (engine (N .B)) N s (Call.read a)) .word ≡ cond (isYes ((serve (engine (N .B)) N s (Call.read a)) .word)) hit miss
   unfolding serve readAs answer
-  read-says = go (rowWithBlock (engine (N .B)) s a)
+  read-says = go (getD (s .disk) a (engine (N .B) .blank)) (rowWithBlock (engine (N .B)) s a)
     where
-      go : (o : Option (AddressRow (Fixed 32))) → (readAs (engine (N .B)) (N .m) s a o) .word ≡ cond (isYes ((readAs (engine (N .B)) (N .m) s a o) .word)) hit miss
-      go (some r) = refl
-      go none = refl
+      go : (x : Fixed (N .B)) (o : Option (AddressRow (Fixed 32)))
+          → (readAs (engine (N .B)) (N .m) s a x o) .word ≡ cond (isYes ((readAs (engine (N .B)) (N .m) s a x o) .word)) hit miss
+      go x (some r) = refl
+      go x none = refl
 
   -- a write's word is same or new
   pub write-says : (kind : Write) (x : Fixed (N .B)) → (serve (engine (N .B)) N s (writing kind a x)) .word ≡ cond (isYes ((serve (engine (N .B)) N s (writing kind a x)) .word)) sameBlock newBlock
