@@ -1,7 +1,7 @@
 -- Demand 3 as one type: a claim about every list of calls from a fresh box, in bytes and in refusals computed from the bytes.
 -- Assumes nothing.
 use mathlib.Core.Path.{_≡_}
-use mathlib.Core.Bool.{not, cond}
+use mathlib.Core.Bool.{false, not, cond}
 use mathlib.Core.List.{List, [], _∷_, _++_}
 use mathlib.Core.Logic.{_⊎_}
 use mathlib.Core.Option.{Option, none, some, Option·map}
@@ -55,9 +55,13 @@ unfoldable pub ShowsPlain : (N : Numbers) → Lent → List (Fixed (N .B)) → A
 ShowsPlain N t plain q =
     returned q (call N t q) ≡ Option·map (λ (b : Fixed (N .B)). b .0) (plainBlock (engine (N .B) .blank) plain (callOf (N .B) q))
 
--- after a flush the disk is the plain disk
+-- "where demand 3 says "after each flush", the full one is meant": after it the disk is the plain disk
 abbrev pub FlushesWhole : (N : Numbers) → Lent → List (Fixed (N .B)) → Ask → Type 0
-FlushesWhole N t plain q = q ≡ Ask.flush → (next N t q) .disk ≡ join plain
+FlushesWhole N t plain q = q ≡ Ask.flush (N .m) → (next N t q) .disk ≡ join plain
+
+-- "the disk is the plain disk's whenever a call leaves no row dirty"
+abbrev pub CleanIsPlain : (N : Numbers) → Lent → List (Fixed (N .B)) → Type 0
+CleanIsPlain N t plain = All (λ r. r .dirty ≡ false) ((boxIn N t) .rows) → t .disk ≡ join plain
 
 -- "Printed D-LRU: it is fed the reads' addresses, which reads are refused, and the disk as it was at first"; "Compared after each read: held
 -- addresses in order, cached fingerprints in order and, unless it was refused, its hit or miss."
@@ -84,7 +88,7 @@ abbrev pub Premise : (N : Numbers) → Lent → List Ask → Type 0
 Premise N t qs = NoTwoShare (engine (N .B)) (firstPlain N t ++ written N t qs)
 
 -- "Demand 3 is one claim about the whole list of calls, not one for each call. A list begins with a fresh box over any disk and flash bytes."
--- t is the fresh box. `fingerprints`, `blocks` and `flushes` are under the premise.
+-- t is the fresh box. `fingerprints`, `blocks`, `flushes` and `clean` are under the premise.
 -- `printed` is of a list with no write in it: of reads alone, or with looks and flushes among them.
 pub record Demand3 (N : Numbers) (t : Lent) (qs : List Ask) : Type 0 where
   pub numbers : All ServedOr239 (refusals N t qs)
@@ -92,6 +96,7 @@ pub record Demand3 (N : Numbers) (t : Lent) (qs : List Ask) : Type 0 where
   pub fingerprints : Premise N t qs → Throughout N (λ x plain. TrueFingerprints (engine (N .B)) (boxIn N x) plain) t (firstPlain N t) qs
   pub blocks : Premise N t qs → EachServed N (ShowsPlain N) t (firstPlain N t) qs
   pub flushes : Premise N t qs → EachServed N (FlushesWhole N) t (firstPlain N t) qs
+  pub clean : Premise N t qs → Throughout N (CleanIsPlain N) t (firstPlain N t) qs
   pub printed : All (λ q. NoWrite (callOf (N .B) q)) qs
       → seenAfter N t qs ≡ printedTrace (engine (N .B) .same) (N .m) (N .d) (contentOf (engine (N .B)) (firstPlain N t))
       (record { addresses = []; fingerprints = [] }) (readsOf N t qs)

@@ -16,7 +16,7 @@ use Rattle.paper.specs.Lent.{Lent, Ask, opening, calling, callOf, lentBl
 use Rattle.paper.specs.Lent.{served, call, boxIn, lentOf, join, split, fresh, opened, blockAfter, partAfter}
 use Rattle.paper.specs.Machines.{plainNext, plainBlock, writtenBy, NoWrite, Compared, ifRead, seenIn, printedTrace, contentOf, OrphanLaw}
 use Rattle.paper.specs.Machines.{TrueFingerprints, NoTwoShare}
-use Rattle.paper.specs.Demand3.{next, plainStep, Throughout, EachServed, ServedOr239, refusals, written, ShowsPlain, FlushesWhole, readsOf, wordOf}
+use Rattle.paper.specs.Demand3.{next, plainStep, Throughout, EachServed, ServedOr239, refusals, written, ShowsPlain, FlushesWhole, CleanIsPlain, readsOf, wordOf}
 use Rattle.paper.specs.Demand3.{seenAfter, Demand3}
 use Rattle.paper.specs.Events as Events
 use Rattle.paper.specs.Events.{Event, boxBlocks, plainBlocks}
@@ -86,6 +86,20 @@ module _ (N : Numbers) where
         (subst₂ (λ b p. Events.Throughout H N Q b p (eventsOf N (next N t q) qs)) (sym (next-box t q)) (sym (next-plain t plain q)) (h .1)),
   )
 
+  -- where the lent memory passes, its disk is that of its box
+  clean-disk : (t : Lent) (plain : List (Fixed (N .B))) → Passes N t → (boxIn N t) .disk ≡ plain → t .disk ≡ join plain
+  unfolding boxIn
+  clean-disk t plain p e = sym (join-split (N .B) (N .P) (t .disk) (p .lengths .disk)) ∙ ap join e
+
+  clean-lent : (t : Lent) (plain : List (Fixed (N .B))) (qs : List Ask) → Passes N t → Throughout N (λ x p. Events.CleanIsPlain (boxIn N x) p) t plain qs
+      → Throughout N (CleanIsPlain N) t plain qs
+  unfolding Throughout
+  clean-lent t plain [] p h = λ c. clean-disk t plain p (h c)
+  clean-lent t plain (q ∷ qs) p h = (
+    (λ c. clean-disk t plain p (h .0 c)),
+    clean-lent (next N t q) (plainStep N t plain q) qs (next-passes t q p) (h .1),
+  )
+
   -- the blocks written
   same-written : (t : Lent) (qs : List Ask) → written N t qs ≡ Events.written (eventsOf N t qs)
   unfolding written Events.written eventsOf
@@ -128,7 +142,7 @@ module _ (N : Numbers) where
   shows t plain (Ask.through a l) z e = refl
   shows t plain (Ask.back a l) z e = refl
   shows t plain (Ask.invalidate a l) z e = refl
-  shows t plain Ask.flush z e = refl
+  shows t plain (Ask.flush k) z e = refl
 
   blocks-shown : (t : Lent) (plain : List (Fixed (N .B))) (qs : List Ask)
       → boxBlocks H N (boxIn N t) (eventsOf N t qs) ≡ plainBlocks (H .blank) plain (eventsOf N t qs) → EachServed N (ShowsPlain N) t plain qs
@@ -268,6 +282,8 @@ module _ (N : Numbers) where
             blocks = λ only. blocks-shown (opened N t) first qs
                 (from-fresh (λ b p. boxBlocks H N b es ≡ plainBlocks (H .blank) p es) (laws .blocks (premise only)));
             flushes = λ only. flushes-whole (opened N t) first qs (from-fresh (λ b p. Events.FlushesWhole H N b p es) (laws .flushes (premise only)));
+            clean = λ only. clean-lent (opened N t) first qs fresh-passes (throughout Events.CleanIsPlain (opened N t) first qs
+                (from-fresh (λ b p. Events.Throughout H N Events.CleanIsPlain b p es) (laws .clean (premise only))));
             printed = λ w. same-seen (opened N t) qs
                 ∙ from-fresh (λ b p. traceOf H N b es
                 ≡ printedTrace (H .same) (N .m) (N .d) (contentOf H p) (record { addresses = []; fingerprints = [] }) (Quiet.readsOf es)) (printed-reads w)

@@ -7,10 +7,10 @@ use lib.ListN.{length}
 use Rattle.paper.specs.Cache.{Numbers, Hashing, Box, serve, fresh}
 use Rattle.paper.specs.KeyedLaws.{All, all-map, all-left, all-right}
 use Rattle.paper.specs.Machines.{plainNext, OrphanLaw, TrueFingerprints, NoTwoShare}
-use Rattle.paper.specs.Events.{Event, boxBlocks, plainBlocks, written, Throughout, FlushesWhole}
+use Rattle.paper.specs.Events.{Event, boxBlocks, plainBlocks, written, Throughout, FlushesWhole, CleanIsPlain}
 use Rattle.paper.specs.Sound.{Sound, sound-fresh}
 use Rattle.paper.specs.Faithful.{at, BlockTrue}
-use Rattle.paper.specs.PlainDisk.{ServedWithin, Good, throughout, same-blocks, flushes-whole}
+use Rattle.paper.specs.PlainDisk.{ServedWithin, clean-is-plain, Good, throughout, same-blocks, flushes-whole}
 use Rattle.paper.specs.OrphanList.{orphan-law-fresh}
 
 -- what the laws say of a list of events from a fresh box
@@ -22,6 +22,7 @@ pub record OnEvents {F X : Type 0} (H : Hashing F X) (N : Numbers) (flash disk :
   pub fingerprints : NoTwoShare H (disk ++ written es) → Throughout H N (TrueFingerprints H) (fresh (N .d) flash disk) disk es
   pub blocks : NoTwoShare H (disk ++ written es) → boxBlocks H N (fresh (N .d) flash disk) es ≡ plainBlocks (H .blank) disk es
   pub flushes : NoTwoShare H (disk ++ written es) → FlushesWhole H N (fresh (N .d) flash disk) disk es
+  pub clean : NoTwoShare H (disk ++ written es) → Throughout H N CleanIsPlain (fresh (N .d) flash disk) disk es
 
 module _ {F X : Type 0} (H : Hashing F X) where
   throughout-map : (N : Numbers) (Q R : Box F X → List X → Type 0) → ((s : Box F X) (plain : List X) → Q s plain → R s plain)
@@ -64,4 +65,6 @@ module _ {F X : Type 0} (H : Hashing F X) where
             (fresh (N .d) flash disk) disk es (throughout H In only N m1 d1 (fresh (N .d) flash disk) disk es good w i);
         blocks = λ only. same-blocks H In only N m1 d1 (fresh (N .d) flash disk) disk es good w i;
         flushes = λ only. flushes-whole H In only N m1 d1 (fresh (N .d) flash disk) disk es good w i;
+        clean = λ only. throughout-map N (Good H In N) CleanIsPlain (λ s plain y. clean-is-plain H In N plain s (y .0) (y .1))
+            (fresh (N .d) flash disk) disk es (throughout H In only N m1 d1 (fresh (N .d) flash disk) disk es good w i);
       }

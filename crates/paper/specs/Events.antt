@@ -5,6 +5,7 @@ use mathlib.Core.Bool.{Bool, false, cond}
 use mathlib.Core.List.{List, [], _∷_, _++_}
 use mathlib.Core.Option.{Option, none, some}
 use Rattle.paper.specs.Cache.{Numbers, Hashing, Box, Call, read, flush, serve}
+use Rattle.paper.specs.KeyedLaws.{All}
 use Rattle.paper.specs.Machines.{plainNext, plainBlock, writtenBy, Read, Compared, seenIn}
 
 -- A call of a list, and whether it is refused
@@ -32,12 +33,16 @@ Throughout H N Q s plain [] = Q s plain
 Throughout H N Q s plain (e ∷ es) =
     Q s plain × Throughout H N Q (cond (e .refused) s ((serve H N s (e .call)) .box)) (cond (e .refused) plain (plainNext plain (e .call))) es
 
--- after each flush the cache's disk is the plain disk
+-- after each full flush the cache's disk is the plain disk
 unfoldable pub FlushesWhole : {F X : Type 0} (H : Hashing F X) (N : Numbers) → Box F X → List X → List (Event X) → Type 0
 FlushesWhole H N s plain [] = Unit {0}
 FlushesWhole H N s plain (e ∷ es) =
-    (e .refused ≡ false → e .call ≡ flush → (serve H N s (e .call)) .box .disk ≡ plain)
+    (e .refused ≡ false → e .call ≡ flush (N .m) → (serve H N s (e .call)) .box .disk ≡ plain)
     × FlushesWhole H N (cond (e .refused) s ((serve H N s (e .call)) .box)) (cond (e .refused) plain (plainNext plain (e .call))) es
+
+-- "the disk is the plain disk's whenever a call leaves no row dirty"
+abbrev pub CleanIsPlain : {F X : Type 0} → Box F X → List X → Type 0
+CleanIsPlain s plain = All (λ r. r .dirty ≡ false) (s .rows) → s .disk ≡ plain
 
 unfoldable pub cacheTrace : {F X : Type 0} (H : Hashing F X) → Numbers → Box F X → List Read → List (Compared F)
 cacheTrace H N s [] = []
