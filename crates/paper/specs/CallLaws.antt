@@ -11,7 +11,8 @@ use lib.ListN.{drop}
 use borrow.Author.Tests.{eqb-true, eqb-false, leb-true, leb-false, ltb-false, not-false}
 use Rattle.hash.specs.LastChunk.{Size}
 use Rattle.tables.specs.Unsound.{elem}
-use Rattle.paper.specs.Cache.{Numbers, Box, About, about, Below, flushed, dirtyRows, done, Outcome, Within, Counters, counted, serve, oneIf, isRead, isHit}
+use Rattle.paper.specs.Cache.{Numbers, Box, About, about, Below, Outcome, Within, Counters, counted, serve, oneIf, isRead, isHit}
+use Rattle.paper.specs.Cache.{flushed, dirtyRows, done}
 use Rattle.paper.specs.KeyedLaws.{All, clash, by-test, or-false-left, or-false-right, and-left, and-right}
 use Rattle.paper.specs.Engine.{Fixed, fit, engine}
 use Rattle.paper.specs.Lent.{Lent, Ask, calling, callOf, aboutAsk, addressOf, lentBlock, between, unfit, wrongBuffers, wrongBlock, outside, over, counts}

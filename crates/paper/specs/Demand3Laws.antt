@@ -16,8 +16,8 @@ use Rattle.paper.specs.Lent.{Lent, Ask, opening, calling, callOf, lentBl
 use Rattle.paper.specs.Lent.{served, call, boxIn, lentOf, join, split, fresh, opened, blockAfter, partAfter}
 use Rattle.paper.specs.Machines.{plainNext, plainBlock, writtenBy, NoWrite, Compared, ifRead, seenIn, printedTrace, contentOf, OrphanLaw}
 use Rattle.paper.specs.Machines.{TrueFingerprints, NoTwoShare}
-use Rattle.paper.specs.Demand3.{next, plainStep, Throughout, EachServed, ServedOr239, refusals, written, ShowsPlain, FlushesWhole, CleanIsPlain, readsOf, wordOf}
-use Rattle.paper.specs.Demand3.{seenAfter, Demand3}
+use Rattle.paper.specs.Demand3.{next, plainStep, Throughout, EachServed, ServedOr239, refusals, written, ShowsPlain, FlushesWhole, readsOf, wordOf}
+use Rattle.paper.specs.Demand3.{CleanIsPlain, seenAfter, Demand3}
 use Rattle.paper.specs.Events as Events
 use Rattle.paper.specs.Events.{Event, boxBlocks, plainBlocks}
 use Rattle.paper.specs.Sound.{Sound, sound-fresh}

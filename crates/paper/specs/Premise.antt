@@ -70,7 +70,8 @@ unfolding written Lent.callOf
 written-is =
     let t₁ = (call numbers (opened numbers memory) (Ask.back 0 (filled 1))) .lent in
     let t₂ = (call numbers t₁ (Ask.read 0 (filled 0))) .lent in
-    rw first-served (ap {B = List (Fixed 64)} (λ l. block 1 ∷ l) (unwritten t₁ (Ask.read 0 (filled 0)) (Ask.flush 1 ∷ []) refl ∙ unwritten t₂ (Ask.flush 1) [] refl))
+    rw first-served (ap {B = List (Fixed 64)} (λ l. block 1 ∷ l)
+    (unwritten t₁ (Ask.read 0 (filled 0)) (Ask.flush 1 ∷ []) refl ∙ unwritten t₂ (Ask.flush 1) [] refl))
 
 blocks-are : split 64 1 ((opened numbers memory) .disk) ++ written numbers (opened numbers memory) asked ≡ block 0 ∷ block 1 ∷ []
 unfolding split fresh

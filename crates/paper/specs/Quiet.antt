@@ -64,7 +64,8 @@ module _ {F X : Type 0} (H : Hashing F X) where
     quiet-call (look a) r es s n w h v ih
         = by-test r (λ e. rw e (ih s h v)) (λ e. rw e (subst (λ x. traceOf H N x es ≡ cacheTrace H N s (readsOf es)) (sym (look-same N s a)) (ih s h v)))
     quiet-call (flush k) r es s n w h v ih
-        = by-test r (λ e. rw e (ih s h v)) (λ e. rw e (subst (λ x. traceOf H N x es ≡ cacheTrace H N s (readsOf es)) (sym (flush-same N k disk s v)) (ih s h v)))
+        = by-test r (λ e. rw e (ih s h v))
+        (λ e. rw e (subst (λ x. traceOf H N x es ≡ cacheTrace H N s (readsOf es)) (sym (flush-same N k disk s v)) (ih s h v)))
     quiet-call (through a b) r es s n w h v ih = absurd (Option·some-ne-none b n)
     quiet-call (back a b) r es s n w h v ih = absurd (Option·some-ne-none b n)
     quiet-call (invalidate a b) r es s n w h v ih = absurd (Option·some-ne-none b n)

@@ -276,7 +276,8 @@ more =
       counters = counters 0 0 3 2;
     })
     ∷ example 3 3 (record {
-      said = says (back 0 9) newBlock 1 0 ∷ says (back 1 8) newBlock 1 0 ∷ says (back 2 7) newBlock 1 0 ∷ says (flush 2) done 0 2 ∷ says (flush 9) done 0 1 ∷ [];
+      said = says (back 0 9) newBlock 1 0 ∷ says (back 1 8) newBlock 1 0 ∷ says (back 2 7) newBlock 1 0
+          ∷ says (flush 2) done 0 2 ∷ says (flush 9) done 0 1 ∷ [];
       returned = [];
       rows = clean 0 9 ∷ clean 1 8 ∷ clean 2 7 ∷ [];
       blocks = blockIn 9 0 ∷ blockIn 8 1 ∷ blockIn 7 2 ∷ [];

@@ -11,7 +11,9 @@ use borrow.Author.Tests.{ltb-true, ltb-false}
 use Rattle.block.specs.Blocks.{splice}
 use Rattle.parts.specs.declared.BoxRecord.{BoxRecord}
 use Rattle.paper.specs.KeyedLaws.{by-test}
-use Rattle.paper.specs.Cache.{AddressRow, BlockRow, Box, Call, Word, sameBlock, newBlock, Stepped, answer, cached, serve, writeBack, writeThrough, writeInvalidate, flushed, dirtied, onDisk, withoutAddress, dropped, reach, partly, step, hit, miss, readAs, rowWithBlock, rowOf, ifCached, blockOf}
+use Rattle.paper.specs.Cache.{AddressRow, BlockRow, Box, Call, Word, sameBlock, newBlock, Stepped, answer, cached, serve, writeBack, writeThrough}
+use Rattle.paper.specs.Cache.{writeInvalidate, flushed, reach, partly, dirtied, onDisk, withoutAddress, dropped, step, hit, miss, readAs, rowWithBlock}
+use Rattle.paper.specs.Cache.{rowOf, ifCached, blockOf}
 use Rattle.paper.specs.Partly.{length-partly}
 use Rattle.paper.specs.Engine.{Fixed, engine}
 use Rattle.paper.specs.Lent.{bit}

@@ -21,7 +21,8 @@ fits c = sym (c .before .fit .ensures) ∙ not-false _ (c .if1 .left)
 returns : tie.Need-returns
 returns c =
     let a = start (c .before) .args in
-    unchanged (Ask.flush (recordIn (a .state .now) .rows)) (a .state .now) (a .disk .now) (a .flash .now) (a .addresses .now) (a .blocks .now) (a .answer .now) (sym (c .before .fit .ensures) ∙ not-true _ (c .if1 .taken)) _ refl
+    unchanged (Ask.flush (recordIn (a .state .now) .rows)) (a .state .now) (a .disk .now) (a .flash .now) (a .addresses .now) (a .blocks .now) (a .answer .now)
+    (sym (c .before .fit .ensures) ∙ not-true _ (c .if1 .taken)) _ refl
 
 record-in-requires : tie.Need-record-in-requires
 record-in-requires c κs = lengths _ _ (fits (c .before)) .0
@@ -47,12 +48,13 @@ returns-2 c =
     let b = k .before .before in
     let e = b .before .before in
     let a = start (e .before) .args in
-    let c = k .counters-in .result in
+    let box = b .record-in .result in
+    let t = lent box (a .disk .now) (a .flash .now) (a .addresses .now) (a .blocks .now) (countersOf (k .counters-in .result)) in
     -- m is the state's
-    let m = ap (λ (x : BoxRecord). called (b .record-in .result) (lent (b .record-in .result) (a .disk .now) (a .flash .now) (a .addresses .now) (a .blocks .now) (countersOf c)) (Ask.flush (x .rows)))
-    (b .record-in .ensures) in
-    changed (Ask.flush (recordIn (a .state .now) .rows)) (a .state .now) (a .disk .now) (a .flash .now) (a .addresses .now) (a .blocks .now) (a .answer .now) (fits e)
-    (b .record-in .result) c (b .record-in .ensures) (k .counters-in .ensures) (r .flush .result) _ _ _ _ _ (r .flush .ensures ∙ m) _ _ _ (w .write-outcome .ensures)
+    let m = ap (λ (x : BoxRecord). called box t (Ask.flush (x .rows))) (b .record-in .ensures) in
+    changed (Ask.flush (recordIn (a .state .now) .rows)) (a .state .now) (a .disk .now) (a .flash .now) (a .addresses .now) (a .blocks .now) (a .answer .now)
+    (fits e) box (k .counters-in .result) (b .record-in .ensures) (k .counters-in .ensures) (r .flush .result) _ _ _ _ _ (r .flush .ensures ∙ m) _ _ _
+    (w .write-outcome .ensures)
 
 pub mindavehu-flush-spec : {M : Type 1} → statement M
 mindavehu-flush-spec =

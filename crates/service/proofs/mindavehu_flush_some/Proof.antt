@@ -18,7 +18,8 @@ fits c = sym (c .before .fit .ensures) ∙ not-false _ (c .if1 .left)
 returns : tie.Need-returns
 returns c =
     let a = start (c .before) .args in
-    unchanged (Ask.flush (a .most)) (a .state .now) (a .disk .now) (a .flash .now) (a .addresses .now) (a .blocks .now) (a .answer .now) (sym (c .before .fit .ensures) ∙ not-true _ (c .if1 .taken)) _ refl
+    unchanged (Ask.flush (a .most)) (a .state .now) (a .disk .now) (a .flash .now) (a .addresses .now) (a .blocks .now) (a .answer .now)
+    (sym (c .before .fit .ensures) ∙ not-true _ (c .if1 .taken)) _ refl
 
 record-in-requires : tie.Need-record-in-requires
 record-in-requires c κs = lengths _ _ (fits (c .before)) .0
@@ -45,7 +46,8 @@ returns-2 c =
     let e = b .before .before in
     let a = start (e .before) .args in
     changed (Ask.flush (a .most)) (a .state .now) (a .disk .now) (a .flash .now) (a .addresses .now) (a .blocks .now) (a .answer .now) (fits e)
-    (b .record-in .result) (k .counters-in .result) (b .record-in .ensures) (k .counters-in .ensures) (r .flush-some .result) _ _ _ _ _ (r .flush-some .ensures) _ _ _ (w .write-outcome .ensures)
+    (b .record-in .result) (k .counters-in .result) (b .record-in .ensures) (k .counters-in .ensures) (r .flush-some .result)
+    _ _ _ _ _ (r .flush-some .ensures) _ _ _ (w .write-outcome .ensures)
 
 pub mindavehu-flush-some-spec : {M : Type 1} → statement M
 mindavehu-flush-some-spec =

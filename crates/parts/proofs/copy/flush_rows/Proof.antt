@@ -35,8 +35,15 @@ abbrev μ-loop : tie.MeasureT-loop
 
 loop-holds : tie.Need-loop-holds Inv-loop μ-loop
 loop-holds c =
-    let a = c .before .before .before .before .before .args in
-    (omega arith, omega arith, refl, refl, (λ s h. part-none (a .b) (λ f. true) (a .disk .now) (a .flash .now) (a .addrs .now) (a .blocks .now) s h), (λ s h. omega arith), omega arith)
+    let a = c .before .before .before .before .before .args in (
+      omega arith,
+      omega arith,
+      refl,
+      refl,
+      (λ s h. part-none (a .b) (λ f. true) (a .disk .now) (a .flash .now) (a .addrs .now) (a .blocks .now) s h),
+      (λ s h. omega arith),
+      omega arith,
+    )
 
 flush-row-requires : tie.Need-flush-row-requires Inv-loop μ-loop
 flush-row-requires c κs =
@@ -67,7 +74,8 @@ loop-again c =
       omega arith,
       (λ s h.
           let q = rep-part (a .b) (λ f. true) (a .disk .now) (a .flash .now) (a .addrs .now) (a .blocks .now) s h (l .i) (l .count) (l .disk) (l .addrs) (l .inv .4 s h) in
-          rw add-one (part-step (a .b) (λ f. true) (a .disk .now) (a .flash .now) (a .addrs .now) (a .blocks .now) s h (l .i) (l .count) (l .disk) (l .addrs) (l .inv .4 s h) (at-if1 .if1 .taken) (f .result) _ _ (f .ensures .1 (partBox (a .b) (λ f. true) s (l .i)) q))),
+          rw add-one (part-step (a .b) (λ f. true) (a .disk .now) (a .flash .now) (a .addrs .now) (a .blocks .now) s h (l .i) (l .count) (l .disk) (l .addrs)
+          (l .inv .4 s h) (at-if1 .if1 .taken) (f .result) _ _ (f .ensures .1 (partBox (a .b) (λ f. true) s (l .i)) q))),
       (λ s h.
           let n = count-of (a .b) s (l .i) (l .count) (l .disk) (l .addrs) (l .inv .4 s h) in
           let less : dirtyRows (engine (a .b .size)) (take (l .i) (s .rows)) < a .k = omega (arith, n, at-if2 .if2 .left) in
@@ -85,7 +93,9 @@ returns c =
       omega arith,
       λ s h.
           let n = count-of (a .b) s (l .i) (l .count) (l .disk) (l .addrs) (l .inv .4 s h) in
-          l .inv .4 s h ∙ ap (copiedRows (a .b) (λ f. true) s) (reach-stop (engine (a .b .size)) (a .k) (l .i) (s .rows) (sym n ∙ le-antisymm (l .inv .6) (c .if2 .taken)) (l .inv .5 s h)),
+          l .inv .4 s h
+          ∙ ap (copiedRows (a .b) (λ f. true) s)
+          (reach-stop (engine (a .b .size)) (a .k) (l .i) (s .rows) (sym n ∙ le-antisymm (l .inv .6) (c .if2 .taken)) (l .inv .5 s h)),
     )
 
 -- there is no row more
@@ -94,7 +104,10 @@ returns-2 c =
     let a = c .before .before .before .before .before .before .before .before .args in
     let l = c .before .before .loop in (
       omega arith,
-      λ s h. l .inv .4 s h ∙ ap (copiedRows (a .b) (λ f. true) s) (le-antisymm (l .inv .5 s h) (omega (arith, reach-le (engine (a .b .size)) (a .k) (s .rows), h .rows-are .count, c .if1 .left))),
+      λ s h.
+          l .inv .4 s h
+          ∙ ap (copiedRows (a .b) (λ f. true) s)
+          (le-antisymm (l .inv .5 s h) (omega (arith, reach-le (engine (a .b .size)) (a .k) (s .rows), h .rows-are .count, c .if1 .left))),
     )
 
 pub flush-rows-spec : {M : Type 1} → statement M

@@ -22,7 +22,9 @@ of-flush-requires : tie.Need-of-flush-requires
 of-flush-requires c κs = (length-replicate {A = ℕ} 4353 0, filled-with 4353 0)
 
 -- the refusal is 0
-zero : (c : tie.Else1) → (let a = c .before .before .before .before .before .before .before .before .before .before .args in refusal (numbersOf (a .b)) (lent (a .b) (a .disk .now) (a .flash .now) (a .addresses .now) (a .blocks .now) (countersOf (a .c))) (calling (Ask.flush (a .k))) ≡ 0)
+zero : (c : tie.Else1) → (let a = c .before .before .before .before .before .before .before .before .before .before .args in
+    refusal (numbersOf (a .b)) (lent (a .b) (a .disk .now) (a .flash .now) (a .addresses .now) (a .blocks .now) (countersOf (a .c)))
+    (calling (Ask.flush (a .k))) ≡ 0)
 zero c =
     let a = c .before .before .before .before .before .before .before .before .before .before .args in
     sym (c .before .before .of-flush .ensures .0 (a .k)) ∙ c .if1 .left
@@ -32,7 +34,8 @@ returns c =
     let x = c .before .before .before in
     let a = x .before .before .before .before .before .before .before .before .args in
     ap (λ r. told r (a .disk .now) (a .flash .now) (a .addresses .now) (a .blocks .now) none) (c .refused .ensures)
-    ∙ keep (a .b) (a .disk .now) (a .flash .now) (a .addresses .now) (a .blocks .now) (a .c) (Ask.flush (a .k)) (x .of-flush .result) (x .of-flush .ensures .0 (a .k)) (c .before .if1 .taken) _ refl
+    ∙ keep (a .b) (a .disk .now) (a .flash .now) (a .addresses .now) (a .blocks .now) (a .c) (Ask.flush (a .k)) (x .of-flush .result)
+    (x .of-flush .ensures .0 (a .k)) (c .before .if1 .taken) _ refl
 
 serve-flush-requires : tie.Need-serve-flush-requires
 serve-flush-requires c κs =
@@ -54,7 +57,8 @@ answered-requires c κs =
     let r = c .before .before .before .before in
     let e = r .before .before .before .before in
     let a = e .before .before .before .before .before .before .before .before .before .before .args in
-    let o = served-finds (numbersOf (a .b)) (lent (a .b) (a .disk .now) (a .flash .now) (a .addresses .now) (a .blocks .now) (countersOf (a .c))) (Ask.flush (a .k)) (zero e) in
+    let t = lent (a .b) (a .disk .now) (a .flash .now) (a .addresses .now) (a .blocks .now) (countersOf (a .c)) in
+    let o = served-finds (numbersOf (a .b)) t (Ask.flush (a .k)) (zero e) in
     fitting (a .c) (a .b .rows) 0 0 (r .serve-flush .result .flashed) (r .serve-flush .result .primary) (o .counters) (o .fits .m-most) (omega arith) (omega arith) (r .serve-flush .ensures .0 .0) (r .serve-flush .ensures .0 .1)
 
 returns-2 : tie.Need-returns-2
@@ -72,7 +76,8 @@ returns-2 c =
     let left = r .serve-flush .ensures .1 (on .0) [] (on .1) in
     let o = r .serve-flush .result in
     rw (c .answered .ensures)
-    (finish (a .b) (a .disk .now) (a .flash .now) (a .addresses .now) (a .blocks .now) k (Ask.flush (a .k)) z Done (o .yes) (o .held) (o .flashed) (o .primary) 0 0 (a .c) [] _ _ _ _ [] none refl left refl refl refl refl refl)
+    (finish (a .b) (a .disk .now) (a .flash .now) (a .addresses .now) (a .blocks .now) k (Ask.flush (a .k)) z Done (o .yes) (o .held) (o .flashed)
+    (o .primary) 0 0 (a .c) [] _ _ _ _ [] none refl left refl refl refl refl refl)
 
 pub flush-some-spec : {M : Type 1} → statement M
 flush-some-spec =
