@@ -66,7 +66,7 @@ Meets y c (Ask.read a l) = Calls y c
 Meets y c (Ask.through a l) = Calls y c
 Meets y c (Ask.back a l) = Calls y c
 Meets y c (Ask.invalidate a l) = Calls y c
-Meets y c Ask.flush = Calls y c
+Meets y c (Ask.flush k) = Calls y c
 
 -- calls one after the other, each on what the last one left
 unfoldable pub InTurn : Kept → List Made → Type 0
@@ -121,7 +121,7 @@ module _ (N : Numbers) where
   meets-is y t c (Ask.through a l) i w e m = called-is y t c i m
   meets-is y t c (Ask.back a l) i w e m = called-is y t c i m
   meets-is y t c (Ask.invalidate a l) i w e m = called-is y t c i m
-  meets-is y t c Ask.flush i w e m = called-is y t c i m
+  meets-is y t c (Ask.flush k) i w e m = called-is y t c i m
 
   follows : (y : Kept) (t : Lent) (cs : List Made) → Is y t → Written N t → InTurn y cs → Follows N t cs
   unfolding InTurn Follows

@@ -45,9 +45,18 @@ fn shown(line: &[u8]) -> String {
 
 /// The whole output of the program of the states, with `--full` or without.
 pub fn states(input: &[u8], full: bool) -> String {
+    written(input, full, false)
+}
+
+/// The same with `--parts`.
+pub fn in_parts(input: &[u8]) -> String {
+    written(input, false, true)
+}
+
+fn written(input: &[u8], full: bool, parts: bool) -> String {
     let mut output = String::new();
     let mut contents = None;
-    follow(input, |answer, asked, cache| {
+    follow(input, parts, |answer, asked, cache| {
         let Some(cache) = cache else { return output += &format!("{}\n", answer.unwrap()) };
         let contents = contents.get_or_insert_with(|| Contents::of(cache.b));
         match (answer, asked) {

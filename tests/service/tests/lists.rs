@@ -1,7 +1,7 @@
 //! Random lists of calls from fresh boxes: after each call every number and every byte is the model's.
 use common::Random;
 use model::{Answer, Cache, Call, Lent, BLOCK_SIZES, CALLS};
-use service::boxes::{pick, unopened, Contents, Shape};
+use service::boxes::{most, pick, unopened, Contents, Shape};
 use service::calls::call;
 use service::progress::{count, seed, Progress};
 
@@ -13,6 +13,8 @@ struct Met {
     words: [usize; 8],
     flash_writes: u64,
     primary_writes: u64,
+    /// Flushes in parts that left a row dirty.
+    left_dirty: usize,
     /// Blocks copied to the disk by a read or a write back, which happens only where a dirty row or block has to go.
     written_back: u64,
     lists: usize,
@@ -31,6 +33,7 @@ impl Met {
             "  {hit} hits, {miss} misses, {same} same, {new} new, {cache} looks in flash, {disk} on disk, {done} flushes, {} refused with 2, {} with 3; {} flash writes, {} primary writes, {} of them by reads and writes back",
             self.refused[2], self.refused[3], self.flash_writes, self.primary_writes, self.written_back
         );
+        println!("  {} flushes in parts left a row dirty", self.left_dirty);
         assert!(self.words[1..].iter().all(|count| *count > 0) && self.written_back > 0, "a kind of answer never came");
     }
 }
@@ -43,7 +46,9 @@ fn choose(random: &mut Random, shape: Shape) -> (Call, u32) {
         55..=76 => Call::Back,
         77..=84 => Call::Invalidate,
         // Seldom where the tables are large: dirty rows shall come to be the oldest.
-        85..=87 if random.below(1 + shape.m / 32) == 0 => Call::Flush,
+        85 if random.below(1 + shape.m / 32) == 0 => Call::Flush,
+        86 | 87 if random.below(1 + shape.m / 32) == 0 => Call::FlushSome(most(random, shape.m)),
+        88 => Call::FlushSome(random.below(3)),
         85..=87 => Call::Back,
         _ => Call::Look,
     };
@@ -120,6 +125,9 @@ fn list(random: &mut Random, shape: Shape, length: usize, met: &mut Met) {
                 }
                 if kind == Call::Read || kind == Call::Back {
                     met.written_back += expected.second;
+                }
+                if matches!(kind, Call::FlushSome(_)) {
+                    met.left_dirty += cache.rows().iter().any(|(_, row)| row.dirty) as usize;
                 }
             }
         }
@@ -205,7 +213,7 @@ fn largest_boxes() {
     };
     let mut cache = Cache::fresh(b, p, m, d, vec![0; p * b], vec![0; d * b]);
     assert_eq!(call(Call::Open, 0, &mut lent), 0);
-    for (turn, kind) in [1, 2, 6, 3, 6, 1, 5, 4, 6, 1].map(|k| CALLS[k]).into_iter().enumerate() {
+    for (turn, kind) in [1, 2, 6, 3, 7, 6, 3, 1, 5, 4, 6, 1].map(|k| CALLS[k]).into_iter().enumerate() {
         let mut block = vec![turn as u8 + 1; b];
         lent.block.clone_from(&block);
         assert_eq!(call(kind, 65_535, &mut lent), 0);
