@@ -13,7 +13,7 @@ use Rattle.hash.specs.Sha256.{bytes64}
 abbrev pub Size : ℕ → Type 0
 Size n = (n ≡ 64) ⊎ ((n ≡ 128) ⊎ ((n ≡ 256) ⊎ ((n ≡ 512) ⊎ ((n ≡ 1024) ⊎ ((n ≡ 2048) ⊎ (n ≡ 4096))))))
 
--- U4: "Choose that length by cases on B, from 512 doubling to 32,768 bits." The last case is that of 4,096, the only size left.
+-- U4: "Choose that length by cases on B, from 512 doubling to 32,768 bits." 0 for what is no size.
 unfoldable pub bitLength : ℕ → ℕ
 bitLength B =
     cond (eqb B 64) 512
@@ -22,7 +22,8 @@ bitLength B =
     (cond (eqb B 512) 4096
     (cond (eqb B 1024) 8192
     (cond (eqb B 2048) 16384
-    32768)))))
+    (cond (eqb B 4096) 32768
+    0))))))
 
 -- U4: "padding always fills one chunk: 80 hexadecimal, 55 zero bytes, then the bit length in 8 bytes, big-endian"
 unfoldable pub lastChunk : ℕ → List ℕ

@@ -8,7 +8,7 @@ ghost use lib.ListN.{length};
 ghost use Rattle.hash.specs.Sha256 as S;
 ghost use Rattle.hash.specs.LastChunk.{Size, bitLength, lastChunk};
 
-// The bit length of a block of `size` bytes. The last case is that of 4,096, the only size left.
+// The bit length of a block of `size` bytes, in seven cases; 0 for what is no size.
 pub(crate) fn bit_length(size: usize) -> u64
     ensures { λ r. ⌜ r ≡ bitLength size ⌝ }
 {
@@ -19,7 +19,8 @@ pub(crate) fn bit_length(size: usize) -> u64
         512 => 4096,
         1024 => 8192,
         2048 => 16384,
-        _ => 32768,
+        4096 => 32768,
+        _ => 0,
     }
 }
 

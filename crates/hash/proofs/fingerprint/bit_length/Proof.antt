@@ -31,17 +31,22 @@ returns-6 c = rw (c .match .keys6)
 
 returns-7 : tie.Need-returns-7
 unfolding bitLength
-returns-7 c =
+returns-7 c = rw (c .match .keys7)
+
+returns-8 : tie.Need-returns-8
+unfolding bitLength
+returns-8 c =
     let r = c .match .rest in
     let B = c .before .args .size in
     rw (
-      ne-eqb B 64 (r .0 .0 .0 .0 .0 .1),
-      ne-eqb B 128 (r .0 .0 .0 .0 .1),
-      ne-eqb B 256 (r .0 .0 .0 .1),
-      ne-eqb B 512 (r .0 .0 .1),
-      ne-eqb B 1024 (r .0 .1),
-      ne-eqb B 2048 (r .1),
+      ne-eqb B 64 (r .0 .0 .0 .0 .0 .0 .1),
+      ne-eqb B 128 (r .0 .0 .0 .0 .0 .1),
+      ne-eqb B 256 (r .0 .0 .0 .0 .1),
+      ne-eqb B 512 (r .0 .0 .0 .1),
+      ne-eqb B 1024 (r .0 .0 .1),
+      ne-eqb B 2048 (r .0 .1),
+      ne-eqb B 4096 (r .1),
     )
 
 pub bit-length-spec : {M : Type 1} → statement M
-bit-length-spec = tie.close (tie.spec returns returns-2 returns-3 returns-4 returns-5 returns-6 returns-7)
+bit-length-spec = tie.close (tie.spec returns returns-2 returns-3 returns-4 returns-5 returns-6 returns-7 returns-8)
