@@ -43,9 +43,10 @@ fn on_slices(call: Call, address: u32, [state, disk, flash, addresses, blocks, b
     }
 }
 
-fn many_on_slices(asked: &[u32], [state, disk, flash, addresses, blocks, buffer, answer]: Buffers) -> u32 {
-    let (s, d, f, a, b, k, w) = (state.as_mut_ptr(), disk.as_mut_ptr(), flash.as_mut_ptr(), addresses.as_mut_ptr(), blocks.as_mut_ptr(), buffer.as_mut_ptr(), answer.as_mut_ptr());
-    let (sl, dl, fl, al, bl, kl, wl) = (state.len(), disk.len(), flash.len(), addresses.len(), blocks.len(), buffer.len(), answer.len());
+/// With the folder's buffer and answer in the places of the lent block and the answer.
+fn many_on_slices(asked: &[u32], mut buffers: Buffers) -> u32 {
+    let [s, d, f, a, b, k, w] = buffers.each_mut().map(|bytes| bytes.as_mut_ptr());
+    let [sl, dl, fl, al, bl, kl, wl] = buffers.map(|bytes| bytes.len());
     // SAFETY: each pointer comes with the length of its own slice.
     unsafe { mindavehu_read_many(s, sl, asked.as_ptr(), asked.len(), d, dl, f, fl, a, al, b, bl, k, kl, w, wl) }
 }
