@@ -68,7 +68,7 @@
  *
  * It prints `hit 1, byte 7`.
  *
- * A folder of four pages, one of them twice, opened with one call; in the program above it can stand before the flush:
+ * A folder of three pages, one of them twice, opened with one call; in the program above it can stand before the flush:
  *
  *         static const uint32_t asked[4] = {5, 2, 6, 2};
  *         static uint8_t buffer[4 * 64], many[MINDAVEHU_MANY_ANSWER];
@@ -175,9 +175,9 @@ uint32_t mindavehu_read(uint8_t *state, size_t state_length, uint32_t address,
 /* Reads the blocks at `count` addresses, 1 to 64, in turn, into `buffer`: its block i is that at asked[i]. An address may come more than once.
  * Answers the hits, the flash writes, the primary writes and the fetches: the blocks that came from the disk, one for each address whose first read
  * in the list is a miss. Fetches are at most the misses, which are count less the hits.
- * On a box that calls alone have made, from its opening on, all is as after the single reads in turn, but that no counter is refused between them:
- * 9 is told before the first read or not at all. On any other box too, a repeat that misses takes its block from the buffer, where the first read of
- * that address put it. */
+ * On a box that calls alone have made, from its opening on, and where no two different blocks share a fingerprint, all is as after the single reads in
+ * turn, but that 9 is told before the first read or not at all. On any other box a repeat that misses takes its block from the buffer, where the first
+ * read of its address put it, and not from the disk. */
 uint32_t mindavehu_read_many(uint8_t *state, size_t state_length,
                              const uint32_t *asked, size_t count,
                              uint8_t *disk, size_t disk_length,
