@@ -30,7 +30,7 @@ unfolding started fresh
 start-is r b d f a′ t′ a t k u ld lf la lt ed ef e =
     let N = numbersOf b in
     let l = lent (recordOf N 0) d f a t k in
-    let zero = (exactly-opening N l) .gives-0 .1 (u, lengths-right N l ld lf la lt) in (
+    let zero = (exactly-opening N l) .gives-0 .1 (u, (lengths-right N l ld lf la lt, tt)) in (
       ap (λ (x : Opened). x .numbers) e,
       ap (λ (x : Opened). x .lent) e ∙ opened-is N l zero ∙ ap₂ (λ x y. fresh N (lent (recordOf N 0) x y a t k)) ed ef,
     )

@@ -286,13 +286,12 @@ module _ {F X : Type 0} (H : Hashing F X) where
 
   -- "Read a: if a is held and its fingerprint cached, that block is the answer, a hit; g is the row's own fingerprint, nothing is hashed,
   -- and its dirty value stays. Otherwise a miss: the block is fetched from disk and the row is clean. The step runs in both"
-  unfoldable pub readAs : ℕ → Box F X → ℕ → Option (AddressRow F) → Outcome F X
-  readAs m s a (some r) =
+  -- `x` is the block that a miss takes: the disk's, but for U2's repeats.
+  unfoldable pub readAs : ℕ → Box F X → ℕ → X → Option (AddressRow F) → Outcome F X
+  readAs m s a x (some r) =
       let b = blockOf H (r .fingerprint) (s .used) (s .flash) in
       answer hit (some b) 0 (step H m s (record { address = a; fingerprint = r .fingerprint; block = b; dirty = r .dirty }))
-  readAs m s a none =
-      let b = getD (s .disk) a (H .blank) in
-      answer miss (some b) 0 (step H m s (record { address = a; fingerprint = H .hash b; block = b; dirty = false }))
+  readAs m s a x none = answer miss (some x) 0 (step H m s (record { address = a; fingerprint = H .hash x; block = x; dirty = false }))
 
   -- "A write answers "same" if its fingerprint was cached before the call, else "new"."
   abbrev pub sameOrNew : Box F X → X → Word
@@ -359,7 +358,7 @@ module _ {F X : Type 0} (H : Hashing F X) where
       }
 
   unfoldable pub serve : Numbers → Box F X → Call X → Outcome F X
-  serve N s (read a) = readAs (N .m) s a (rowWithBlock s a)
+  serve N s (read a) = readAs (N .m) s a (getD (s .disk) a (H .blank)) (rowWithBlock s a)
   serve N s (through a b) = writeThrough (N .m) s a b
   serve N s (back a b) = writeBack (N .m) s a b
   serve N s (invalidate a b) = writeInvalidate s a b

@@ -108,22 +108,18 @@ pub record Served (N : Numbers) (t : Lent) (q : Ask) : Type 0 where
 pub served-finds : (N : Numbers) (t : Lent) (q : Ask) → refusal N t (calling q) ≡ 0 → Served N t q
 served-finds N t q e =
     let x = exactly N t q .gives-0 .0 e in
+    let y = x .1 .1 .1 in
     record {
       fits = fits N (x .0);
-      passes = record { lengths = right-lengths N t (or-false-left (wrongBuffers N t) (wrongBlock (N .B) (lentBlock q)) (x .1)); addresses = x .3; blocks = x .4; dirty = x .5 };
-      within = within (N .P) (N .B) q (x .2);
-      counters = x .6;
+      passes = record {
+        lengths = right-lengths N t (or-false-left (wrongBuffers N t) (wrongBlock (N .B) (lentBlock q)) (x .1 .0));
+        addresses = y .0;
+        blocks = y .1 .0;
+        dirty = y .1 .1 .0;
+      };
+      within = within (N .P) (N .B) q (x .1 .1 .0);
+      counters = y .1 .1 .1 .0;
     }
-
--- memory that passes gets none of 6, 7 and 8; so neither does what a sound box writes
-pub passes-no-678 : (N : Numbers) (t : Lent) (q : Ask) → Passes N t → (refusal N t (calling q) ≢ 6) × (refusal N t (calling q) ≢ 7) × (refusal N t (calling q) ≢ 8)
-passes-no-678 N t q p =
-    let x = exactly N t q in
-    (λ e. clash ((x .gives-6 .0 e) .3) (p .addresses), λ e. clash ((x .gives-7 .0 e) .4) (p .blocks), λ e. clash ((x .gives-8 .0 e) .5) (p .dirty))
-
-pub sound-no-678 : (N : Numbers) (s : Box (Fixed 32) (Fixed (N .B))) (k : Counters) (q : Ask) → Sound (engine (N .B)) N s → N .P ≤ 65536 → N .d ≤ 256
-    → (refusal N (lentOf N s k) (calling q) ≢ 6) × (refusal N (lentOf N s k) (calling q) ≢ 7) × (refusal N (lentOf N s k) (calling q) ≢ 8)
-sound-no-678 N s k q h P1 d1 = passes-no-678 N (lentOf N s k) q (sound-passes N s h k P1 d1)
 
 -- the paper's outcome of a call on lent bytes
 abbrev pub outcome : (N : Numbers) → Lent → Ask → Outcome (Fixed 32) (Fixed (N .B))
@@ -186,7 +182,7 @@ pub record In64 (k : Counters) : Type 0 where
 abbrev Half : Counters → Type 0
 Half k = (k .reads ≤ 2 ^ 63) × (k .hits ≤ 2 ^ 63) × (k .flashWrites ≤ 2 ^ 63) × (k .primaryWrites ≤ 2 ^ 63)
 
-not-over : (k : Counters) → over k ≡ false → Half k
+pub not-over : (k : Counters) → over k ≡ false → Half k
 unfolding over
 not-over k h =
     let a = ltb (2 ^ 63) (k .reads) in

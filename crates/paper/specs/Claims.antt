@@ -1,9 +1,8 @@
 -- What the definitions and the claims mean: each call by its name, the machines and the claims by example, computed, and the case of reads alone.
 -- Assumes nothing.
 use mathlib.Core.Path.{_≡_, refl, ap, _∙_, sym}
-use mathlib.Core.Bool.{true, false, not}
+use mathlib.Core.Bool.{true, false, false≢true, not}
 use mathlib.Core.List.{List, [], _∷_, map, List·Memᴰ·head, List·Memᴰ·tail}
-use mathlib.Core.Logic.{_≢_, inl, inr}
 use mathlib.Core.Option.{Option, none, some}
 use Prim.Native.Nat.{ℕ}
 use native.Mathlib.Omega.{arith}
@@ -13,9 +12,10 @@ use Rattle.paper.specs.Cache.{Numbers, Hashing, Box, Call, newest, block
 use Rattle.paper.specs.Worked.{labels}
 use Rattle.paper.specs.Engine.{Fixed, fit, engine}
 use Rattle.paper.specs.Lent.{Lent, Ask, After, opening, calling, refusal, callOf, lentBlock, blockAfter, partAfter, boxIn, call, opened}
+use Rattle.paper.specs.BatchLent.{one}
 use Rattle.paper.specs.Machines.{plainNext, plainBlock, NoWrite, Read, Compared, seenIn, printedNext, printedHit, put, printedTrace, contentOf}
 use Rattle.paper.specs.Machines.{someUnknown, TrueFingerprints, NoTwoShare}
-use Rattle.paper.specs.Demand3.{next, firstPlain, ServedOr239, returned, wordOf, readsOf, seenAfter}
+use Rattle.paper.specs.Demand3.{next, firstPlain, InList, returned, wordOf, readsOf, seenAfter}
 use Rattle.paper.specs.Demand3Laws.{demand-3}
 
 -- ---- each call by its name
@@ -139,11 +139,8 @@ premise-by-example only =
     absurd (omega arith)
 
 -- 1, 6, 7 and 8 are none of the numbers of a list
-pub numbers-by-example : (k : ℕ) → ServedOr239 k → (k ≢ 1) × (k ≢ 6) × (k ≢ 7) × (k ≢ 8)
-numbers-by-example k (inl e) = (λ f. absurd (omega arith), λ f. absurd (omega arith), λ f. absurd (omega arith), λ f. absurd (omega arith))
-numbers-by-example k (inr (inl e)) = (λ f. absurd (omega arith), λ f. absurd (omega arith), λ f. absurd (omega arith), λ f. absurd (omega arith))
-numbers-by-example k (inr (inr (inl e))) = (λ f. absurd (omega arith), λ f. absurd (omega arith), λ f. absurd (omega arith), λ f. absurd (omega arith))
-numbers-by-example k (inr (inr (inr e))) = (λ f. absurd (omega arith), λ f. absurd (omega arith), λ f. absurd (omega arith), λ f. absurd (omega arith))
+pub numbers-by-example : (InList 1 → ⊥) × (InList 6 → ⊥) × (InList 7 → ⊥) × (InList 8 → ⊥)
+numbers-by-example = (λ h. false≢true h, λ h. false≢true h, λ h. false≢true h, λ h. false≢true h)
 
 -- a read, a look and a flush write no block, so that a list of them is compared with printed D-LRU
 pub reads-are-compared : (B a : ℕ) (l : List ℕ) → NoWrite (callOf B (Ask.read a l)) × NoWrite (callOf B (Ask.look a)) × NoWrite (callOf B Ask.flush)
@@ -159,27 +156,27 @@ asRead r = Ask.read (r .0) (r .1)
 -- after each read of a list: the held addresses in order, the cached fingerprints in order, and hit or miss
 unfoldable pub shownBy : (N : Numbers) → Lent → List (ℕ × List ℕ) → List (Compared (Fixed 32))
 shownBy N t [] = []
-shownBy N t (r ∷ rs) = seenIn (boxIn N (next N t (asRead r))) (wordOf ((call N t (asRead r)) .answer)) ∷ shownBy N (next N t (asRead r)) rs
+shownBy N t (r ∷ rs) = seenIn (boxIn N (next N t (one (asRead r)))) (wordOf ((call N t (asRead r)) .answer)) ∷ shownBy N (next N t (one (asRead r))) rs
 
 -- what printed D-LRU is fed: each read's address, and whether it is refused
 unfoldable pub fedBy : (N : Numbers) → Lent → List (ℕ × List ℕ) → List Read
 fedBy N t [] = []
-fedBy N t (r ∷ rs) = record { address = r .0; refused = not (eqb (refusal N t (calling (asRead r))) 0) } ∷ fedBy N (next N t (asRead r)) rs
+fedBy N t (r ∷ rs) = record { address = r .0; refused = not (eqb (refusal N t (calling (asRead r))) 0) } ∷ fedBy N (next N t (one (asRead r))) rs
 
 module _ (N : Numbers) where
   seen-shown : (t : Lent) (rs : List (ℕ × List ℕ)) → seenAfter N t (map asRead rs) ≡ shownBy N t rs
   unfolding seenAfter shownBy callOf
   seen-shown t [] = refl
   seen-shown t (r ∷ rs) =
-      ap {B = List (Compared (Fixed 32))} (λ l. seenIn (boxIn N (next N t (asRead r))) (wordOf ((call N t (asRead r)) .answer)) ∷ l)
-      (seen-shown (next N t (asRead r)) rs)
+      ap {B = List (Compared (Fixed 32))} (λ l. seenIn (boxIn N (next N t (one (asRead r)))) (wordOf ((call N t (asRead r)) .answer)) ∷ l)
+      (seen-shown (next N t (one (asRead r))) rs)
 
   fed-reads : (t : Lent) (rs : List (ℕ × List ℕ)) → readsOf N t (map asRead rs) ≡ fedBy N t rs
   unfolding readsOf fedBy callOf
   fed-reads t [] = refl
   fed-reads t (r ∷ rs) =
       ap {B = List Read} (λ l. record { address = r .0; refused = not (eqb (refusal N t (calling (asRead r))) 0) } ∷ l)
-      (fed-reads (next N t (asRead r)) rs)
+      (fed-reads (next N t (one (asRead r))) rs)
 
   no-write : (rs : List (ℕ × List ℕ)) → All (λ q. NoWrite (callOf (N .B) q)) (map asRead rs)
   no-write [] = tt
@@ -192,7 +189,7 @@ module _ (N : Numbers) where
       (record { addresses = []; fingerprints = [] }) (fedBy N (opened N t) rs)
   reads-alone t rs opens =
       sym (seen-shown (opened N t) rs)
-      ∙ (demand-3 N t (map asRead rs) opens) .printed (no-write rs)
+      ∙ (demand-3 N t (map one (map asRead rs)) opens) .printed (map asRead rs) refl (no-write rs)
       ∙ ap
       (printedTrace (engine (N .B) .same) (N .m) (N .d) (contentOf (engine (N .B)) (firstPlain N (opened N t))) (record { addresses = []; fingerprints = [] }))
       (fed-reads (opened N t) rs)

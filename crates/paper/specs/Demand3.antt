@@ -1,70 +1,94 @@
 -- Demand 3 as one type: a claim about every list of calls from a fresh box, in bytes and in refusals computed from the bytes.
 -- Assumes nothing.
 use mathlib.Core.Path.{_≡_}
-use mathlib.Core.Bool.{not, cond}
-use mathlib.Core.List.{List, [], _∷_, _++_}
-use mathlib.Core.Logic.{_⊎_}
+use mathlib.Core.Bool.{true, not, cond}
+use mathlib.Core.List.{List, [], _∷_, _++_, map}
 use mathlib.Core.Option.{Option, none, some, Option·map}
 use Prim.Native.Nat.{ℕ}
 use lib.Dec.{eqb}
+use lib.ListN.{getD, take}
 use Rattle.paper.specs.KeyedLaws.{All}
 use Rattle.paper.specs.Cache.{Numbers, Word}
 use Rattle.paper.specs.Engine.{Fixed, engine}
-use Rattle.paper.specs.Lent.{Lent, Ask, Answer, refused, answered, After, calling, aboutAsk, refusal, call, callOf, boxIn, join, split}
+use Rattle.paper.specs.Lent.{Lent, Ask, Answer, refused, answered, After, calling, oneOf, aboutAsk, refusal, call, callOf, boxIn, join, split}
+use Rattle.paper.specs.BatchLent.{Asking, one, many, batchRefusal, batchedFrom, callBatch, servedInTurn}
 use Rattle.paper.specs.Machines.{plainNext, plainBlock, writtenBy, NoWrite, Read, Compared, ifRead, seenIn, printedTrace, contentOf}
 use Rattle.paper.specs.Machines.{OrphanLaw, TrueFingerprints, NoTwoShare}
 
+-- the number that a call of a list gets, 0 where it is served
+abbrev pub numberOf : Numbers → Lent → Asking → ℕ
+numberOf N t (one q) = refusal N t (calling q)
+numberOf N t (many l buffer) = batchRefusal N t l buffer
+
 -- "Box record, disk, flash, both tables and counters pass from call to call."
-abbrev pub next : (N : Numbers) → Lent → Ask → Lent
-next N t q = (call N t q) .lent
+abbrev pub next : Numbers → Lent → Asking → Lent
+next N t (one q) = (call N t q) .lent
+next N t (many l buffer) = (callBatch N t l buffer) .lent
 
 -- "Plain disk: P blocks, first those of the disk. It is fed the calls and their arguments in turn and, of the answers, only which are refusals."
--- "A flush does nothing, nor does a refused call in either machine."
-abbrev pub plainStep : (N : Numbers) → Lent → List (Fixed (N .B)) → Ask → List (Fixed (N .B))
-plainStep N t plain q = cond (eqb (refusal N t (calling q)) 0) (plainNext plain (callOf (N .B) q)) plain
+-- "A flush does nothing, nor does a refused call in either machine." A folder read is reads, which write nothing.
+abbrev pub plainStep : (N : Numbers) → Lent → List (Fixed (N .B)) → Asking → List (Fixed (N .B))
+plainStep N t plain (one q) = cond (eqb (refusal N t (calling q)) 0) (plainNext plain (callOf (N .B) q)) plain
+plainStep N t plain (many l buffer) = plain
 
 -- a claim "in every state reached, the fresh one included"
-unfoldable pub Throughout : (N : Numbers) (Q : Lent → List (Fixed (N .B)) → Type 0) → Lent → List (Fixed (N .B)) → List Ask → Type 0
+unfoldable pub Throughout : (N : Numbers) (Q : Lent → List (Fixed (N .B)) → Type 0) → Lent → List (Fixed (N .B)) → List Asking → Type 0
 Throughout N Q t plain [] = Q t plain
 Throughout N Q t plain (q ∷ qs) = Q t plain × Throughout N Q (next N t q) (plainStep N t plain q) qs
 
 -- a claim "Of calls that aren't refused"
-unfoldable pub EachServed : (N : Numbers) (Q : Lent → List (Fixed (N .B)) → Ask → Type 0) → Lent → List (Fixed (N .B)) → List Ask → Type 0
+unfoldable pub EachServed : (N : Numbers) (Q : Lent → List (Fixed (N .B)) → Asking → Type 0) → Lent → List (Fixed (N .B)) → List Asking → Type 0
 EachServed N Q t plain [] = Unit {0}
-EachServed N Q t plain (q ∷ qs) = (refusal N t (calling q) ≡ 0 → Q t plain q) × EachServed N Q (next N t q) (plainStep N t plain q) qs
+EachServed N Q t plain (q ∷ qs) = (numberOf N t q ≡ 0 → Q t plain q) × EachServed N Q (next N t q) (plainStep N t plain q) qs
 
 -- "In such a list no call gets 6, 7 or 8." (Nor 1: the numbers are those of the opening.)
-abbrev pub ServedOr239 : ℕ → Type 0
-ServedOr239 k = (k ≡ 0) ⊎ ((k ≡ 2) ⊎ ((k ≡ 3) ⊎ (k ≡ 9)))
+abbrev pub InList : ℕ → Type 0
+InList k = oneOf k (0 ∷ 2 ∷ 3 ∷ 9 ∷ 10 ∷ []) ≡ true
 
-unfoldable pub refusals : Numbers → Lent → List Ask → List ℕ
+unfoldable pub refusals : Numbers → Lent → List Asking → List ℕ
 refusals N t [] = []
-refusals N t (q ∷ qs) = refusal N t (calling q) ∷ refusals N (next N t q) qs
+refusals N t (q ∷ qs) = numberOf N t q ∷ refusals N (next N t q) qs
 
 -- "Of calls that aren't refused: the blocks written are those lent to writes"
-unfoldable pub written : (N : Numbers) → Lent → List Ask → List (Fixed (N .B))
+abbrev pub writtenIn : (N : Numbers) → Asking → List (Fixed (N .B))
+writtenIn N (one q) = writtenBy (callOf (N .B) q)
+writtenIn N (many l buffer) = []
+
+unfoldable pub written : (N : Numbers) → Lent → List Asking → List (Fixed (N .B))
 written N t [] = []
-written N t (q ∷ qs) = cond (eqb (refusal N t (calling q)) 0) (writtenBy (callOf (N .B) q)) [] ++ written N (next N t q) qs
+written N t (q ∷ qs) = cond (eqb (numberOf N t q) 0) (writtenIn N q) [] ++ written N (next N t q) qs
 
 -- "a block returned is the lent block after a read, or a look's part"
 abbrev pub returned : Ask → After → Option (List ℕ)
 returned q y = cond (aboutAsk q .reads) (y .block) (cond (aboutAsk q .returns) (some (y .part)) none)
 
--- it is the plain disk's
-unfoldable pub ShowsPlain : (N : Numbers) → Lent → List (Fixed (N .B)) → Ask → Type 0
-ShowsPlain N t plain q =
+-- it is the plain disk's; of a folder read the buffer has the plain disk's blocks at its addresses
+abbrev pub ShowsPlain : (N : Numbers) → Lent → List (Fixed (N .B)) → Asking → Type 0
+ShowsPlain N t plain (one q) =
     returned q (call N t q) ≡ Option·map (λ (b : Fixed (N .B)). b .0) (plainBlock (engine (N .B) .blank) plain (callOf (N .B) q))
+ShowsPlain N t plain (many l buffer) = (callBatch N t l buffer) .buffer ≡ join (map (λ a. getD plain a (engine (N .B) .blank)) l)
+
+-- U2: "blocks, flash, tables, counters and disk are those of the reads done in turn, with 9 checked only before the first" (of the blocks it is said by
+-- `ShowsPlain`)
+abbrev pub AsReads : (N : Numbers) → Lent → List (Fixed (N .B)) → Asking → Type 0
+AsReads N t plain (one q) = Unit {0}
+AsReads N t plain (many l buffer) = (callBatch N t l buffer) .lent ≡ servedInTurn N t l
+
+-- U2: "A list with this call in it counts as those reads for every law about .. orphans": also between its reads
+abbrev pub OrphansWithin : (N : Numbers) → Lent → List (Fixed (N .B)) → Asking → Type 0
+OrphansWithin N t plain (one q) = Unit {0}
+OrphansWithin N t plain (many l buffer) = (k : ℕ) → OrphanLaw (engine (N .B)) ((batchedFrom N t (take k l)) .box)
 
 -- after a flush the disk is the plain disk
-abbrev pub FlushesWhole : (N : Numbers) → Lent → List (Fixed (N .B)) → Ask → Type 0
-FlushesWhole N t plain q = q ≡ Ask.flush → (next N t q) .disk ≡ join plain
+abbrev pub FlushesWhole : (N : Numbers) → Lent → List (Fixed (N .B)) → Asking → Type 0
+FlushesWhole N t plain q = q ≡ one Ask.flush → (next N t q) .disk ≡ join plain
 
 -- "Printed D-LRU: it is fed the reads' addresses, which reads are refused, and the disk as it was at first"; "Compared after each read: held
 -- addresses in order, cached fingerprints in order and, unless it was refused, its hit or miss."
 unfoldable pub readsOf : Numbers → Lent → List Ask → List Read
 readsOf N t [] = []
 readsOf N t (q ∷ qs) =
-    ifRead (callOf (N .B) q) (λ a. record { address = a; refused = not (eqb (refusal N t (calling q)) 0) }) (readsOf N (next N t q) qs)
+    ifRead (callOf (N .B) q) (λ a. record { address = a; refused = not (eqb (refusal N t (calling q)) 0) }) (readsOf N (next N t (one q)) qs)
 
 abbrev pub wordOf : Answer → Option Word
 wordOf (refused k) = none
@@ -73,25 +97,27 @@ wordOf (answered w f p) = some w
 unfoldable pub seenAfter : Numbers → Lent → List Ask → List (Compared (Fixed 32))
 seenAfter N t [] = []
 seenAfter N t (q ∷ qs) =
-    ifRead (callOf (N .B) q) (λ a. seenIn (boxIn N (next N t q)) (wordOf ((call N t q) .answer))) (seenAfter N (next N t q) qs)
+    ifRead (callOf (N .B) q) (λ a. seenIn (boxIn N (next N t (one q))) (wordOf ((call N t q) .answer))) (seenAfter N (next N t (one q)) qs)
 
 -- "Plain disk: P blocks, first those of the disk."
 abbrev pub firstPlain : (N : Numbers) → Lent → List (Fixed (N .B))
 firstPlain N t = split (N .B) (N .P) (t .disk)
 
 -- The premise, of the first plain disk and the blocks written in the list: no two different blocks of these share a fingerprint.
-abbrev pub Premise : (N : Numbers) → Lent → List Ask → Type 0
+abbrev pub Premise : (N : Numbers) → Lent → List Asking → Type 0
 Premise N t qs = NoTwoShare (engine (N .B)) (firstPlain N t ++ written N t qs)
 
 -- "Demand 3 is one claim about the whole list of calls, not one for each call. A list begins with a fresh box over any disk and flash bytes."
--- t is the fresh box. `fingerprints`, `blocks` and `flushes` are under the premise.
--- `printed` is of a list with no write in it: of reads alone, or with looks and flushes among them.
-pub record Demand3 (N : Numbers) (t : Lent) (qs : List Ask) : Type 0 where
-  pub numbers : All ServedOr239 (refusals N t qs)
+-- t is the fresh box. `fingerprints`, `blocks`, `asReads` and `flushes` are under the premise.
+-- `printed` is of a list of single calls with no write in it: of reads alone, or with looks and flushes among them.
+pub record Demand3 (N : Numbers) (t : Lent) (qs : List Asking) : Type 0 where
+  pub numbers : All InList (refusals N t qs)
   pub orphans : Throughout N (λ x plain. OrphanLaw (engine (N .B)) (boxIn N x)) t (firstPlain N t) qs
+  pub orphansWithin : EachServed N (OrphansWithin N) t (firstPlain N t) qs
   pub fingerprints : Premise N t qs → Throughout N (λ x plain. TrueFingerprints (engine (N .B)) (boxIn N x) plain) t (firstPlain N t) qs
   pub blocks : Premise N t qs → EachServed N (ShowsPlain N) t (firstPlain N t) qs
+  pub asReads : Premise N t qs → EachServed N (AsReads N) t (firstPlain N t) qs
   pub flushes : Premise N t qs → EachServed N (FlushesWhole N) t (firstPlain N t) qs
-  pub printed : All (λ q. NoWrite (callOf (N .B) q)) qs
-      → seenAfter N t qs ≡ printedTrace (engine (N .B) .same) (N .m) (N .d) (contentOf (engine (N .B)) (firstPlain N t))
-      (record { addresses = []; fingerprints = [] }) (readsOf N t qs)
+  pub printed : (rs : List Ask) → qs ≡ map one rs → All (λ q. NoWrite (callOf (N .B) q)) rs
+      → seenAfter N t rs ≡ printedTrace (engine (N .B) .same) (N .m) (N .d) (contentOf (engine (N .B)) (firstPlain N t))
+      (record { addresses = []; fingerprints = [] }) (readsOf N t rs)

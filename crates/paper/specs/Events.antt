@@ -12,33 +12,7 @@ pub record Event (X : Type 0) : Type 0 where
   pub call : Call X
   pub refused : Bool
 
--- the blocks returned, by a list of calls, of those that are not refused
-unfoldable pub boxBlocks : {F X : Type 0} (H : Hashing F X) → Numbers → Box F X → List (Event X) → List (Option X)
-boxBlocks H N s [] = []
-boxBlocks H N s (e ∷ es) = cond (e .refused) (boxBlocks H N s es) ((serve H N s (e .call)) .block ∷ boxBlocks H N ((serve H N s (e .call)) .box) es)
-
-unfoldable pub plainBlocks : {X : Type 0} → X → List X → List (Event X) → List (Option X)
-plainBlocks blank disk [] = []
-plainBlocks blank disk (e ∷ es) = cond (e .refused) (plainBlocks blank disk es) (plainBlock blank disk (e .call) ∷ plainBlocks blank (plainNext disk (e .call)) es)
-
--- the blocks written, by calls that are not refused
-unfoldable pub written : {X : Type 0} → List (Event X) → List X
-written [] = []
-written (e ∷ es) = cond (e .refused) [] (writtenBy (e .call)) ++ written es
-
--- a claim on the cache and the plain disk, in every state that a list of calls reaches, the first one included
-unfoldable pub Throughout : {F X : Type 0} (H : Hashing F X) (N : Numbers) (Q : Box F X → List X → Type 0) → Box F X → List X → List (Event X) → Type 0
-Throughout H N Q s plain [] = Q s plain
-Throughout H N Q s plain (e ∷ es) =
-    Q s plain × Throughout H N Q (cond (e .refused) s ((serve H N s (e .call)) .box)) (cond (e .refused) plain (plainNext plain (e .call))) es
-
--- after each flush the cache's disk is the plain disk
-unfoldable pub FlushesWhole : {F X : Type 0} (H : Hashing F X) (N : Numbers) → Box F X → List X → List (Event X) → Type 0
-FlushesWhole H N s plain [] = Unit {0}
-FlushesWhole H N s plain (e ∷ es) =
-    (e .refused ≡ false → e .call ≡ flush → (serve H N s (e .call)) .box .disk ≡ plain)
-    × FlushesWhole H N (cond (e .refused) s ((serve H N s (e .call)) .box)) (cond (e .refused) plain (plainNext plain (e .call))) es
-
+-- what is compared after each read of a list
 unfoldable pub cacheTrace : {F X : Type 0} (H : Hashing F X) → Numbers → Box F X → List Read → List (Compared F)
 cacheTrace H N s [] = []
 cacheTrace H N s (e ∷ es) =

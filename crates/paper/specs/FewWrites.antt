@@ -66,19 +66,19 @@ module _ {F X : Type 0} (H : Hashing F X) where
   unfolding answer
   answer-few w b more n k t f h = let f₁ = f .1 in (f .0, omega arith)
 
+  pub readAs-few : (N : Numbers) (s : Box F X) (a : ℕ) (x : X) (o : Option (AddressRow F)) → Sound H N s → 1 ≤ N .m → FewBy (N .m + 1) (readAs H (N .m) s a x o)
+  unfolding readAs
+  readAs-few N s a x (some r) h m1 =
+      let b = blockOf H (r .fingerprint) (s .used) (s .flash) in
+      let q : Request F X = record { address = a; fingerprint = r .fingerprint; block = b; dirty = r .dirty } in
+      answer-few hit (some b) 0 (N .m + oneIf (r .dirty)) (N .m + 1) (step H (N .m) s q) (step-few N s q h m1) (omega (arith, one-if-le (r .dirty)))
+  readAs-few N s a x none h m1 =
+      let q : Request F X = record { address = a; fingerprint = H .hash x; block = x; dirty = false } in
+      answer-few miss (some x) 0 (N .m + 0) (N .m + 1) (step H (N .m) s q) (step-few N s q h m1) (omega arith)
+
   pub serve-few : (N : Numbers) (s : Box F X) (c : Call X) → Sound H N s → 1 ≤ N .m → FewBy (N .m + 1) (serve H N s c)
-  unfolding serve readAs writeThrough writeBack writeInvalidate lookAs flushed
-  serve-few N s (read a) h m1 = go (rowWithBlock H s a)
-    where
-      go : (o : Option (AddressRow F)) → FewBy (N .m + 1) (readAs H (N .m) s a o)
-      go (some r) =
-          let b = blockOf H (r .fingerprint) (s .used) (s .flash) in
-          let q : Request F X = record { address = a; fingerprint = r .fingerprint; block = b; dirty = r .dirty } in
-          answer-few hit (some b) 0 (N .m + oneIf (r .dirty)) (N .m + 1) (step H (N .m) s q) (step-few N s q h m1) (omega (arith, one-if-le (r .dirty)))
-      go none =
-          let b = getD (s .disk) a (H .blank) in
-          let q : Request F X = record { address = a; fingerprint = H .hash b; block = b; dirty = false } in
-          answer-few miss (some b) 0 (N .m + 0) (N .m + 1) (step H (N .m) s q) (step-few N s q h m1) (omega arith)
+  unfolding serve writeThrough writeBack writeInvalidate lookAs flushed
+  serve-few N s (read a) h m1 = readAs-few N s a (getD (s .disk) a (H .blank)) (rowWithBlock H s a) h m1
   serve-few N s (through a b) h m1 =
       let q : Request F X = record { address = a; fingerprint = H .hash b; block = b; dirty = false } in
       answer-few (sameOrNew H s b) none 1 (N .m + 0) (N .m + 1) (step H (N .m) (onDisk H s a b) q)

@@ -9,6 +9,7 @@ use lib.ListN.{length, drop}
 use Rattle.tables.specs.Records as Table
 use Rattle.tables.specs.Records.{addressTable, heldRows, blockTable, blockRows, freeRow, freshAddresses, freshBlocks}
 use Rattle.tables.specs.Unsound.{elem, addressesUnsound, blocksUnsound, dirtyUncached}
+use Rattle.paper.specs.Keyed.{has}
 use Rattle.paper.specs.Cache.{Numbers, AddressRow, BlockRow, Box, Call, About, about, Word, Counters, noCounts, counted, serve}
 use Rattle.paper.specs.Engine.{Fixed, fit, engine}
 use Rattle.tables.specs.Rows.{tableBytes}
@@ -155,18 +156,42 @@ over k = ltb (2 ^ 63) (k .reads) || ltb (2 ^ 63) (k .hits) || ltb (2 ^ 63) (k .f
 abbrev pub counts : Ask → Bool
 counts q = aboutAsk q .counts
 
+-- a test and the number of its refusal
+pub record Test : Type 0 where
+  pub holds : Bool
+  pub number : ℕ
+
+abbrev pub test : Bool → ℕ → Test
+test b n = record { holds = b; number = n }
+
+-- "the first that applies": the number of the first test that holds, 0 where none does
+abbrev pub first : List Test → ℕ
+first [] = 0
+first (x ∷ xs) = cond (x .holds) (x .number) (first xs)
+
+abbrev pub oneOf : ℕ → List ℕ → Bool
+oneOf n l = has eqb (λ k. k) n l
+
+-- the tests of the tables, which every call but opening makes
+abbrev pub tableTests : Numbers → Lent → List Test → List Test
+tableTests N t rest =
+    test (addressesUnsound (N .P) (N .m) (t .n) (t .addresses)) 6
+    ∷ test (blocksUnsound (N .d) (t .blocks)) 7
+    ∷ test (dirtyUncached (t .n) (N .d) (t .addresses) (t .blocks)) 8
+    ∷ rest
+
 -- "Checked in the order 1, 2, 3, 6, 7, 8, 9, the first that applies. Flush has no 3, look no 9, opening only 1 and 2."
+abbrev pub tests : Numbers → Lent → Asked → List Test
+tests N t opening = test (unfit N) 1 ∷ test (wrongBuffers N t) 2 ∷ []
+tests N t (calling q) =
+    test (unfit N) 1
+    ∷ test (wrongBuffers N t || wrongBlock (N .B) (lentBlock q)) 2
+    ∷ test (outside (N .P) (addressOf q)) 3
+    ∷ tableTests N t (test (counts q && over (t .counters)) 9 ∷ [])
+
 -- The number of a refusal, 0 where the call is served.
 unfoldable pub refusal : Numbers → Lent → Asked → ℕ
-refusal N t opening = cond (unfit N) 1 (cond (wrongBuffers N t) 2 0)
-refusal N t (calling q) =
-    cond (unfit N) 1
-    (cond (wrongBuffers N t || wrongBlock (N .B) (lentBlock q)) 2
-    (cond (outside (N .P) (addressOf q)) 3
-    (cond (addressesUnsound (N .P) (N .m) (t .n) (t .addresses)) 6
-    (cond (blocksUnsound (N .d) (t .blocks)) 7
-    (cond (dirtyUncached (t .n) (N .d) (t .addresses) (t .blocks)) 8
-    (cond (counts q && over (t .counters)) 9 0))))))
+refusal N t q = first (tests N t q)
 
 -- An answer: the number of the refusal, or the word with the flash writes and primary writes. "Both are in the answer."
 pub data Answer : Type 0 where

@@ -2,10 +2,13 @@
 -- lent memory and refusals, worked refusals, the machines compared with, demand 3. (`All` is in KeyedLaws.)
 pub mod Keyed
 pub mod Cache
+pub mod Batch
 pub mod Worked
 pub mod Engine
 pub mod Lent
+pub mod BatchLent
 pub mod Refused
+pub mod BatchWorked
 pub mod Machines
 pub mod Demand3
 -- the theorem: demand 3 of every list; what refused and served calls leave; that the premise can be met
@@ -28,7 +31,6 @@ pub mod OrphanList
 pub mod Order
 pub mod Printed
 pub mod Quiet
-pub mod EventList
 pub mod Parts
 pub mod RowBytes
 pub mod TestLaws
@@ -36,5 +38,7 @@ pub mod SoundTests
 pub mod LentLaws
 pub mod LentForth
 pub mod FewWrites
+pub mod BatchLaws
+pub mod BatchLentLaws
 pub mod Index
 pub mod Layout

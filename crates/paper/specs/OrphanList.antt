@@ -1,4 +1,4 @@
--- The orphan law of every list of calls.
+-- The orphan law: each call keeps what it follows from.
 use mathlib.Core.Path.{_≡_, refl, sym, ap, _∙_}
 use mathlib.Core.Bool.{Bool, true, false, not, _&&_, cond, false≢true}
 use mathlib.Core.List.{List, [], _∷_}
@@ -12,17 +12,15 @@ use Rattle.paper.specs.Cache.{someUncached, Call, read, through, back, i
 use Rattle.paper.specs.Cache.{backRequest, writeBack, dropped, writeInvalidate, lookAs, flushed, serve, fresh, freed}
 use Rattle.paper.specs.KeyedLaws.{by-test, either, clash, or-left, or-right, or-both, eqb→≡, eqb-self, All, Distinct, has-without-other, has-without, has-without-self, lost-with}
 use Rattle.paper.specs.Machines.{someUnknown, OrphanLaw, plainNext}
-use Rattle.paper.specs.Events.{Event, Throughout}
 use Rattle.paper.specs.Orphans.{NoWaste, noWaste-step, known-cleaned, apart}
-use Rattle.paper.specs.Sound.{Sound, sound-serve, sound-fresh}
-use Rattle.paper.specs.PlainDisk.{ServedWithin}
 
 module _ {F X : Type 0} (H : Hashing F X) where
-  noWaste-readAs : (m : ℕ) (s : Box F X) (a : ℕ) (o : Option (AddressRow F)) → Distinct eqb (λ r. r .address) (s .rows) → NoWaste H (s .rows) (s .used)
-      → NoWaste H ((readAs H m s a o) .box .rows) ((readAs H m s a o) .box .used)
+  pub noWaste-readAs : (m : ℕ) (s : Box F X) (a : ℕ) (x : X) (o : Option (AddressRow F)) → Distinct eqb (λ r. r .address) (s .rows) → NoWaste H (s .rows) (s .used)
+      → NoWaste H ((readAs H m s a x o) .box .rows) ((readAs H m s a x o) .box .used)
   unfolding readAs answer
-  noWaste-readAs m s a (some r) d l = noWaste-step H m s (record { address = a; fingerprint = r .fingerprint; block = blockOf H (r .fingerprint) (s .used) (s .flash); dirty = r .dirty }) d l
-  noWaste-readAs m s a none d l = noWaste-step H m s (record { address = a; fingerprint = H .hash (getD (s .disk) a (H .blank)); block = getD (s .disk) a (H .blank); dirty = false }) d l
+  noWaste-readAs m s a x (some r) d l =
+      noWaste-step H m s (record { address = a; fingerprint = r .fingerprint; block = blockOf H (r .fingerprint) (s .used) (s .flash); dirty = r .dirty }) d l
+  noWaste-readAs m s a x none d l = noWaste-step H m s (record { address = a; fingerprint = H .hash x; block = x; dirty = false }) d l
 
   noWaste-lookAs : (s : Box F X) (a : ℕ) (o : Option (AddressRow F)) → NoWaste H (s .rows) (s .used) → NoWaste H ((lookAs H s a o) .box .rows) ((lookAs H s a o) .box .used)
   unfolding lookAs
@@ -66,7 +64,7 @@ module _ {F X : Type 0} (H : Hashing F X) where
   pub noWaste-serve : (N : Numbers) (s : Box F X) (c : Call X) → Distinct eqb (λ r. r .address) (s .rows) → NoWaste H (s .rows) (s .used)
       → NoWaste H ((serve H N s c) .box .rows) ((serve H N s c) .box .used)
   unfolding serve writeThrough writeBack answer flushed
-  noWaste-serve N s (read a) d l = noWaste-readAs (N .m) s a (rowWithBlock H s a) d l
+  noWaste-serve N s (read a) d l = noWaste-readAs (N .m) s a (getD (s .disk) a (H .blank)) (rowWithBlock H s a) d l
   noWaste-serve N s (look a) d l = noWaste-lookAs s a (rowWithBlock H s a) l
   noWaste-serve N s (through a b) d l = noWaste-step H (N .m) (onDisk H s a b) (record { address = a; fingerprint = H .hash b; block = b; dirty = false }) d l
   noWaste-serve N s (back a b) d l = noWaste-step H (N .m) s (backRequest H s a b) d l
@@ -91,20 +89,3 @@ module _ {F X : Type 0} (H : Hashing F X) where
   pub never-both : (rows : List (AddressRow F)) (used : List (BlockRow F)) → NoWaste H rows used → (someUncached H rows used && someUnknown H rows used) ≡ false
   never-both rows used (inl l) = rw (uncached-not rows used (λ r h. l (r .fingerprint) h)) refl
   never-both rows used (inr l) = by-test (someUncached H rows used) (λ e. rw e (unknown-not rows used (λ u h. l (u .fingerprint) h))) (λ e. rw e refl)
-
-module _ {F X : Type 0} (H : Hashing F X) (N : Numbers) (m1 : 1 ≤ N .m) (d1 : 1 ≤ N .d) where
-  pub orphan-law : (s : Box F X) (plain : List X) (es : List (Event X)) → Sound H N s → NoWaste H (s .rows) (s .used) → All (ServedWithin (N .P)) es
-      → Throughout H N (λ s plain. Sound H N s × OrphanLaw H s) s plain es
-  unfolding Throughout
-  orphan-law s plain [] h l w = (h, never-both H (s .rows) (s .used) l)
-  orphan-law s plain (e ∷ es) h l w =
-      let s′ = cond (e .refused) s ((serve H N s (e .call)) .box) in
-      let plain′ = cond (e .refused) plain (plainNext plain (e .call)) in
-      let h′ : Sound H N s′ = by-test (e .refused) (λ r. rw r h) (λ r. rw r (sound-serve H N s (e .call) h m1 d1 (w .0 r))) in
-      let l′ : NoWaste H (s′ .rows) (s′ .used) = by-test (e .refused) (λ r. rw r l) (λ r. rw r (noWaste-serve H N s (e .call) (h .addresses) l)) in
-      ((h, never-both H (s .rows) (s .used) l), orphan-law s′ plain′ es h′ l′ (w .1))
-
-  pub orphan-law-fresh : (flash disk : List X) (es : List (Event X)) → length flash ≡ N .d → length disk ≡ N .P → All (ServedWithin (N .P)) es
-      → Throughout H N (λ s plain. Sound H N s × OrphanLaw H s) (fresh (N .d) flash disk) disk es
-  orphan-law-fresh flash disk es fl dl w =
-      orphan-law (fresh (N .d) flash disk) disk es (sound-fresh H N flash disk fl dl) (inl (λ f h. absurd (false≢true h))) w

@@ -1,4 +1,4 @@
--- After every call the tables have the fingerprints of the plain disk's blocks, and what it returns is the plain disk's; then every list of calls.
+-- After every call the tables have the fingerprints of the plain disk's blocks, and what it returns is the plain disk's.
 use mathlib.Core.Path.{_≡_, refl, sym, ap, ap₂, _∙_, subst}
 use mathlib.Core.Bool.{true, false, not, _&&_, cond, true≢false}
 use mathlib.Core.List.{List, [], _∷_}
@@ -6,16 +6,16 @@ use mathlib.Core.Logic.{_⊎_, inl, inr}
 use mathlib.Core.Option.{Option, none, some, Option·none-ne-some, Option·some-ne-none, Option·some-injective}
 use Prim.Native.Nat.{ℕ, _≤_, _<_}
 use lib.Dec.{eqb}
-use lib.ListN.{set, length-set}
+use lib.ListN.{length, set, length-set}
 use lib.Seq.{ext-getD}
 use borrow.Author.Tests.{not-false}
 use Rattle.paper.specs.Cache.{Numbers, Hashing, AddressRow, BlockRow, Box, BlockRows, held, rowOf, withoutAddress, known, cached, blockOf, copied, Call}
 use Rattle.paper.specs.Cache.{read, through, back, invalidate, look, flush, Within, onDisk, rowWithBlock, ifCached, answer, readAs, writeThrough}
-use Rattle.paper.specs.Cache.{dirtied, backRequest, writeBack, dropped, writeInvalidate, lookAs, flushed, serve, freed}
+use Rattle.paper.specs.Cache.{dirtied, backRequest, writeBack, dropped, writeInvalidate, lookAs, flushed, serve, fresh, freed}
 use Rattle.paper.specs.KeyedLaws.{by-test, either, clash, or-both, or-false-left, or-false-right, and-left, eqb→≡, eqb-swap, All, Distinct, all-left, all-right, all-map, all-without, all-both, find-some, find-none}
 use Rattle.paper.specs.Machines.{plainNext, plainBlock, writtenBy}
-use Rattle.paper.specs.Events.{Event, boxBlocks, plainBlocks, written, Throughout, FlushesWhole}
-use Rattle.paper.specs.Sound.{Sound, DirtyCached, length-copied, all-cleaned, sound-onDisk, sound-serve}
+use Rattle.paper.specs.Events.{Event}
+use Rattle.paper.specs.Sound.{Sound, DirtyCached, length-copied, all-cleaned, sound-onDisk, sound-fresh}
 use Rattle.paper.specs.Faithful.{at, at-set-same, at-set-other, any, dirtyAt, dirty-without, copied-good, CopyTrue, all-at, all-set, all-without-strict, RowTrue, BlockTrue, Faithful, FaithfulBut, row-block, faithful-step}
 
 module _ {F X : Type 0} (H : Hashing F X) where
@@ -102,7 +102,8 @@ module _ {F X : Type 0} (H : Hashing F X) (In : X → Type 0) (only : (b c : X) 
 
   faithful-readAs : (N : Numbers) (plain : List X) (s : Box F X) (a : ℕ) (o : Option (AddressRow F)) → rowWithBlock H s a ≡ o → Sound H N s
       → Faithful H In (N .P) plain s → 1 ≤ N .m → 1 ≤ N .d → a < N .P
-      → Faithful H In (N .P) plain ((readAs H (N .m) s a o) .box) × ((readAs H (N .m) s a o) .block ≡ some (at H plain a))
+      → Faithful H In (N .P) plain ((readAs H (N .m) s a (at H (s .disk) a) o) .box)
+      × ((readAs H (N .m) s a (at H (s .disk) a) o) .block ≡ some (at H plain a))
   unfolding readAs answer
   faithful-readAs N plain s a (some r) e h f m1 d1 w =
       let b = blockOf H (r .fingerprint) (s .used) (s .flash) in
@@ -234,7 +235,7 @@ module _ {F X : Type 0} (H : Hashing F X) (In : X → Type 0) (only : (b c : X) 
     refl,
   )
 
--- every list of calls, over any set of blocks of which no two different ones share a fingerprint
+-- an event whose call is served has an address of the disk's
 abbrev pub ServedWithin : {X : Type 0} → ℕ → Event X → Type 0
 ServedWithin P e = e .refused ≡ false → Within P (e .call)
 
@@ -242,47 +243,8 @@ module _ {F X : Type 0} (H : Hashing F X) (In : X → Type 0) where
   abbrev pub Good : Numbers → Box F X → List X → Type 0
   Good N s plain = Sound H N s × Faithful H In (N .P) plain s
 
-module _ {F X : Type 0} (H : Hashing F X) (In : X → Type 0) (only : (b c : X) → In b → In c → H .hash b ≡ H .hash c → b ≡ c) (N : Numbers) (m1 : 1 ≤ N .m)
-    (d1 : 1 ≤ N .d) where
-  good-next : (s : Box F X) (plain : List X) (e : Event X) → Good H In N s plain → ServedWithin (N .P) e → All In (cond (e .refused) [] (writtenBy (e .call)))
-      → Good H In N (cond (e .refused) s ((serve H N s (e .call)) .box)) (cond (e .refused) plain (plainNext plain (e .call)))
-  good-next s plain e g w i =
-      by-test (e .refused)
-      (λ r. rw r g)
-      (λ r. rw r (sound-serve H N s (e .call) (g .0) m1 d1 (w r), (faithful-serve H In only N plain s (e .call) (g .0) (g .1) m1 d1 (w r) (rw r at i)) .0))
-
-  pub throughout : (s : Box F X) (plain : List X) (es : List (Event X)) → Good H In N s plain → All (ServedWithin (N .P)) es → All In (written es)
-      → Throughout H N (Good H In N) s plain es
-  unfolding Throughout written
-  throughout s plain [] g w i = g
-  throughout s plain (e ∷ es) g w i = (
-    g,
-    throughout (cond (e .refused) s ((serve H N s (e .call)) .box)) (cond (e .refused) plain (plainNext plain (e .call))) es
-        (good-next s plain e g (w .0) (all-left In (cond (e .refused) [] (writtenBy (e .call))) (written es) i)) (w .1)
-        (all-right In (cond (e .refused) [] (writtenBy (e .call))) (written es) i),
-  )
-
-  pub same-blocks : (s : Box F X) (plain : List X) (es : List (Event X)) → Good H In N s plain → All (ServedWithin (N .P)) es → All In (written es)
-      → boxBlocks H N s es ≡ plainBlocks (H .blank) plain es
-  unfolding boxBlocks plainBlocks written
-  same-blocks s plain [] g w i = refl
-  same-blocks s plain (e ∷ es) g w i =
-      let i₀ = all-left In (cond (e .refused) [] (writtenBy (e .call))) (written es) i in
-      let next = good-next s plain e g (w .0) i₀ in
-      let i₁ = all-right In (cond (e .refused) [] (writtenBy (e .call))) (written es) i in
-      by-test (e .refused)
-      (λ r. rw r (same-blocks s plain es g (w .1) i₁))
-      (λ r. rw r (ap₂ {C = List (Option X)} (λ x l. x ∷ l)
-      ((faithful-serve H In only N plain s (e .call) (g .0) (g .1) m1 d1 (w .0 r) (rw r at i₀)) .1)
-      (same-blocks ((serve H N s (e .call)) .box) (plainNext plain (e .call)) es (rw r at next) (w .1) i₁)))
-
-  pub flushes-whole : (s : Box F X) (plain : List X) (es : List (Event X)) → Good H In N s plain → All (ServedWithin (N .P)) es → All In (written es)
-      → FlushesWhole H N s plain es
-  unfolding FlushesWhole written
-  flushes-whole s plain [] g w i = tt
-  flushes-whole s plain (e ∷ es) g w i = (
-    (λ r c. rw c (flush-whole H In only N plain s (g .0) (g .1))),
-    flushes-whole (cond (e .refused) s ((serve H N s (e .call)) .box)) (cond (e .refused) plain (plainNext plain (e .call))) es
-        (good-next s plain e g (w .0) (all-left In (cond (e .refused) [] (writtenBy (e .call))) (written es) i)) (w .1)
-        (all-right In (cond (e .refused) [] (writtenBy (e .call))) (written es) i),
+  pub fresh-good : (N : Numbers) (flash disk : List X) → length flash ≡ N .d → length disk ≡ N .P → All In disk → Good N (fresh (N .d) flash disk) disk
+  fresh-good N flash disk fl dl i = (
+    sound-fresh H N flash disk fl dl,
+    record { rowsTrue = tt; blocksTrue = tt; plainIn = i; plainLength = dl; current = λ x h. refl },
   )

@@ -17,6 +17,7 @@ use Rattle.paper.specs.Engine.{Fixed, fit, engine}
 use Rattle.paper.specs.Cache.{Numbers}
 use Rattle.paper.specs.Lent as Lent
 use Rattle.paper.specs.Lent.{Lent, Ask, opening, calling, refusal, opened, fresh, split, call}
+use Rattle.paper.specs.BatchLent.{Asking, one}
 use Rattle.paper.specs.Machines.{NoTwoShare, writtenBy}
 use Rattle.paper.specs.Demand3.{EachServed, ShowsPlain, refusals, written}
 use Rattle.paper.specs.RefusalLaws.{opened-is}
@@ -33,8 +34,8 @@ abbrev memory : Lent
 memory = record { n = 0; disk = filled 0; flash = filled 0; addresses = replicate 40 0; blocks = replicate 40 0; counters = Cache.noCounts }
 
 -- a block filled with 1 is written back, read, and flushed
-abbrev asked : List Ask
-asked = Ask.back 0 (filled 1) ∷ Ask.read 0 (filled 0) ∷ Ask.flush ∷ []
+abbrev asked : List Asking
+asked = one (Ask.back 0 (filled 1)) ∷ one (Ask.read 0 (filled 0)) ∷ one Ask.flush ∷ []
 
 pub opens : refusal numbers memory opening ≡ 0
 unfolding refusal Lent.unfit Lent.wrongBuffers Unsound.elem
@@ -61,7 +62,8 @@ unfolding refusals
 first-served = head-≡ all-served
 
 -- a call that writes nothing adds nothing to the blocks written
-unwritten : (t : Lent) (q : Ask) (qs : List Ask) → writtenBy (Lent.callOf 64 q) ≡ [] → written numbers t (q ∷ qs) ≡ written numbers ((call numbers t q) .lent) qs
+unwritten : (t : Lent) (q : Ask) (qs : List Asking) → writtenBy (Lent.callOf 64 q) ≡ []
+    → written numbers t (one q ∷ qs) ≡ written numbers ((call numbers t q) .lent) qs
 unfolding written
 unwritten t q qs e = rw e (by-test (eqb (refusal numbers t (calling q)) 0) (λ y. rw y refl) (λ y. rw y refl))
 
@@ -70,7 +72,7 @@ unfolding written Lent.callOf
 written-is =
     let t₁ = (call numbers (opened numbers memory) (Ask.back 0 (filled 1))) .lent in
     let t₂ = (call numbers t₁ (Ask.read 0 (filled 0))) .lent in
-    rw first-served (ap {B = List (Fixed 64)} (λ l. block 1 ∷ l) (unwritten t₁ (Ask.read 0 (filled 0)) (Ask.flush ∷ []) refl ∙ unwritten t₂ Ask.flush [] refl))
+    rw first-served (ap {B = List (Fixed 64)} (λ l. block 1 ∷ l) (unwritten t₁ (Ask.read 0 (filled 0)) (one Ask.flush ∷ []) refl ∙ unwritten t₂ Ask.flush [] refl))
 
 blocks-are : split 64 1 ((opened numbers memory) .disk) ++ written numbers (opened numbers memory) asked ≡ block 0 ∷ block 1 ∷ []
 unfolding split fresh

@@ -334,7 +334,7 @@ module _ {F X : Type 0} (H : Hashing F X) where
 
   read-same : (disk : List X) (N : Numbers) (s : Box F X) (a : ℕ) (o : Option (AddressRow F)) → rowWithBlock H s a ≡ o → Sound H N s
       → ReadInv (contentOf H disk) disk s → 1 ≤ N .m → 1 ≤ N .d
-      → ReadSame disk (N .m) (N .d) s a (readAs H (N .m) s a o)
+      → ReadSame disk (N .m) (N .d) s a (readAs H (N .m) s a (at H (s .disk) a) o)
   unfolding readAs answer ReadSame printedNext printedHit
   read-same disk N s a (some r) e h v m1 d1 =
       let b = blockOf H (r .fingerprint) (s .used) (s .flash) in

@@ -1,96 +1,81 @@
 -- Refusals: each number is given exactly when its test is the first to hold, and a refused call keeps everything.
-use mathlib.Core.Path.{_≡_, refl, ap}
+use mathlib.Core.Path.{_≡_, refl, sym, ap, _∙_}
 use mathlib.Core.Bool.{false≢true, Bool, true, false, _&&_, _||_, cond}
-use mathlib.Core.List.{[]}
+use mathlib.Core.List.{List, [], _∷_, _++_, map}
 use mathlib.Core.Logic.{_↔_, _≢_}
-use mathlib.Core.Option.{none}
-use Prim.Native.Nat.{ℕ, _≤_}
-use native.Mathlib.Omega.{arith}
+use Prim.Native.Nat.{ℕ}
+use lib.Dec.{eqb}
+use lib.ListN.{take, drop}
 use borrow.Author.Tests.{ne-eqb}
 use Rattle.tables.specs.Unsound.{addressesUnsound, blocksUnsound, dirtyUncached}
-use Rattle.paper.specs.KeyedLaws.{by-test}
+use Rattle.paper.specs.KeyedLaws.{All, Distinct, by-test, either, clash, eqb→≡, eqb-self, or-cases, or-left, or-right, or-false-left, or-false-right}
 use Rattle.paper.specs.Cache.{Numbers}
-use Rattle.paper.specs.Lent.{Lent, Ask, opening, calling, addressOf, lentBlock, unfit, wrongBuffers, wrongBlock, outside, over, counts, refusal, refused}
+use Rattle.paper.specs.Lent.{Lent, Ask, opening, calling, addressOf, lentBlock, unfit, wrongBuffers, wrongBlock, outside, over, counts}
+use Rattle.paper.specs.Lent.{Test, test, first, oneOf, tests, refusal, refused}
 use Rattle.paper.specs.Lent.{served, kept, call, fresh, unopened, opened}
 
--- the number of the first of seven tests that holds
-firstOf : (a b c d e f g : Bool) → ℕ
-firstOf a b c d e f g = cond a 1 (cond b 2 (cond c 3 (cond d 6 (cond e 7 (cond f 8 (cond g 9 0))))))
+-- the numbers of tests
+abbrev pub numbersOf : List Test → List ℕ
+numbersOf l = map (λ x. x .number) l
 
-module _ (a b c d e f g : Bool) where
-  -- by cases, with what each case says
-  by-first : (G : ℕ → Type 0)
-      → (a ≡ true → G 1)
-      → ((a ≡ false) × (b ≡ true) → G 2)
-      → ((a ≡ false) × (b ≡ false) × (c ≡ true) → G 3)
-      → ((a ≡ false) × (b ≡ false) × (c ≡ false) × (d ≡ true) → G 6)
-      → ((a ≡ false) × (b ≡ false) × (c ≡ false) × (d ≡ false) × (e ≡ true) → G 7)
-      → ((a ≡ false) × (b ≡ false) × (c ≡ false) × (d ≡ false) × (e ≡ false) × (f ≡ true) → G 8)
-      → ((a ≡ false) × (b ≡ false) × (c ≡ false) × (d ≡ false) × (e ≡ false) × (f ≡ false) × (g ≡ true) → G 9)
-      → ((a ≡ false) × (b ≡ false) × (c ≡ false) × (d ≡ false) × (e ≡ false) × (f ≡ false) × (g ≡ false) → G 0)
-      → G (firstOf a b c d e f g)
-  unfolding firstOf
-  by-first G x1 x2 x3 x6 x7 x8 x9 x0 =
-      by-test a
-      (λ y. rw y (x1 y))
-      (λ n1. rw n1 (by-test b
-      (λ y. rw y (x2 (n1, y)))
-      (λ n2. rw n2 (by-test c
-      (λ y. rw y (x3 (n1, n2, y)))
-      (λ n3. rw n3 (by-test d
-      (λ y. rw y (x6 (n1, n2, n3, y)))
-      (λ n6. rw n6 (by-test e
-      (λ y. rw y (x7 (n1, n2, n3, n6, y)))
-      (λ n7. rw n7 (by-test f
-      (λ y. rw y (x8 (n1, n2, n3, n6, n7, y)))
-      (λ n8. rw n8 (by-test g
-      (λ y. rw y (x9 (n1, n2, n3, n6, n7, n8, y)))
-      (λ n9. rw n9 (x0 (n1, n2, n3, n6, n7, n8, n9)))))))))))))))
+-- 0 and the numbers are all different
+abbrev pub Apart : List Test → Type 0
+Apart l = Distinct eqb (λ k. k) (0 ∷ numbersOf l)
 
-  -- each number is that of the first test that holds, and of no other
-  gives-1 : firstOf a b c d e f g ≡ 1 ↔ (a ≡ true)
-  unfolding firstOf
-  gives-1 = (by-first (λ n. n ≡ 1 → a ≡ true) (λ x h. x) (λ x h. absurd (omega arith)) (λ x h. absurd (omega arith)) (λ x h. absurd (omega arith)) (λ x h. absurd (omega arith)) (λ x h. absurd (omega arith)) (λ x h. absurd (omega arith)) (λ x h. absurd (omega arith)), (λ x. rw x refl))
+-- none of these tests holds
+abbrev pub NoneOf : List Bool → Type 0
+NoneOf l = All (λ b. b ≡ false) l
 
-  gives-2 : firstOf a b c d e f g ≡ 2 ↔ ((a ≡ false) × (b ≡ true))
-  unfolding firstOf
-  gives-2 = (by-first (λ n. n ≡ 2 → (a ≡ false) × (b ≡ true)) (λ x h. absurd (omega arith)) (λ x h. x) (λ x h. absurd (omega arith)) (λ x h. absurd (omega arith)) (λ x h. absurd (omega arith)) (λ x h. absurd (omega arith)) (λ x h. absurd (omega arith)) (λ x h. absurd (omega arith)), (λ x. let y0 = x .0 in let y1 = x .1 in rw (y0, y1)))
+abbrev pub holdings : List Test → List Bool
+holdings l = map (λ x. x .holds) l
 
-  gives-3 : firstOf a b c d e f g ≡ 3 ↔ ((a ≡ false) × (b ≡ false) × (c ≡ true))
-  unfolding firstOf
-  gives-3 = (by-first (λ n. n ≡ 3 → (a ≡ false) × (b ≡ false) × (c ≡ true)) (λ x h. absurd (omega arith)) (λ x h. absurd (omega arith)) (λ x h. x) (λ x h. absurd (omega arith)) (λ x h. absurd (omega arith)) (λ x h. absurd (omega arith)) (λ x h. absurd (omega arith)) (λ x h. absurd (omega arith)), (λ x. let y0 = x .0 in let y1 = x .1 in let y2 = x .2 in rw (y0, y1, y2)))
+in-middle : (before : List Test) (x : Test) (after : List Test) → oneOf (x .number) (numbersOf (before ++ (x ∷ after))) ≡ true
+in-middle [] x after = rw (eqb-self (x .number)) refl
+in-middle (y ∷ ys) x after = or-right (eqb (x .number) (y .number)) (oneOf (x .number) (numbersOf (ys ++ (x ∷ after)))) (in-middle ys x after)
 
-  gives-6 : firstOf a b c d e f g ≡ 6 ↔ ((a ≡ false) × (b ≡ false) × (c ≡ false) × (d ≡ true))
-  unfolding firstOf
-  gives-6 = (by-first (λ n. n ≡ 6 → (a ≡ false) × (b ≡ false) × (c ≡ false) × (d ≡ true)) (λ x h. absurd (omega arith)) (λ x h. absurd (omega arith)) (λ x h. absurd (omega arith)) (λ x h. x) (λ x h. absurd (omega arith)) (λ x h. absurd (omega arith)) (λ x h. absurd (omega arith)) (λ x h. absurd (omega arith)), (λ x. let y0 = x .0 in let y1 = x .1 in let y2 = x .2 in let y3 = x .3 in rw (y0, y1, y2, y3)))
+-- what is given is 0 or one of the numbers
+pub in-first : (l : List Test) → oneOf (first l) (0 ∷ numbersOf l) ≡ true
+in-first [] = refl
+in-first (x ∷ xs) =
+    by-test (x .holds)
+    (λ e. rw e (or-right (eqb (x .number) 0) (oneOf (x .number) (numbersOf (x ∷ xs))) (in-middle [] x xs)))
+    (λ e. rw e (either (or-cases (eqb (first xs) 0) (oneOf (first xs) (numbersOf xs)) (in-first xs))
+    (λ y. or-left (eqb (first xs) 0) (oneOf (first xs) (numbersOf (x ∷ xs))) y)
+    (λ y. or-right (eqb (first xs) 0) (oneOf (first xs) (numbersOf (x ∷ xs))) (or-right (eqb (first xs) (x .number)) (oneOf (first xs) (numbersOf xs)) y))))
 
-  gives-7 : firstOf a b c d e f g ≡ 7 ↔ ((a ≡ false) × (b ≡ false) × (c ≡ false) × (d ≡ false) × (e ≡ true))
-  unfolding firstOf
-  gives-7 = (by-first (λ n. n ≡ 7 → (a ≡ false) × (b ≡ false) × (c ≡ false) × (d ≡ false) × (e ≡ true)) (λ x h. absurd (omega arith)) (λ x h. absurd (omega arith)) (λ x h. absurd (omega arith)) (λ x h. absurd (omega arith)) (λ x h. x) (λ x h. absurd (omega arith)) (λ x h. absurd (omega arith)) (λ x h. absurd (omega arith)), (λ x. let y0 = x .0 in let y1 = x .1 in let y2 = x .2 in let y3 = x .3 in let y4 = x .4 in rw (y0, y1, y2, y3, y4)))
+-- the tests but the first are apart too
+apart-rest : (x : Test) (xs : List Test) → Apart (x ∷ xs) → Apart xs
+apart-rest x xs d = (or-false-right (eqb 0 (x .number)) (oneOf 0 (numbersOf xs)) (d .0), d .1 .1)
 
-  gives-8 : firstOf a b c d e f g ≡ 8 ↔ ((a ≡ false) × (b ≡ false) × (c ≡ false) × (d ≡ false) × (e ≡ false) × (f ≡ true))
-  unfolding firstOf
-  gives-8 = (by-first (λ n. n ≡ 8 → (a ≡ false) × (b ≡ false) × (c ≡ false) × (d ≡ false) × (e ≡ false) × (f ≡ true)) (λ x h. absurd (omega arith)) (λ x h. absurd (omega arith)) (λ x h. absurd (omega arith)) (λ x h. absurd (omega arith)) (λ x h. absurd (omega arith)) (λ x h. x) (λ x h. absurd (omega arith)) (λ x h. absurd (omega arith)), (λ x. let y0 = x .0 in let y1 = x .1 in let y2 = x .2 in let y3 = x .3 in let y4 = x .4 in let y5 = x .5 in rw (y0, y1, y2, y3, y4, y5)))
+not-zero : (x : Test) (xs : List Test) → Apart (x ∷ xs) → x .number ≢ 0
+not-zero x xs d e = clash (rw e refl) (or-false-left (eqb 0 (x .number)) (oneOf 0 (numbersOf xs)) (d .0))
 
-  gives-9 : firstOf a b c d e f g ≡ 9 ↔ ((a ≡ false) × (b ≡ false) × (c ≡ false) × (d ≡ false) × (e ≡ false) × (f ≡ false) × (g ≡ true))
-  unfolding firstOf
-  gives-9 = (by-first (λ n. n ≡ 9 → (a ≡ false) × (b ≡ false) × (c ≡ false) × (d ≡ false) × (e ≡ false) × (f ≡ false) × (g ≡ true)) (λ x h. absurd (omega arith)) (λ x h. absurd (omega arith)) (λ x h. absurd (omega arith)) (λ x h. absurd (omega arith)) (λ x h. absurd (omega arith)) (λ x h. absurd (omega arith)) (λ x h. x) (λ x h. absurd (omega arith)), (λ x. let y0 = x .0 in let y1 = x .1 in let y2 = x .2 in let y3 = x .3 in let y4 = x .4 in let y5 = x .5 in let y6 = x .6 in rw (y0, y1, y2, y3, y4, y5, y6)))
+-- Each number is given exactly where its test holds and none before it does, and 0 exactly where none holds.
+pub gives : (before : List Test) (x : Test) (after : List Test) → Apart (before ++ (x ∷ after))
+    → first (before ++ (x ∷ after)) ≡ x .number ↔ (NoneOf (holdings before) × (x .holds ≡ true))
+gives [] x after d = (
+  by-test (x .holds)
+      (λ y. rw y (λ e. (tt, refl)))
+      (λ y. rw y (λ e. either (or-cases (eqb (first after) 0) (oneOf (first after) (numbersOf after)) (in-first after))
+      (λ z. absurd (not-zero x after d (sym e ∙ eqb→≡ (first after) 0 z)))
+      (λ z. clash (rw e at z) (d .1 .0)))),
+  λ h. rw (h .1) refl,
+)
+gives (y ∷ ys) x after d =
+    let ih = gives ys x after (apart-rest y (ys ++ (x ∷ after)) d) in (
+      by-test (y .holds)
+          (λ z. rw z (λ e. clash (in-middle ys x after) (rw e at (d .1 .0))))
+          (λ z. rw z (λ e. let h = ih .0 e in ((refl, h .0), h .1))),
+      λ h. rw (h .0 .0) (ih .1 (h .0 .1, h .1)),
+    )
 
-  gives-0 : firstOf a b c d e f g ≡ 0 ↔ ((a ≡ false) × (b ≡ false) × (c ≡ false) × (d ≡ false) × (e ≡ false) × (f ≡ false) × (g ≡ false))
-  unfolding firstOf
-  gives-0 = (by-first (λ n. n ≡ 0 → (a ≡ false) × (b ≡ false) × (c ≡ false) × (d ≡ false) × (e ≡ false) × (f ≡ false) × (g ≡ false)) (λ x h. absurd (omega arith)) (λ x h. absurd (omega arith)) (λ x h. absurd (omega arith)) (λ x h. absurd (omega arith)) (λ x h. absurd (omega arith)) (λ x h. absurd (omega arith)) (λ x h. absurd (omega arith)) (λ x h. x), (λ x. let y0 = x .0 in let y1 = x .1 in let y2 = x .2 in let y3 = x .3 in let y4 = x .4 in let y5 = x .5 in let y6 = x .6 in rw (y0, y1, y2, y3, y4, y5, y6)))
-
-  no-other : (firstOf a b c d e f g ≤ 9) × (firstOf a b c d e f g ≢ 4) × (firstOf a b c d e f g ≢ 5)
-  no-other =
-      by-first (λ n. (n ≤ 9) × (n ≢ 4) × (n ≢ 5))
-      (λ x. (omega arith, (λ e. omega arith), (λ e. omega arith)))
-      (λ x. (omega arith, (λ e. omega arith), (λ e. omega arith)))
-      (λ x. (omega arith, (λ e. omega arith), (λ e. omega arith)))
-      (λ x. (omega arith, (λ e. omega arith), (λ e. omega arith)))
-      (λ x. (omega arith, (λ e. omega arith), (λ e. omega arith)))
-      (λ x. (omega arith, (λ e. omega arith), (λ e. omega arith)))
-      (λ x. (omega arith, (λ e. omega arith), (λ e. omega arith)))
-      (λ x. (omega arith, (λ e. omega arith), (λ e. omega arith)))
+pub gives-none : (l : List Test) → Apart l → first l ≡ 0 ↔ NoneOf (holdings l)
+gives-none [] d = (λ e. tt, λ h. refl)
+gives-none (x ∷ xs) d =
+    let ih = gives-none xs (apart-rest x xs d) in (
+      by-test (x .holds) (λ z. rw z (λ e. absurd (not-zero x xs d e))) (λ z. rw z (λ e. (refl, ih .0 e))),
+      λ h. rw (h .0) (ih .1 (h .1)),
+    )
 
 -- the tests of a call by their numbers
 module _ (N : Numbers) (t : Lent) (q : Ask) where
@@ -115,58 +100,62 @@ module _ (N : Numbers) (t : Lent) (q : Ask) where
   abbrev pub test9 : Bool
   test9 = counts q && over (t .counters)
 
+  abbrev pub number : ℕ
+  number = refusal N t (calling q)
+
   -- "Checked in the order 1, 2, 3, 6, 7, 8, 9, the first that applies": a call gets a number exactly when its test holds and none before it does
   pub record Exactly : Type 0 where
-    pub gives-1 : refusal N t (calling q) ≡ 1 ↔ (test1 ≡ true)
-    pub gives-2 : refusal N t (calling q) ≡ 2 ↔ ((test1 ≡ false) × (test2 ≡ true))
-    pub gives-3 : refusal N t (calling q) ≡ 3 ↔ ((test1 ≡ false) × (test2 ≡ false) × (test3 ≡ true))
-    pub gives-6 : refusal N t (calling q) ≡ 6 ↔ ((test1 ≡ false) × (test2 ≡ false) × (test3 ≡ false) × (test6 ≡ true))
-    pub gives-7 : refusal N t (calling q) ≡ 7 ↔ ((test1 ≡ false) × (test2 ≡ false) × (test3 ≡ false) × (test6 ≡ false) × (test7 ≡ true))
-    pub gives-8 : refusal N t (calling q) ≡ 8 ↔ ((test1 ≡ false) × (test2 ≡ false) × (test3 ≡ false) × (test6 ≡ false) × (test7 ≡ false) × (test8 ≡ true))
-    pub gives-9 : refusal N t (calling q) ≡ 9 ↔ ((test1 ≡ false) × (test2 ≡ false) × (test3 ≡ false) × (test6 ≡ false) × (test7 ≡ false) × (test8 ≡ false) × (test9 ≡ true))
-    pub gives-0 : refusal N t (calling q) ≡ 0 ↔ ((test1 ≡ false) × (test2 ≡ false) × (test3 ≡ false) × (test6 ≡ false) × (test7 ≡ false) × (test8 ≡ false) × (test9 ≡ false))
-    pub no-other : (refusal N t (calling q) ≤ 9) × (refusal N t (calling q) ≢ 4) × (refusal N t (calling q) ≢ 5)
+    pub gives-1 : number ≡ 1 ↔ (NoneOf [] × (test1 ≡ true))
+    pub gives-2 : number ≡ 2 ↔ (NoneOf (test1 ∷ []) × (test2 ≡ true))
+    pub gives-3 : number ≡ 3 ↔ (NoneOf (test1 ∷ test2 ∷ []) × (test3 ≡ true))
+    pub gives-6 : number ≡ 6 ↔ (NoneOf (test1 ∷ test2 ∷ test3 ∷ []) × (test6 ≡ true))
+    pub gives-7 : number ≡ 7 ↔ (NoneOf (test1 ∷ test2 ∷ test3 ∷ test6 ∷ []) × (test7 ≡ true))
+    pub gives-8 : number ≡ 8 ↔ (NoneOf (test1 ∷ test2 ∷ test3 ∷ test6 ∷ test7 ∷ []) × (test8 ≡ true))
+    pub gives-9 : number ≡ 9 ↔ (NoneOf (test1 ∷ test2 ∷ test3 ∷ test6 ∷ test7 ∷ test8 ∷ []) × (test9 ≡ true))
+    pub gives-0 : number ≡ 0 ↔ NoneOf (test1 ∷ test2 ∷ test3 ∷ test6 ∷ test7 ∷ test8 ∷ test9 ∷ [])
+    pub no-other : oneOf number (0 ∷ 1 ∷ 2 ∷ 3 ∷ 6 ∷ 7 ∷ 8 ∷ 9 ∷ []) ≡ true
 
   pub exactly : Exactly
-  unfolding refusal firstOf
+  unfolding refusal
   exactly =
+      let l = tests N t (calling q) in
+      let d : Apart l = (refl, (refl, (refl, (refl, (refl, (refl, (refl, (refl, tt)))))))) in
       record {
-        gives-1 = gives-1 test1 test2 test3 test6 test7 test8 test9;
-        gives-2 = gives-2 test1 test2 test3 test6 test7 test8 test9;
-        gives-3 = gives-3 test1 test2 test3 test6 test7 test8 test9;
-        gives-6 = gives-6 test1 test2 test3 test6 test7 test8 test9;
-        gives-7 = gives-7 test1 test2 test3 test6 test7 test8 test9;
-        gives-8 = gives-8 test1 test2 test3 test6 test7 test8 test9;
-        gives-9 = gives-9 test1 test2 test3 test6 test7 test8 test9;
-        gives-0 = gives-0 test1 test2 test3 test6 test7 test8 test9;
-        no-other = no-other test1 test2 test3 test6 test7 test8 test9;
+        gives-1 = gives [] (test test1 1) (drop 1 l) d;
+        gives-2 = gives (take 1 l) (test test2 2) (drop 2 l) d;
+        gives-3 = gives (take 2 l) (test test3 3) (drop 3 l) d;
+        gives-6 = gives (take 3 l) (test test6 6) (drop 4 l) d;
+        gives-7 = gives (take 4 l) (test test7 7) (drop 5 l) d;
+        gives-8 = gives (take 5 l) (test test8 8) (drop 6 l) d;
+        gives-9 = gives (take 6 l) (test test9 9) [] d;
+        gives-0 = gives-none l d;
+        no-other = in-first l;
       }
 
 -- "Flush has no 3, look no 9"
 pub flush-no-3 : (N : Numbers) (t : Lent) → refusal N t (calling Ask.flush) ≢ 3
-flush-no-3 N t e = false≢true ((exactly N t Ask.flush .gives-3 .0 e) .2)
+flush-no-3 N t e = false≢true ((exactly N t Ask.flush .gives-3 .0 e) .1)
 
 pub look-no-9 : (N : Numbers) (t : Lent) (a : ℕ) → refusal N t (calling (Ask.look a)) ≢ 9
-look-no-9 N t a e = false≢true ((exactly N t (Ask.look a) .gives-9 .0 e) .6)
+look-no-9 N t a e = false≢true ((exactly N t (Ask.look a) .gives-9 .0 e) .1)
 
 -- "opening only 1 and 2"
 pub record ExactlyOpening (N : Numbers) (t : Lent) : Type 0 where
-  pub gives-1 : refusal N t opening ≡ 1 ↔ (unfit N ≡ true)
-  pub gives-2 : refusal N t opening ≡ 2 ↔ ((unfit N ≡ false) × (wrongBuffers N t ≡ true))
-  pub gives-0 : refusal N t opening ≡ 0 ↔ ((unfit N ≡ false) × (wrongBuffers N t ≡ false))
-  pub no-other : refusal N t opening ≤ 2
+  pub gives-1 : refusal N t opening ≡ 1 ↔ (NoneOf [] × (unfit N ≡ true))
+  pub gives-2 : refusal N t opening ≡ 2 ↔ (NoneOf (unfit N ∷ []) × (wrongBuffers N t ≡ true))
+  pub gives-0 : refusal N t opening ≡ 0 ↔ NoneOf (unfit N ∷ wrongBuffers N t ∷ [])
+  pub no-other : oneOf (refusal N t opening) (0 ∷ 1 ∷ 2 ∷ []) ≡ true
 
 pub exactly-opening : (N : Numbers) (t : Lent) → ExactlyOpening N t
-unfolding refusal firstOf
+unfolding refusal
 exactly-opening N t =
-    let a = unfit N in
-    let b = wrongBuffers N t in
-    let none = gives-0 a b false false false false false in
+    let l = tests N t opening in
+    let d : Apart l = (refl, (refl, (refl, tt))) in
     record {
-      gives-1 = gives-1 a b false false false false false;
-      gives-2 = gives-2 a b false false false false false;
-      gives-0 = (λ h. let x = none .0 h in (x .0, x .1), λ x. none .1 (x .0, x .1, refl, refl, refl, refl, refl));
-      no-other = by-test a (λ e. rw e (omega arith)) (λ e. rw e (by-test b (λ f. rw f (omega arith)) (λ f. rw f (omega arith))));
+      gives-1 = gives [] (test (unfit N) 1) (drop 1 l) d;
+      gives-2 = gives (take 1 l) (test (wrongBuffers N t) 2) [] d;
+      gives-0 = gives-none l d;
+      no-other = in-first l;
     }
 
 -- a served call, and "a refused call returns its number and the box record as given ..; every buffer and counter keeps its bytes"

@@ -18,14 +18,14 @@ use Rattle.paper.specs.Engine as Engine
 use Rattle.paper.specs.Lent as Lent
 use Rattle.paper.specs.Lent.{Lent, Ask, Asked, opening, calling, Answer, refused, answered, After, unfit, refusal, call, opened}
 
-abbrev numbers : ℕ → ℕ → ℕ → ℕ → Numbers
+abbrev pub numbers : ℕ → ℕ → ℕ → ℕ → Numbers
 numbers B P m d = record { B = B; P = P; m = m; d = d }
 
-abbrev counters : ℕ → ℕ → ℕ → ℕ → Counters
+abbrev pub counters : ℕ → ℕ → ℕ → ℕ → Counters
 counters r h f p = record { reads = r; hits = h; flashWrites = f; primaryWrites = p }
 
 -- Blocks of 64 bytes, two of them on disk; at most two addresses held, two blocks cached.
-abbrev small : Numbers
+abbrev pub small : Numbers
 small = numbers 64 2 2 2
 
 abbrev filled : ℕ → List ℕ
@@ -53,17 +53,17 @@ nought = replicate 32 0
 abbrev one : List ℕ
 one = replicate 32 1
 
-abbrev two : List ℕ
+abbrev pub two : List ℕ
 two = replicate 32 2
 
 -- Sound tables: address 1 is held and dirty, its block is in slot 0, and slot 1 is free.
-abbrev rows : List ℕ
+abbrev pub rows : List ℕ
 rows = addressTable 2 (addressRow 1 one 1 ∷ [])
 
-abbrev blocks : List ℕ
+abbrev pub blocks : List ℕ
 blocks = blockTable (freeRow 1 ∷ blockRow one 0 1 ∷ [])
 
-abbrev sound : Lent
+abbrev pub sound : Lent
 sound = memory 1 rows blocks noCounts
 
 -- with other held rows, other block rows, other counters; with byte k of a table changed to x
@@ -73,7 +73,7 @@ held n rs = memory n (addressTable 2 rs) blocks noCounts
 abbrev cached : List BlockRow → Lent
 cached rs = memory 1 rows (blockTable rs) noCounts
 
-abbrev counting : ℕ → ℕ → ℕ → ℕ → Lent
+abbrev pub counting : ℕ → ℕ → ℕ → ℕ → Lent
 counting r h f p = memory 1 rows blocks (counters r h f p)
 
 abbrev addressByte : ℕ → ℕ → Lent
@@ -223,7 +223,7 @@ counts q k =
     ∷ []
 
 -- "Checked in the order 1, 2, 3, 6, 7, 8, 9, the first that applies." In the first case all seven apply, and in each later case one less.
-abbrev worst : ℕ → List ℕ → List ℕ → Counters → Lent
+abbrev pub worst : ℕ → List ℕ → List ℕ → Counters → Lent
 worst disk rs bs k = cut disk 128 80 80 (memory 1 rs bs k)
 
 abbrev order : (ℕ → Asked) → (n₁ n₂ n₃ n₆ n₇ n₈ n₉ served : ℕ) → List Case

@@ -287,15 +287,13 @@ module _ {F X : Type 0} (H : Hashing F X) where
         diskLength = length-set (s .disk) a b ∙ h .diskLength;
       }
 
-  sound-readAs : (N : Numbers) (s : Box F X) (a : ℕ) (o : Option (AddressRow F)) → Sound H N s → 1 ≤ N .m → 1 ≤ N .d → a < N .P
-      → Sound H N ((readAs H (N .m) s a o) .box)
+  pub sound-readAs : (N : Numbers) (s : Box F X) (a : ℕ) (x : X) (o : Option (AddressRow F)) → Sound H N s → 1 ≤ N .m → 1 ≤ N .d → a < N .P
+      → Sound H N ((readAs H (N .m) s a x o) .box)
   unfolding readAs answer
-  sound-readAs N s a (some r) h m1 d1 ap
+  sound-readAs N s a x (some r) h m1 d1 ap
       = sound-step N s (record { address = a; fingerprint = r .fingerprint; block = blockOf H (r .fingerprint) (s .used) (s .flash); dirty = r .dirty })
       h m1 d1 ap
-  sound-readAs N s a none h m1 d1 ap
-      = sound-step N s (record { address = a; fingerprint = H .hash (getD (s .disk) a (H .blank)); block = getD (s .disk) a (H .blank); dirty = false })
-      h m1 d1 ap
+  sound-readAs N s a x none h m1 d1 ap = sound-step N s (record { address = a; fingerprint = H .hash x; block = x; dirty = false }) h m1 d1 ap
 
   sound-lookAs : (N : Numbers) (s : Box F X) (a : ℕ) (o : Option (AddressRow F)) → Sound H N s → Sound H N ((lookAs H s a o) .box)
   unfolding lookAs
@@ -356,7 +354,7 @@ module _ {F X : Type 0} (H : Hashing F X) where
 
   pub sound-serve : (N : Numbers) (s : Box F X) (c : Call X) → Sound H N s → 1 ≤ N .m → 1 ≤ N .d → Within (N .P) c → Sound H N ((serve H N s c) .box)
   unfolding serve writeThrough writeBack answer
-  sound-serve N s (read a) h m1 d1 w = sound-readAs N s a (rowWithBlock H s a) h m1 d1 w
+  sound-serve N s (read a) h m1 d1 w = sound-readAs N s a (getD (s .disk) a (H .blank)) (rowWithBlock H s a) h m1 d1 w
   sound-serve N s (through a b) h m1 d1 w
       = sound-step N (onDisk H s a b) (record { address = a; fingerprint = H .hash b; block = b; dirty = false }) (sound-onDisk N s a b h) m1 d1 w
   sound-serve N s (back a b) h m1 d1 w = sound-step N s (backRequest H s a b) h m1 d1 w

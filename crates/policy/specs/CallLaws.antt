@@ -15,9 +15,9 @@ use Rattle.paper.specs.Cache.{Numbers, AddressRow, Box, Call, Outcome, Word, hi
 use Rattle.paper.specs.Engine.{Fixed, fit, engine}
 use Rattle.paper.specs.Lent.{Lent, Ask, calling, refusal, callOf, boxIn, lentOf, served, answered, blockAfter, partAfter, wrongBuffers, wrongBlock, lentBlock, outside, addressOf, counts, over}
 use Rattle.paper.specs.RowBytes.{Bytes}
-use Rattle.paper.specs.LentLaws.{passes-sound, fit-whole}
+use Rattle.paper.specs.LentLaws.{Passes, passes-sound, fit-whole}
 use Rattle.paper.specs.RefusalLaws.{exactly, served-is, refused-keeps}
-use Rattle.paper.specs.CallLaws.{Served, served-finds, outcome}
+use Rattle.paper.specs.CallLaws.{Fits, Served, served-finds, outcome, not-over}
 use Rattle.paper.specs.Layout.{addressesOf, blocksOf, passes-addrs, passes-blocks, passes-flash, passes-disk}
 use Rattle.parts.specs.declared.BoxRecord.{BoxRecord}
 use Rattle.policy.specs.declared.Word as CodeWord
@@ -41,6 +41,20 @@ all-bytes (x ∷ xs) h = (h 0, all-bytes xs (λ i. h (suc i)))
 pub fit-is : (n : ℕ) (l : List ℕ) → length l ≡ n → (fit n l) .0 ≡ l
 fit-is n l e = ap (λ f. f .0) (fit-whole n (l, e))
 
+-- bytes that pass are those of the box in them
+pub passes-rep : (b : BoxRecord) (disk flash addrs blocks : List ℕ) (k : Counters) → Fits (numbersOf b)
+    → Passes (numbersOf b) (lent b disk flash addrs blocks k) → Bytes addrs → Bytes blocks
+    → Rep b disk flash addrs blocks (boxIn (numbersOf b) (lent b disk flash addrs blocks k))
+passes-rep b disk flash addrs blocks k f p x y =
+    let N = numbersOf b in
+    let t = lent b disk flash addrs blocks k in
+    record {
+      rows-are = passes-addrs N t p x y (f .P-most);
+      blocks-are = passes-blocks N t p x y (f .d-most);
+      flash-is = passes-flash N t p x y;
+      disk-is = passes-disk N t p x y;
+    }
+
 module _ (b : BoxRecord) (disk flash addrs blocks : List ℕ) (k : Counters) (q : Ask) (e : refusal (numbersOf b) (lent b disk flash addrs blocks k) (calling q) ≡ 0) where
   finds : Served (numbersOf b) (lent b disk flash addrs blocks k) q
   finds = served-finds (numbersOf b) (lent b disk flash addrs blocks k) q e
@@ -49,25 +63,17 @@ module _ (b : BoxRecord) (disk flash addrs blocks : List ℕ) (k : Counters) (q 
   sure = passes-sound (numbersOf b) (lent b disk flash addrs blocks k) (finds .passes)
 
   pub rep : Bytes addrs → Bytes blocks → Rep b disk flash addrs blocks (boxIn (numbersOf b) (lent b disk flash addrs blocks k))
-  rep x y =
-      let N = numbersOf b in
-      let t = lent b disk flash addrs blocks k in
-      record {
-        rows-are = passes-addrs N t (finds .passes) x y (finds .fits .P-most);
-        blocks-are = passes-blocks N t (finds .passes) x y (finds .fits .d-most);
-        flash-is = passes-flash N t (finds .passes) x y;
-        disk-is = passes-disk N t (finds .passes) x y;
-      }
+  rep x y = passes-rep b disk flash addrs blocks k (finds .fits) (finds .passes) x y
 
   block-fits : (l : List ℕ) → lentBlock q ≡ some l → length l ≡ b .size
   block-fits l p =
       let x = exactly (numbersOf b) (lent b disk flash addrs blocks k) q .gives-0 .0 e in
-      eqb-true (length l) (b .size) (not-false (eqb (length l) (b .size)) (sym (ap (wrongBlock (b .size)) p) ∙ or-false-right (wrongBuffers (numbersOf b) (lent b disk flash addrs blocks k)) (wrongBlock (b .size) (lentBlock q)) (x .1)))
+      eqb-true (length l) (b .size) (not-false (eqb (length l) (b .size)) (sym (ap (wrongBlock (b .size)) p) ∙ or-false-right (wrongBuffers (numbersOf b) (lent b disk flash addrs blocks k)) (wrongBlock (b .size) (lentBlock q)) (x .1 .0)))
 
   pub address-fits : (a : ℕ) → addressOf q ≡ some a → a < b .blocks
   address-fits a p =
       let x = exactly (numbersOf b) (lent b disk flash addrs blocks k) q .gives-0 .0 e in
-      leb-false (b .blocks) a (sym (ap (outside (b .blocks)) p) ∙ x .2)
+      leb-false (b .blocks) a (sym (ap (outside (b .blocks)) p) ∙ x .1 .1 .0)
 
   -- what a served call finds: tables of the box's lengths, a sound box, a disk of its length, and its counters
   pub sized : Bytes addrs → Bytes blocks → Sized b addrs blocks
@@ -135,27 +141,11 @@ keep b disk flash addrs blocks c q number e n one eo =
     (λ i. record { numbers = N; after = record { answer = Rattle.paper.specs.Lent.refused (e i); lent = t; block = eo i; part = [] } })
     (λ i. record { numbers = N; after = last i })
 
--- no counter is above 2 to the power 63
-pub few-counted : (c : Code.Counters) → over (countersOf c) ≡ false → (c .reads ≤ 2 ^ 63) × (c .hits ≤ 2 ^ 63) × (c .flash ≤ 2 ^ 63) × (c .primary ≤ 2 ^ 63)
-unfolding over
-few-counted c e =
-    let a = ltb (2 ^ 63) (c .reads) in
-    let b = ltb (2 ^ 63) (c .hits) in
-    let d = ltb (2 ^ 63) (c .flash) in
-    let f = ltb (2 ^ 63) (c .primary) in
-    let e₃ = or-false-left (a || b || d) f e in
-    let e₂ = or-false-left (a || b) d e₃ in (
-      ltb-false (2 ^ 63) (c .reads) (or-false-left a b e₂),
-      ltb-false (2 ^ 63) (c .hits) (or-false-right a b e₂),
-      ltb-false (2 ^ 63) (c .flash) (or-false-right (a || b) d e₃),
-      ltb-false (2 ^ 63) (c .primary) (or-false-right (a || b || d) f e),
-    )
-
 -- a call's own counts fit
 pub fitting : (c : Code.Counters) (rows r h f p : ℕ) → over (countersOf c) ≡ false → rows ≤ 1024 → r ≤ 1 → h ≤ 1 → f ≤ 1 → p ≤ 2 + rows
     → (c .reads + r < 2 ^ 64) × (c .hits + h < 2 ^ 64) × (c .flash + f < 2 ^ 64) × (c .primary + p < 2 ^ 64)
 fitting c rows r h f p e l lr lh lf lp =
-    let x = few-counted c e in
+    let x = not-over (countersOf c) e in
     let x0 = x .0 in
     let x1 = x .1 in
     let x2 = x .2 in
@@ -172,11 +162,12 @@ module _ (N : Numbers) (s : Box (Fixed 32) (Fixed (N .B))) (a : ℕ) where
   -- a read's word is hit or miss
   pub read-says : (serve (engine (N .B)) N s (Call.read a)) .word ≡ cond (isYes ((serve (engine (N .B)) N s (Call.read a)) .word)) hit miss
   unfolding serve readAs answer
-  read-says = go (rowWithBlock (engine (N .B)) s a)
+  read-says = go (getD (s .disk) a (engine (N .B) .blank)) (rowWithBlock (engine (N .B)) s a)
     where
-      go : (o : Option (AddressRow (Fixed 32))) → (readAs (engine (N .B)) (N .m) s a o) .word ≡ cond (isYes ((readAs (engine (N .B)) (N .m) s a o) .word)) hit miss
-      go (some r) = refl
-      go none = refl
+      go : (x : Fixed (N .B)) (o : Option (AddressRow (Fixed 32)))
+          → (readAs (engine (N .B)) (N .m) s a x o) .word ≡ cond (isYes ((readAs (engine (N .B)) (N .m) s a x o) .word)) hit miss
+      go x (some r) = refl
+      go x none = refl
 
   -- a write's word is same or new
   pub write-says : (kind : Write) (x : Fixed (N .B)) → (serve (engine (N .B)) N s (writing kind a x)) .word ≡ cond (isYes ((serve (engine (N .B)) N s (writing kind a x)) .word)) sameBlock newBlock

@@ -11,10 +11,14 @@ use Rattle.policy.specs.declared.Word.the-variants.{Hit, Miss, Same, New
 use Rattle.policy.specs.declared.Answer as CodeAnswer
 use Rattle.policy.specs.declared.Answer.the-variants.{Refused, Answered}
 use Rattle.policy.specs.declared.calls.Outcome.{Outcome}
+use Rattle.policy.specs.declared.many.Answer as ManyAnswer
+use Rattle.policy.specs.declared.many.Answer.the-variants as Many
+use Rattle.policy.specs.declared.many.Outcome as ManyOutcome
 use Rattle.serve.specs.declared.Write.{Write}
 use Rattle.serve.specs.declared.Write.the-variants.{Through, Back, Invalidate}
 use Rattle.paper.specs.Cache.{Numbers, Word, hit, miss, sameBlock, newBlock, fromCache, fromDisk, done}
 use Rattle.paper.specs.Lent.{Lent, Ask, Answer, refused, answered, After, call}
+use Rattle.paper.specs.BatchLent.{BatchAnswer, batched, BatchAfter, callBatch}
 
 -- "Where an answer is an enum, the promises use a definition. That definition gives this paper's number and values for each of the enum's cases."
 abbrev pub wordOf : CodeWord.Word → Word
@@ -56,3 +60,29 @@ abbrev pub askOf : Write → ℕ → List ℕ → Ask
 askOf Through a l = Ask.through a l
 askOf Back a l = Ask.back a l
 askOf Invalidate a l = Ask.invalidate a l
+
+-- ---- a folder read
+
+abbrev pub manyAnswerOf : ManyAnswer.Answer → BatchAnswer
+manyAnswerOf (Many.Refused k) = BatchAnswer.refused k
+manyAnswerOf (Many.Batched h f p n) = batched h f p n
+
+-- what it tells and leaves: the numbers of its box record, its answer, what is lent and the buffer
+pub record ToldMany : Type 0 where
+  pub numbers : Numbers
+  pub after : BatchAfter
+
+abbrev pub toldMany : ManyOutcome.Outcome → (disk flash addresses blocks buffer : List ℕ) → ToldMany
+toldMany r disk flash addresses blocks buffer =
+    record {
+      numbers = numbersOf (r .box_record);
+      after = record {
+        answer = manyAnswerOf (r .answer);
+        lent = lent (r .box_record) disk flash addresses blocks (countersOf (r .counters));
+        buffer = buffer;
+      };
+    }
+
+-- the paper's on what is lent
+abbrev pub calledMany : BoxRecord → Lent → (asked buffer : List ℕ) → ToldMany
+calledMany b t l buffer = record { numbers = numbersOf b; after = callBatch (numbersOf b) t l buffer }

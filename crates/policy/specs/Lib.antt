@@ -2,3 +2,5 @@
 pub mod Contract
 -- promises: what the calls find in lent bytes
 pub mod CallLaws
+-- promises: a folder read from its turns
+pub mod ManyLaws

@@ -1,5 +1,6 @@
 // The cache on lent bytes.
 pub mod calls;
+pub mod many;
 
 // The word of an answer.
 pub enum Word {

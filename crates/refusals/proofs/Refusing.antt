@@ -2,7 +2,7 @@
 use mathlib.Core.Path.{_≡_, refl}
 use mathlib.Core.Bool.{Bool, true, false, not, _||_, cond}
 use mathlib.Core.List.{List, [], _∷_}
-use Prim.Native.Nat.{ℕ, _≤_}
+use Prim.Native.Nat.{ℕ, _*_, _≤_}
 use native.Mathlib.Omega.{arith}
 use lib.Dec.{eqb, leb}
 use lib.ListN.{length}
@@ -12,11 +12,12 @@ use Rattle.tables.specs.Unsound.{elem, addressesUnsound, blocksUnsound, dirtyUn
 use Rattle.paper.specs.KeyedLaws.{by-test}
 use Rattle.paper.specs.Cache.{Numbers, Counters}
 use Rattle.paper.specs.Lent.{Lent, Ask, opening, calling, unfit, wrongBuffers, over, refusal}
+use Rattle.paper.specs.BatchLent.{badCount, anyOutside, batchRefusal}
 use Rattle.parts.specs.declared.BoxRecord.{BoxRecord}
 use Rattle.parts.specs.Rep.{numbersOf}
 use Rattle.refusals.specs.Given.{lent}
 use Rattle.refusals.specs.Sizes.{Opens}
-use Rattle.refusals.specs.Checks.{wrongLengths, tablesRefusal, stateRefusal}
+use Rattle.refusals.specs.Checks.{wrongLengths, tablesRefusal, stateRefusal, listRefusal}
 use Rattle.tables.specs.Rows.{tableBytes}
 
 -- a number in a list, by its first element
@@ -103,3 +104,36 @@ module _ (b : BoxRecord) (disk flash addresses blocks : List ℕ) (k : Counters)
   pub look-3 : (a : ℕ) → leb (b .blocks) a ≡ true → 3 ≡ refusal (numbersOf b) (lent b disk flash addresses blocks k) (calling (Ask.look a))
   unfolding refusal
   look-3 a p = rw (o .fit, o .right, p) refl
+
+-- ---- a folder read
+
+pub many-first : (N : Numbers) (t : Lent) (l buffer : List ℕ) → (refusal N t opening ≡ 0 → ⊥) → refusal N t opening ≡ batchRefusal N t l buffer
+unfolding refusal batchRefusal
+many-first N t l buffer n =
+    by-test (unfit N)
+    (λ e. rw e refl)
+    (λ e. by-test (wrongBuffers N t) (λ f. rw (e, f) refl) (λ f. absurd (n (rw (e, f) refl))))
+
+module _ (b : BoxRecord) (disk flash addresses blocks : List ℕ) (k : Counters) (o : Opens b disk flash addresses blocks k) (l buffer : List ℕ) where
+  abbrev number : ℕ
+  number = batchRefusal (numbersOf b) (lent b disk flash addresses blocks k) l buffer
+
+  pub many-list : (listRefusal b l (length buffer) ≡ 0 → ⊥) → listRefusal b l (length buffer) ≡ number
+  unfolding listRefusal batchRefusal
+  many-list n =
+      rw (o .fit, o .right)
+      (by-test (eqb (length buffer) (length l * b .size))
+      (λ e. by-test (badCount l)
+      (λ f. rw (e, f) refl)
+      (λ f. by-test (anyOutside (b .blocks) l) (λ g. rw (e, f, g) refl) (λ g. absurd (n (rw (e, f, g) refl)))))
+      (λ e. rw e refl))
+
+  pub many-rest : listRefusal b l (length buffer) ≡ 0 → stateRefusal b addresses blocks k ≡ number
+  unfolding listRefusal stateRefusal batchRefusal
+  many-rest =
+      rw (o .fit, o .right)
+      (by-test (eqb (length buffer) (length l * b .size))
+      (λ e. by-test (badCount l)
+      (λ f. rw (e, f) (λ y. absurd (omega arith)))
+      (λ f. by-test (anyOutside (b .blocks) l) (λ g. rw (e, f, g) (λ y. absurd (omega arith))) (λ g. rw (e, f, g) (λ y. refl))))
+      (λ e. rw e (λ y. absurd (omega arith))))

@@ -3,9 +3,11 @@ use mathlib.Core.Bool.{Bool, not, _||_, cond}
 use mathlib.Core.List.{List, [], _∷_}
 use Prim.Native.Nat.{ℕ, _*_}
 use lib.Dec.{eqb}
+use lib.ListN.{length}
 use Rattle.tables.specs.Unsound.{addressesUnsound, blocksUnsound, dirtyUncached}
 use Rattle.paper.specs.Cache.{Counters}
-use Rattle.paper.specs.Lent.{over}
+use Rattle.paper.specs.Lent.{test, first, over}
+use Rattle.paper.specs.BatchLent.{badCount, anyOutside}
 use Rattle.parts.specs.declared.BoxRecord.{BoxRecord}
 use Rattle.tables.specs.Rows.{tableBytes}
 
@@ -32,3 +34,8 @@ stateRefusal b addresses blocks k =
     (cond (blocksUnsound (b .slots) blocks) 7
     (cond (dirtyUncached (b .held) (b .slots) addresses blocks) 8
     (cond (over k) 9 0)))
+
+-- the first of 2, 10 and 3 that the list of a folder read gets, with a buffer of so many bytes; 0 for none
+unfoldable pub listRefusal : BoxRecord → (asked : List ℕ) → ℕ → ℕ
+listRefusal b l len =
+    first (test (not (eqb len (length l * b .size))) 2 ∷ test (badCount l) 10 ∷ test (anyOutside (b .blocks) l) 3 ∷ [])

@@ -1,4 +1,6 @@
-// The refusals, in document 01's order.
+// The refusals, in the documents' order.
+pub mod many;
+
 use checks::index;
 use parts::BoxRecord;
 use tables::SourceAddress;

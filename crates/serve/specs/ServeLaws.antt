@@ -117,6 +117,13 @@ invalidate-is b lent disk flash addrs blocks s h a l x y0 n disk′ addrs′ blo
     λ j. record { yes = ey j; held = q .0 j; left = (record { flashed = 0; primary = 1; disk = d .disk-is .is j; flash = h .flash-is .is j; addrs = q .1 j; blocks = q .2 j }); block = lent }
 
 -- ---- read
+-- a read that takes x where it misses
+pub taken-is : (b : BoxRecord) (lent : List ℕ) (s : Box (Fixed 32) (Fixed (b .size))) (a : ℕ) (x : Fixed (b .size))
+    → leaves b lent (answer (engine (b .size)) miss (some x) 0 (step (engine (b .size)) (b .rows) s (asks a (engine (b .size) .hash x) x false)))
+    ≡ leaves b lent (readAs (engine (b .size)) (b .rows) s a x none)
+unfolding readAs
+taken-is b lent s a x = refl
+
 module _ (b : BoxRecord) (disk flash addrs blocks : List ℕ) (s : Box (Fixed 32) (Fixed (b .size))) (h : Rep b disk flash addrs blocks s) (a : ℕ) where
   pub hit-row : (i j : ℕ) → HitAt b s a i j → rowWithBlock (engine (b .size)) s a ≡ some (getD (s .rows) i noRow)
   unfolding ifCached
@@ -126,16 +133,16 @@ module _ (b : BoxRecord) (disk flash addrs blocks : List ℕ) (s : Box (Fixed 32
       let c : cached (engine (b .size)) (getD (s .rows) i noRow .fingerprint) (s .used) ≡ true = has-yes (engine 0 .same) (λ (u : BlockRow (Fixed 32)). u .fingerprint) (getD (s .rows) i noRow .fingerprint) (s .used) (omega (arith, q .place, q .is-cached, h .blocks-are .count)) in
       rw (f, c) refl
 
-  pub hit-is : (lent : List ℕ) (i j : ℕ) → HitAt b s a i j
+  pub hit-is : (lent : List ℕ) (y : Fixed (b .size)) (i j : ℕ) → HitAt b s a i j
       → leaves b lent (answer (engine (b .size)) hit (some (blockOf (engine (b .size)) (getD (s .rows) i noRow .fingerprint) (s .used) (s .flash))) 0 (step (engine (b .size)) (b .rows) s (asks a (getD (s .rows) i noRow .fingerprint) (blockOf (engine (b .size)) (getD (s .rows) i noRow .fingerprint) (s .used) (s .flash)) (getD (s .rows) i noRow .dirty))))
-      ≡ leaves b lent (serve (engine (b .size)) (numbersOf b) s (Call.read a))
-  unfolding serve readAs
-  hit-is lent i j q = rw (hit-row i j q) refl
+      ≡ leaves b lent (readAs (engine (b .size)) (b .rows) s a y (rowWithBlock (engine (b .size)) s a))
+  unfolding readAs
+  hit-is lent y i j q = rw (hit-row i j q) refl
 
   pub miss-is : (lent : List ℕ) → rowWithBlock (engine (b .size)) s a ≡ none
-      → leaves b lent (answer (engine (b .size)) miss (some (getD (s .disk) a (engine (b .size) .blank))) 0 (step (engine (b .size)) (b .rows) s (asks a (engine (b .size) .hash (getD (s .disk) a (engine (b .size) .blank))) (getD (s .disk) a (engine (b .size) .blank)) false)))
+      → leaves b lent (readAs (engine (b .size)) (b .rows) s a (getD (s .disk) a (engine (b .size) .blank)) none)
       ≡ leaves b lent (serve (engine (b .size)) (numbersOf b) s (Call.read a))
-  unfolding serve readAs
+  unfolding serve
   miss-is lent q = rw q refl
 
   -- what the two searches of a read say

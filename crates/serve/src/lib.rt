@@ -10,9 +10,9 @@ use tables::row;
 ghost use mathlib.Core.Path.{_≡_};
 ghost use mathlib.Core.List.{List};
 ghost use Prim.Native.Nat.{ℕ, _+_, _*_, _<_, _≤_};
-ghost use lib.ListN.{length};
+ghost use lib.ListN.{length, getD};
 ghost use mathlib.Core.Option.{Option};
-ghost use Rattle.paper.specs.Cache.{AddressRow, Box, Call, serve, rowOf, rowWithBlock, dirtied};
+ghost use Rattle.paper.specs.Cache.{AddressRow, Box, Call, serve, rowOf, rowWithBlock, readAs, dirtied};
 ghost use Rattle.paper.specs.Engine.{Fixed, engine};
 ghost use Rattle.paper.specs.Layout.{Addrs};
 ghost use Rattle.paper.specs.Lent.{bit};
@@ -199,7 +199,7 @@ pub fn serve_write(
 }
 
 // Read, where `a` is held in row `i` and its block is in the block row at `j`: no index is asked.
-fn read_hit(
+pub fn read_hit(
     b: BoxRecord,
     a: SourceAddress,
     i: usize,
@@ -212,10 +212,10 @@ fn read_hit(
     requires { ⌜ (i < b .held) × (j < b .slots) × Access b (a .0) (now block) (now addrs) (now blocks) ⌝ }
     requires { ⌜ ((disk : List ℕ) × (s : Box (Fixed 32) (Fixed (b .size))) × Rep b disk (now flash) (now addrs) (now blocks) s × HitAt b s (a .0) i j) ⌝ }
     ensures { λ r. ⌜ (r .flashed ≤ 1) × (r .primary ≤ 2 + b .rows) ⌝ }
-    ensures { λ r. ⌜ ((disk : List ℕ) (s : Box (Fixed 32) (Fixed (b .size))) (lent : List ℕ)
+    ensures { λ r. ⌜ ((disk : List ℕ) (s : Box (Fixed 32) (Fixed (b .size))) (x : Fixed (b .size)) (lent : List ℕ)
         → Rep b disk (now (flash .entry)) (now (addrs .entry)) (now (blocks .entry)) s → Sure b s → HitAt b s (a .0) i j
         → left r disk (now (flash .entry)) (now (addrs .exit)) (now (blocks .exit)) (now (block .exit))
-        ≡ leaves b lent (serve (engine (b .size)) (numbersOf b) s (Call.read (a .0)))) ⌝ }
+        ≡ leaves b lent (readAs (engine (b .size)) (b .rows) s (a .0) x (rowWithBlock (engine (b .size)) s (a .0)))) ⌝ }
 {
     let g = rows::fp_at(addrs, i);
     let dirty = rows::dirty_at(addrs, i);
@@ -230,8 +230,38 @@ fn read_hit(
     }
 }
 
-// Read, where `a` is not held with its block.
-fn read_miss(
+// Read, where `a` is not held with its block: the lent block is the one that it takes.
+pub fn read_taken(
+    b: BoxRecord,
+    a: SourceAddress,
+    disk: &mut [u8],
+    flash: &mut [u8],
+    addrs: &mut [u8],
+    blocks: &mut [u8],
+    block: &[u8],
+    heads: &[u16],
+) -> Served
+    requires { ⌜ Access b (a .0) (now block) (now addrs) (now blocks) ⌝ }
+    requires { ⌜ LentSound b (now disk) (now flash) (now addrs) (now blocks) ⌝ }
+    requires { ⌜ Indexed (b .slots) (now blocks) (now heads) ⌝ }
+    ensures { λ r. ⌜ (r .flashed ≤ 1) × (r .primary ≤ 2 + b .rows) ⌝ }
+    ensures { λ r. ⌜ ((s : Box (Fixed 32) (Fixed (b .size))) (x : Fixed (b .size)) (lent : List ℕ)
+        → Rep b (now (disk .entry)) (now (flash .entry)) (now (addrs .entry)) (now (blocks .entry)) s → Sure b s → x .0 ≡ now (block .entry)
+        → left r (now (disk .exit)) (now (flash .exit)) (now (addrs .exit)) (now (blocks .exit)) (now (block .entry))
+        ≡ leaves b lent (readAs (engine (b .size)) (b .rows) s (a .0) x Option.none)) ⌝ }
+{
+    let g = fingerprint::block_sha256(block);
+    let d = steps::step(b, a, 0, disk, flash, addrs, blocks, &g, block, heads);
+    Served {
+        yes: false,
+        held: d.held,
+        flashed: d.flashed,
+        primary: d.primary,
+    }
+}
+
+// Read, where `a` is not held with its block: it takes the disk's.
+pub fn read_miss(
     b: BoxRecord,
     a: SourceAddress,
     disk: &mut [u8],
@@ -246,20 +276,12 @@ fn read_miss(
     requires { ⌜ Indexed (b .slots) (now blocks) (now heads) ⌝ }
     ensures { λ r. ⌜ (r .flashed ≤ 1) × (r .primary ≤ 2 + b .rows) ⌝ }
     ensures { λ r. ⌜ ((s : Box (Fixed 32) (Fixed (b .size))) (lent : List ℕ)
-        → Rep b (now (disk .entry)) (now (flash .entry)) (now (addrs .entry)) (now (blocks .entry)) s → Sure b s → rowWithBlock (engine (b .size)) s (a .0)
-        ≡ Option.none
+        → Rep b (now (disk .entry)) (now (flash .entry)) (now (addrs .entry)) (now (blocks .entry)) s → Sure b s
         → left r (now (disk .exit)) (now (flash .exit)) (now (addrs .exit)) (now (blocks .exit)) (now (block .exit))
-        ≡ leaves b lent (serve (engine (b .size)) (numbersOf b) s (Call.read (a .0)))) ⌝ }
+        ≡ leaves b lent (readAs (engine (b .size)) (b .rows) s (a .0) (getD (s .disk) (a .0) (engine (b .size) .blank)) Option.none)) ⌝ }
 {
     block::copy_all(block::at_address(disk, a, b.size), block);
-    let g = fingerprint::block_sha256(block);
-    let d = steps::step(b, a, 0, disk, flash, addrs, blocks, &g, block, heads);
-    Served {
-        yes: false,
-        held: d.held,
-        flashed: d.flashed,
-        primary: d.primary,
-    }
+    read_taken(b, a, disk, flash, addrs, blocks, block, heads)
 }
 
 // Read.

@@ -2,7 +2,7 @@
 pub mod distinct;
 pub mod find;
 pub mod fresh;
-mod moves;
+pub mod moves;
 pub mod put;
 pub mod row;
 pub mod shift;

@@ -12,7 +12,8 @@ use Rattle.refusals.proofs.of_opening.Tie as tie
 returns : tie.Need-returns
 returns c k =
     let a = c .before .before .before .before .before .before .args in
-    sym (exactly-opening (numbersOf (a .b)) (lent (a .b) (a .disk .now) (a .flash .now) (a .addresses .now) (a .blocks .now) k) .gives-1 .1 (sym (c .before .numbers-unfit .ensures) ∙ c .if1 .taken))
+    sym (exactly-opening (numbersOf (a .b)) (lent (a .b) (a .disk .now) (a .flash .now) (a .addresses .now) (a .blocks .now) k) .gives-1 .1
+    (tt, sym (c .before .numbers-unfit .ensures) ∙ c .if1 .taken))
 
 lengths-wrong-requires : tie.Need-lengths-wrong-requires
 lengths-wrong-requires c κs =
@@ -24,15 +25,19 @@ returns-2 : tie.Need-returns-2
 returns-2 c k =
     let e = c .before .before in
     let a = e .before .before .before .before .before .before .args in
-    sym (exactly-opening (numbersOf (a .b)) (lent (a .b) (a .disk .now) (a .flash .now) (a .addresses .now) (a .blocks .now) k) .gives-2 .1
-    (sym (e .before .numbers-unfit .ensures) ∙ e .if1 .left, sym (wrong-is (a .b) (a .disk .now) (a .flash .now) (a .addresses .now) (a .blocks .now) k) ∙ sym (c .before .lengths-wrong .ensures) ∙ c .if2 .taken))
+    sym (exactly-opening (numbersOf (a .b)) (lent (a .b) (a .disk .now) (a .flash .now) (a .addresses .now) (a .blocks .now) k) .gives-2 .1 (
+      (sym (e .before .numbers-unfit .ensures) ∙ e .if1 .left, tt),
+      sym (wrong-is (a .b) (a .disk .now) (a .flash .now) (a .addresses .now) (a .blocks .now) k) ∙ sym (c .before .lengths-wrong .ensures) ∙ c .if2 .taken,
+    ))
 
 returns-3 : tie.Need-returns-3
 returns-3 c k =
     let e = c .before .before in
     let a = e .before .before .before .before .before .before .args in
-    sym (exactly-opening (numbersOf (a .b)) (lent (a .b) (a .disk .now) (a .flash .now) (a .addresses .now) (a .blocks .now) k) .gives-0 .1
-    (sym (e .before .numbers-unfit .ensures) ∙ e .if1 .left, sym (wrong-is (a .b) (a .disk .now) (a .flash .now) (a .addresses .now) (a .blocks .now) k) ∙ sym (c .before .lengths-wrong .ensures) ∙ c .if2 .left))
+    sym (exactly-opening (numbersOf (a .b)) (lent (a .b) (a .disk .now) (a .flash .now) (a .addresses .now) (a .blocks .now) k) .gives-0 .1 (
+      sym (e .before .numbers-unfit .ensures) ∙ e .if1 .left,
+      (sym (wrong-is (a .b) (a .disk .now) (a .flash .now) (a .addresses .now) (a .blocks .now) k) ∙ sym (c .before .lengths-wrong .ensures) ∙ c .if2 .left, tt),
+    ))
 
 pub of-opening-spec : {M : Type 1} → statement M
 of-opening-spec = tie.close (tie.spec (λ c κs. search needs) returns lengths-wrong-requires returns-2 returns-3)

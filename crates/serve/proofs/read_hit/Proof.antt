@@ -54,7 +54,7 @@ returns c =
     let p = start .pre .0 in
     let u = at-renew .renew in (
       (omega arith, omega arith),
-      λ disk s lent h sd q.
+      λ disk s y lent h sd q.
           let f = getD (s .rows) (a .i) noRow .fingerprint in
           let w = getD (s .rows) (a .i) noRow .dirty in
           let x = blockOf (engine (a .b .size)) f (s .used) (s .flash) in
@@ -66,7 +66,7 @@ returns c =
           let ea = u .ensures .0 ∙ ap₂ {C = List ℕ} (λ (y : List ℕ) (v : ℕ). rowAdded (a .b .held - 1) (addressBytes (addressRow (a .a .0) y v)) (rowOut (a .b .held) (a .i) (a .addrs .now))) (sym ef) ed in
           answer-is (a .b) lent hit (some x) 0 (step (engine (a .b .size)) (a .b .rows) s (asks (a .a .0) f x w)) true (a .b .held) 0 0 0 _ _ _ _ _
           (hit-step (a .b) disk (a .flash .now) (a .addrs .now) (a .blocks .now) s h sd (p .2 .0) (a .a .0) (a .i) (a .j) q w x _ _ ea (u .ensures .1)) refl refl (sym ex)
-          ∙ hit-is (a .b) disk (a .flash .now) (a .addrs .now) (a .blocks .now) s h (a .a .0) lent (a .i) (a .j) q,
+          ∙ hit-is (a .b) disk (a .flash .now) (a .addrs .now) (a .blocks .now) s h (a .a .0) lent y (a .i) (a .j) q,
     )
 
 pub read-hit-spec : {M : Type 1} → statement M

@@ -1,0 +1,56 @@
+-- The step gives the rest. Assumes nothing.
+use mathlib.Core.Path.{refl, sym, ap, _∙_}
+use mathlib.Core.Bool.{false}
+use mathlib.Core.Option.{some}
+use native.Mathlib.Omega.{arith}
+use native.Mathlib.Nat.{zero-add}
+use Rattle.hash.specs.Sha256.{sha256}
+use Rattle.paper.specs.Cache.{miss, step}
+use Rattle.paper.specs.Engine.{engine}
+use Rattle.step.specs.Steps.{asks}
+use Rattle.serve.specs.ServeLaws.{answer-is, taken-is}
+use borrow.Author.Needs.{needs}
+use Rattle.serve.proofs.read_taken.Statement.{statement}
+use Rattle.serve.proofs.read_taken.Tie as tie
+
+block-sha256-requires : tie.Need-block-sha256-requires
+block-sha256-requires c κs =
+    let p = c .before .before .before .before .before .before .pre .0 in
+    rw (p .2) (p .6)
+
+step-requires : tie.Need-step-requires
+step-requires c κs =
+    let start = c .before .before .before .before .before .before .before .before .before .before .before .before in
+    let p = start .pre .0 in
+    let q = start .pre .1 .0 in
+    ((p .0, p .1, search needs, p .2, p .3, p .4, p .5), ((q .0, false, q .1, q .2, refl), start .pre .1 .1))
+
+returns : tie.Need-returns
+returns c =
+    let at-step = c .before .before .before .before .before .before .before .before in
+    let at-hash = at-step .before .before .before .before .before .before in
+    let start = at-hash .before .before .before .before .before .before .before in
+    let a = start .args in
+    let w = at-step .step in (
+      (w .ensures .0 .0, omega (arith, w .ensures .0 .1)),
+      λ s x lent h sd ex.
+          let f = engine (a .b .size) .hash x in
+          let ef = ap sha256 ex ∙ sym (at-hash .block-sha256 .ensures) in
+          answer-is (a .b) lent miss (some x) 0 (step (engine (a .b .size)) (a .b .rows) s (asks (a .a .0) f x false)) false
+          (w .result .held) (w .result .flashed) (w .result .primary) (w .result .primary) _ _ _ _ _
+          (w .ensures .1 s f x false h sd ef ex refl) refl (sym (zero-add (w .result .primary))) (sym ex)
+          ∙ taken-is (a .b) lent s (a .a .0) x,
+    )
+
+pub read-taken-spec : {M : Type 1} → statement M
+read-taken-spec =
+    tie.close
+    (tie.spec
+    block-sha256-requires
+    (λ c. search needs)
+    step-requires
+    (λ c. search needs)
+    (λ c. search needs)
+    (λ c. search needs)
+    (λ c. search needs)
+    returns)
