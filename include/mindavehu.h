@@ -15,14 +15,20 @@
  *   block      B              the one block that a read fills or a write takes
  *   answer     24             the word, the flash writes and the primary writes: 8 bytes each, little-endian
  *                             (a look: the word, the byte where the part starts, the part's length)
+ * and for the one call that reads a list of addresses, in place of the block and of that answer:
+ *   asked      count          the addresses, 1 to 64 of them; this length alone is a number of uint32_t, not of bytes
+ *   buffer     count x B      the blocks read: block i of it is that at asked[i]
+ *   answer     32             the hits, the flash writes, the primary writes and the fetches: 8 bytes each, little-endian
  *
  * The result of each function is the number of a refusal, or MINDAVEHU_SERVED. A refused call changes no buffer, but for a refused
- * opening, which writes n = 0 into the state. A state that is not 72 bytes, or an answer that is not 24, gives
+ * opening, which writes n = 0 into the state. A state that is not 72 bytes, or an answer that is not 24 (of the call for a list: not 32), gives
  * MINDAVEHU_WRONG_LENGTH before anything else is looked at, and nothing at all is changed.
- * Where several refusals apply, the first of 1, 2, 3, 6, 7, 8, 9 is told. Flush has no 3, look no 9, opening only 1 and 2.
+ * Where several refusals apply, the first of 1, 2, 10, 3, 6, 7, 8, 9 is told. Only the call for a list has 10. Flush has no 3, look no 9, opening
+ * only 1 and 2.
  *
  * The caller's duties, which no call can check:
- *   - each pointer is to that many bytes, readable, and writable where it is not const; none is NULL, even at length 0;
+ *   - each pointer is to that many bytes (asked: to that many uint32_t), readable, and writable where it is not const; none is NULL, even at
+ *     length 0;
  *   - the buffers of one call do not overlap, unless both are const;
  *   - nobody else reads or writes them while a call runs (a look only reads all but its answer, so looks may run beside each other);
  *   - between calls the buffers are kept as they were left. Other bytes do no harm to the program: a damaged table is refused with
@@ -61,6 +67,18 @@
  *     }
  *
  * It prints `hit 1, byte 7`.
+ *
+ * A folder of three pages, one of them twice, opened with one call; in the program above it can stand before the flush:
+ *
+ *         static const uint32_t asked[4] = {5, 2, 6, 2};
+ *         static uint8_t buffer[4 * 64], many[MINDAVEHU_MANY_ANSWER];
+ *         if (mindavehu_read_many(state, sizeof state, asked, 4, disk, sizeof disk, flash, sizeof flash, addresses, sizeof addresses,
+ *                                 blocks, sizeof blocks, buffer, sizeof buffer, many, sizeof many) != MINDAVEHU_SERVED)
+ *             return 1;
+ *         printf("hits %d, fetches %d, byte %d\n", (int)mindavehu_get(many, MINDAVEHU_MANY_HITS),
+ *                (int)mindavehu_get(many, MINDAVEHU_FETCHES), buffer[0]);
+ *
+ * It prints `hits 2, fetches 2, byte 7`.
  */
 #ifndef MINDAVEHU_H
 #define MINDAVEHU_H
@@ -72,20 +90,25 @@
 extern "C" {
 #endif
 
-/* Lengths in bytes: of the state, of an answer, and of a row of either table. */
+/* Lengths in bytes: of the state, of an answer, of the answer of the call for a list, and of a row of either table. */
 #define MINDAVEHU_STATE 72
 #define MINDAVEHU_ANSWER 24
+#define MINDAVEHU_MANY_ANSWER 32
 #define MINDAVEHU_ROW 40
+
+/* The most addresses in a list. */
+#define MINDAVEHU_MANY_MOST 64
 
 /* What a function returns. (4 and 5 are the replay program's own.) */
 #define MINDAVEHU_SERVED 0
 #define MINDAVEHU_OUTSIDE 1          /* B, P, m or d outside its set */
 #define MINDAVEHU_WRONG_LENGTH 2     /* a length is not the one above */
-#define MINDAVEHU_NO_ADDRESS 3       /* the address is P or more */
+#define MINDAVEHU_NO_ADDRESS 3       /* the address is P or more; of a list: an address is */
 #define MINDAVEHU_BAD_ADDRESSES 6    /* the address table is unsound */
 #define MINDAVEHU_BAD_BLOCKS 7       /* the block table is unsound */
 #define MINDAVEHU_DIRTY_UNCACHED 8   /* a dirty address without its block */
 #define MINDAVEHU_COUNTER_FULL 9     /* a counter above 2 to the power 63 */
+#define MINDAVEHU_BAD_COUNT 10       /* a list of no address, or of more than 64 */
 
 /* The words of an answer. */
 #define MINDAVEHU_HIT 1    /* a read: the block was in the cache */
@@ -107,12 +130,15 @@ extern "C" {
 #define MINDAVEHU_FLASH_WRITES 56
 #define MINDAVEHU_PRIMARY_WRITES 64
 
-/* The fields of an answer; of a look's, START and LENGTH stand for the second and the third. */
+/* The fields of an answer; of a look's, START and LENGTH stand for the second and the third. The answer of the call for a list has no word: its
+ * first field is MANY_HITS, and a fourth is added, FETCHES. */
 #define MINDAVEHU_WORD 0
 #define MINDAVEHU_ANSWER_FLASH 8
 #define MINDAVEHU_ANSWER_PRIMARY 16
 #define MINDAVEHU_START 8
 #define MINDAVEHU_LENGTH 16
+#define MINDAVEHU_MANY_HITS 0
+#define MINDAVEHU_FETCHES 24
 
 /* A field of the state or of an answer, read and written. */
 static inline uint64_t mindavehu_get(const uint8_t *bytes, size_t field)
@@ -145,6 +171,21 @@ uint32_t mindavehu_read(uint8_t *state, size_t state_length, uint32_t address,
                         uint8_t *blocks, size_t blocks_length,
                         uint8_t *block, size_t block_length,
                         uint8_t *answer, size_t answer_length);
+
+/* Reads the blocks at `count` addresses, 1 to 64, in turn, into `buffer`: its block i is that at asked[i]. An address may come more than once.
+ * Answers the hits, the flash writes, the primary writes and the fetches: the blocks that came from the disk, one for each address whose first read
+ * in the list is a miss. Fetches are at most the misses, which are count less the hits.
+ * On a box that calls alone have made, from its opening on, and where no two different blocks share a fingerprint, all is as after the single reads in
+ * turn, but that 9 is told before the first read or not at all. On any other box a repeat that misses takes its block from the buffer, where the first
+ * read of its address put it, and not from the disk. */
+uint32_t mindavehu_read_many(uint8_t *state, size_t state_length,
+                             const uint32_t *asked, size_t count,
+                             uint8_t *disk, size_t disk_length,
+                             uint8_t *flash, size_t flash_length,
+                             uint8_t *addresses, size_t addresses_length,
+                             uint8_t *blocks, size_t blocks_length,
+                             uint8_t *buffer, size_t buffer_length,
+                             uint8_t *answer, size_t answer_length);
 
 /* Write through: `block` goes to the disk at the address, and into the cache. Answers SAME or NEW. */
 uint32_t mindavehu_write_through(uint8_t *state, size_t state_length, uint32_t address,

@@ -18,7 +18,18 @@
  * With --parts, a line `F k` is a flush of at most k dirty addresses, oldest use first; k is printed where the others have their address. A replay
  * knows no such line: without --parts it is refused with 4.
  *
- * Exit status: 0 when the list was read to its end, refusals included; 1 when reading or writing failed; 2 for an unknown option. */
+ * With --folder ADDRESSES (decimals with commas between them; an empty word for none), the folder of these addresses is opened after the list, twice
+ * from the same box: with one call, and read by read. Both ways are printed, with the content of each block read, and whether they leave the same:
+ *
+ *     folder 1 0, one call
+ *     2 folder hits 0 flash 2 primary 1 fetches 2
+ *         contents 1 7
+ *         0:7; blocks 7
+ *
+ * Where the one call is refused, that is printed, and nothing after it.
+ *
+ * Exit status: 0 when the list was read to its end, refusals included; 1 when reading or writing failed, or where the two ways differ; 2 for an unknown
+ * option, or addresses that are not of the form. */
 #include <errno.h>
 #include <stdio.h>
 #include <stdlib.h>
@@ -39,11 +50,25 @@
 
 #define FINGERPRINT 32
 
+/* More addresses than the engine takes in one call, so that its refusal can be seen. */
+#define MOST_FOLDER 128
+
 static uint8_t state[MINDAVEHU_STATE], answer[MINDAVEHU_ANSWER];
 static uint8_t disk[MOST_BYTES], flash[MOST_BYTES], block[MOST_B];
 static uint8_t addresses[MOST_M * MINDAVEHU_ROW], blocks[MOST_D * MINDAVEHU_ROW];
 static size_t B, P, m, d;
 static int full, parts;
+
+/* The folder that is opened after the list, where one is asked for; the blocks read of it, and the answer of the one call. */
+static int has_folder, differs;
+static uint32_t folder[MOST_FOLDER];
+static size_t folder_count;
+static uint8_t buffer[MOST_FOLDER * MOST_B], many[MINDAVEHU_MANY_ANSWER];
+
+/* A box, and the blocks read of a folder. */
+struct left {
+    uint8_t state[sizeof state], disk[sizeof disk], flash[sizeof flash], addresses[sizeof addresses], blocks[sizeof blocks], buffer[sizeof buffer];
+};
 
 /* A line of the list: its bytes, as far as there is room for them, and its whole length. */
 struct line {
@@ -271,11 +296,108 @@ static void print_counters(void)
            (unsigned long long)mindavehu_get(state, MINDAVEHU_PRIMARY_WRITES));
 }
 
+/* ---- The folder. */
+
+static void keep(struct left *left)
+{
+    memcpy(left->state, state, sizeof state);
+    memcpy(left->disk, disk, sizeof disk);
+    memcpy(left->flash, flash, sizeof flash);
+    memcpy(left->addresses, addresses, sizeof addresses);
+    memcpy(left->blocks, blocks, sizeof blocks);
+    memcpy(left->buffer, buffer, sizeof buffer);
+}
+
+static void put_back(const struct left *left)
+{
+    memcpy(state, left->state, sizeof state);
+    memcpy(disk, left->disk, sizeof disk);
+    memcpy(flash, left->flash, sizeof flash);
+    memcpy(addresses, left->addresses, sizeof addresses);
+    memcpy(blocks, left->blocks, sizeof blocks);
+    memcpy(buffer, left->buffer, sizeof buffer);
+}
+
+static void print_folder(const char *how)
+{
+    printf("folder%s", folder_count ? "" : " none");
+    for (size_t k = 0; k < folder_count; k++)
+        printf(" %u", folder[k]);
+    printf(", %s\n", how);
+}
+
+/* The byte that fills each block read. */
+static void print_contents(void)
+{
+    printf("    contents");
+    for (size_t k = 0; k < folder_count; k++)
+        printf(" %u", buffer[k * B]);
+    printf("\n");
+}
+
+/* Opens the folder with one call, which has this number. Gives the refusal. */
+static uint32_t with_one_call(uint64_t number)
+{
+    uint32_t refusal = mindavehu_read_many(STATE, folder, folder_count, MEMORY, buffer, folder_count * B, many, sizeof many);
+    print_folder("one call");
+    if (refusal) {
+        printf("%llu refused %u\n", (unsigned long long)number, refusal);
+    } else {
+        printf("%llu folder hits %llu flash %llu primary %llu fetches %llu\n", (unsigned long long)number,
+               (unsigned long long)mindavehu_get(many, MINDAVEHU_MANY_HITS), (unsigned long long)mindavehu_get(many, MINDAVEHU_ANSWER_FLASH),
+               (unsigned long long)mindavehu_get(many, MINDAVEHU_ANSWER_PRIMARY), (unsigned long long)mindavehu_get(many, MINDAVEHU_FETCHES));
+        print_contents();
+    }
+    print_state();
+    return refusal;
+}
+
+/* Opens the folder read by read. Gives the misses: each of them has fetched a block from the disk. */
+static unsigned read_by_read(uint64_t number)
+{
+    unsigned misses = 0;
+    print_folder("read by read");
+    for (size_t k = 0; k < folder_count; k++) {
+        struct call call = {.letter = 'R', .has_address = 1, .address = folder[k]};
+        uint32_t refusal = carry_out(&call);
+        if (refusal) {
+            printf("%llu refused %u\n", (unsigned long long)number + k, refusal);
+        } else {
+            print_answer(number + k, &call);
+            misses += mindavehu_get(answer, MINDAVEHU_WORD) == MINDAVEHU_MISS;
+        }
+        memcpy(buffer + k * B, block, B);
+        print_state();
+    }
+    print_contents();
+    return misses;
+}
+
+/* Both ways, from the same box; `number` is that of the next call. */
+static void open_folder(uint64_t number)
+{
+    static struct left before, one, other;
+    memset(buffer, 0, sizeof buffer);
+    keep(&before);
+    if (with_one_call(number))
+        return;
+    print_counters();
+    keep(&one);
+    put_back(&before);
+    unsigned misses = read_by_read(number);
+    print_counters();
+    keep(&other);
+    differs = memcmp(&one, &other, sizeof one) != 0;
+    printf("%s contents, tables, flash, disk and counters\n", differs ? "NOT the same" : "the same");
+    printf("blocks fetched from disk: %llu by one call, %u read by read\n", (unsigned long long)mindavehu_get(many, MINDAVEHU_FETCHES), misses);
+}
+
 static void replay(void)
 {
     struct line line;
     struct call call;
     uint32_t numbers[4];
+    uint64_t number = 1;
     if (!next_line(&line) && ferror(stdin))
         return;
     uint32_t refusal = is_box(&line, numbers) ? open_box(numbers) : NOT_THE_FORM;
@@ -287,7 +409,7 @@ static void replay(void)
         printf("    box %zu %zu %zu %zu\n", B, P, m, d);
         print_state();
     }
-    for (uint64_t number = 1; next_line(&line); number++) {
+    for (; next_line(&line); number++) {
         if (full)
             print_asked(&line);
         refusal = is_call(&line, &call) ? carry_out(&call) : NOT_THE_FORM;
@@ -301,14 +423,39 @@ static void replay(void)
         return;
     print_counters();
     print_state();
+    if (has_folder)
+        open_folder(number);
+}
+
+/* Takes the folder's addresses from a word of the command: decimals as in a list, with commas between them. Gives 0 where they are not of that form. */
+static int take_folder(const char *word)
+{
+    has_folder = 1;
+    while (*word) {
+        size_t digits = strspn(word, "0123456789");
+        if (digits == 0 || digits > 5 || (digits > 1 && *word == '0') || folder_count == MOST_FOLDER)
+            return 0;
+        folder[folder_count++] = (uint32_t)strtoul(word, NULL, 10);
+        word += digits;
+        if (*word == ',' && word[1])
+            word++;
+        else if (*word)
+            return 0;
+    }
+    return 1;
 }
 
 int main(int count, char **words)
 {
     full = count == 2 && strcmp(words[1], "--full") == 0;
     parts = count == 2 && strcmp(words[1], "--parts") == 0;
-    if (count > 1 && !full && !parts) {
-        fprintf(stderr, "states: unknown option %s; there is --full or --parts\n", words[1]);
+    if (count == 3 && strcmp(words[1], "--folder") == 0) {
+        if (!take_folder(words[2])) {
+            fprintf(stderr, "states: --folder takes at most %d addresses with commas between them, such as 2,5,2: %s\n", MOST_FOLDER, words[2]);
+            return 2;
+        }
+    } else if (count > 1 && !full && !parts) {
+        fprintf(stderr, "states: unknown option %s; there are --full, --parts and --folder ADDRESSES\n", words[1]);
         return 2;
     }
     replay();
@@ -320,5 +467,7 @@ int main(int count, char **words)
         fprintf(stderr, "states: the output cannot be written: %s\n", strerror(errno));
         return 1;
     }
-    return 0;
+    if (differs)
+        fprintf(stderr, "states: one call and single reads differ, which the engine is proved not to do\n");
+    return differs;
 }

@@ -9,6 +9,7 @@
 
 enum { B = 4096, P = 2048, M = 1024, D = 256, STACK = 1 << 20, PAINT = 0xA5 };
 
+static uint8_t buffer[MINDAVEHU_MANY_MOST * B], many[MINDAVEHU_MANY_ANSWER];
 static uint8_t state[MINDAVEHU_STATE], answer[MINDAVEHU_ANSWER], addresses[M * MINDAVEHU_ROW], blocks[D * MINDAVEHU_ROW], block[B];
 static uint8_t *disk, *flash;
 
@@ -57,6 +58,18 @@ static void *reads(void *unused)
     return unused;
 }
 
+/* Folders of 64 addresses, the second half of each the first again: some hit, most miss. */
+static void *folders(void *unused)
+{
+    static uint32_t asked[MINDAVEHU_MANY_MOST];
+    for (unsigned k = 0; k < 24; k++) {
+        for (unsigned i = 0; i < MINDAVEHU_MANY_MOST; i++)
+            asked[i] = (k * MINDAVEHU_MANY_MOST + i % 32 * 2) % P;
+        mindavehu_read_many(state, sizeof state, asked, MINDAVEHU_MANY_MOST, MEMORY, buffer, sizeof buffer, many, sizeof many);
+    }
+    return unused;
+}
+
 static void *flushes(void *unused)
 {
     mindavehu_flush(state, sizeof state, MEMORY, answer, sizeof answer);
@@ -97,7 +110,7 @@ static long used(void *(*call)(void *))
 int main(void)
 {
     static const struct { const char *name; void *(*call)(void *); } calls[] = {
-        {"open", opens}, {"write back", writes_back}, {"read", reads}, {"flush in parts", flushes_in_parts}, {"flush", flushes},
+        {"open", opens}, {"write back", writes_back}, {"read", reads}, {"folder", folders}, {"flush in parts", flushes_in_parts}, {"flush", flushes},
         {"look", looks}, {"write invalidate", invalidates}, {"write through", writes_through},
     };
     long none = used(nothing);

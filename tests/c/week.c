@@ -1,4 +1,5 @@
-/* A week of calls through the header: the document's replay (E1), write back and sharing, eviction, flush, whole and in parts, looks, and refusals.
+/* A week of calls through the header: the document's replay (E1), write back and sharing, eviction, flush, whole and in parts, looks, a folder opened
+ * with one call, and refusals.
  * Prints what it checked, or the line that failed. */
 #include <stdio.h>
 #include <stdlib.h>
@@ -198,6 +199,88 @@ static void writes(void)
     drop(&b);
 }
 
+/* A folder: its addresses, blocks and answer, each its own piece of the heap too. */
+struct folder {
+    uint32_t *asked;
+    size_t count, buffer_length;
+    uint8_t *buffer, *answer;
+};
+
+static struct folder make_folder(const struct box *b, size_t count, const uint32_t *asked)
+{
+    struct folder f = {.count = count, .buffer_length = count * b->block_length};
+    f.asked = (uint32_t *)piece((count + (count == 0)) * sizeof *f.asked);
+    f.buffer = piece(f.buffer_length + (count == 0));
+    f.answer = piece(MINDAVEHU_MANY_ANSWER);
+    memcpy(f.asked, asked, count * sizeof *asked);
+    memset(f.buffer, 0xEE, f.buffer_length);
+    memset(f.answer, 0xDD, MINDAVEHU_MANY_ANSWER);
+    return f;
+}
+
+static void drop_folder(struct folder *f)
+{
+    free(f->asked), free(f->buffer), free(f->answer);
+}
+
+#define FOLDER(f) (f)->asked, (f)->count
+#define INTO(f) (f)->buffer, (f)->buffer_length, (f)->answer, MINDAVEHU_MANY_ANSWER
+
+static uint32_t read_folder(struct box *b, struct folder *f)
+{
+    return mindavehu_read_many(STATE(b), FOLDER(f), MEMORY(b), INTO(f));
+}
+
+static int told(const struct folder *f, uint64_t hits, uint64_t flash, uint64_t primary, uint64_t fetches)
+{
+    return mindavehu_get(f->answer, MINDAVEHU_MANY_HITS) == hits && mindavehu_get(f->answer, MINDAVEHU_ANSWER_FLASH) == flash
+        && mindavehu_get(f->answer, MINDAVEHU_ANSWER_PRIMARY) == primary && mindavehu_get(f->answer, MINDAVEHU_FETCHES) == fetches;
+}
+
+static int same(const uint8_t *one, const uint8_t *two, size_t length) { return memcmp(one, two, length) == 0; }
+
+/* A folder on a copy of a box by single reads: the same blocks, bytes of the box and counters. */
+static void as_single_reads(struct box *b, struct box *copy, struct folder *f)
+{
+    memcpy(copy->state, b->state, MINDAVEHU_STATE);
+    memcpy(copy->disk, b->disk, b->disk_length);
+    memcpy(copy->flash, b->flash, b->flash_length);
+    memcpy(copy->addresses, b->addresses, b->addresses_length);
+    memcpy(copy->blocks, b->blocks, b->blocks_length);
+    EXPECT(read_folder(b, f) == MINDAVEHU_SERVED);
+    for (size_t i = 0; i < f->count; i++)
+        EXPECT(read_block(copy, f->asked[i]) == 0 && same(copy->block, f->buffer + i * b->block_length, b->block_length));
+    EXPECT(same(copy->state, b->state, MINDAVEHU_STATE) && same(copy->disk, b->disk, b->disk_length) && same(copy->flash, b->flash, b->flash_length));
+    EXPECT(same(copy->addresses, b->addresses, b->addresses_length) && same(copy->blocks, b->blocks, b->blocks_length));
+}
+
+/* Friday afternoon: a folder opened with one call, a page of it twice; with one slot, where the repeat misses; and after a write back whose page
+ * leaves the cache within the call. */
+static void folder(void)
+{
+    static const uint32_t pages[5] = {2, 5, 2, 6, 5}, two_and_one[2] = {1, 0};
+    struct box b = make(64, 8, 4, 3), copy = make(64, 8, 4, 3);
+    struct folder f = make_folder(&b, 5, pages);
+    EXPECT(open_box(&b) == 0 && back(&b, 5, 9) == 0);
+    as_single_reads(&b, &copy, &f);
+    EXPECT(told(&f, 3, 2, 0, 2) && counted(&b, 5, 3, 3, 0));
+    EXPECT(filled(f.buffer, 64, 2) && filled(f.buffer + 64, 64, 9) && filled(f.buffer + 2 * 64, 64, 2) && filled(f.buffer + 4 * 64, 64, 9));
+    drop(&b), drop(&copy);
+
+    b = make(64, 8, 4, 1), copy = make(64, 8, 4, 1);
+    EXPECT(open_box(&b) == 0);
+    as_single_reads(&b, &copy, &f);
+    EXPECT(told(&f, 0, 5, 0, 3) && counted(&b, 5, 0, 5, 0));
+    drop(&b), drop(&copy), drop_folder(&f);
+
+    b = make(64, 2, 1, 1), copy = make(64, 2, 1, 1);
+    f = make_folder(&b, 2, two_and_one);
+    EXPECT(open_box(&b) == 0 && back(&b, 0, 7) == 0);
+    as_single_reads(&b, &copy, &f);
+    EXPECT(told(&f, 0, 2, 1, 2) && filled(f.buffer, 64, 1) && filled(f.buffer + 64, 64, 7) && filled(b.disk, 64, 7));
+    drop(&b), drop(&copy), drop_folder(&f);
+}
+
 /* Everything that a call can change, to compare. */
 static uint8_t *all(const struct box *b, size_t *length)
 {
@@ -257,6 +340,51 @@ static void refusals(void)
     drop(&b);
 }
 
+/* The same for a folder: the buffers of the box, the folder's buffer and its answer. */
+#define FOLDER_KEPT(b, f, call, number)                                                             \
+    do {                                                                                            \
+        uint8_t *buffer = piece((f)->buffer_length + 1), answer[MINDAVEHU_MANY_ANSWER];              \
+        memcpy(buffer, (f)->buffer, (f)->buffer_length);                                            \
+        memcpy(answer, (f)->answer, sizeof answer);                                                 \
+        KEPT(b, call, number);                                                                      \
+        EXPECT(same(buffer, (f)->buffer, (f)->buffer_length) && same(answer, (f)->answer, sizeof answer)); \
+        free(buffer);                                                                               \
+    } while (0)
+
+/* The refusals of a folder, from the last check to the first, each with those behind it. */
+static void folder_refusals(void)
+{
+    uint32_t asked[65];
+    for (uint32_t k = 0; k < 65; k++)
+        asked[k] = k % 8;
+    struct box b = make(64, 8, 3, 2);
+    struct folder f = make_folder(&b, 64, asked), none = make_folder(&b, 0, asked), above = make_folder(&b, 65, asked);
+    EXPECT(open_box(&b) == 0 && back(&b, 3, 1) == 0 && read_folder(&b, &f) == 0 && back(&b, 3, 1) == 0);
+    mindavehu_put(b.state, MINDAVEHU_HITS, (1ull << 63) + 1);
+    FOLDER_KEPT(&b, &f, read_folder(&b, &f), MINDAVEHU_COUNTER_FULL);
+    b.blocks[MINDAVEHU_ROW] ^= 1;
+    FOLDER_KEPT(&b, &f, read_folder(&b, &f), MINDAVEHU_DIRTY_UNCACHED);
+    b.blocks[32] = 9;
+    FOLDER_KEPT(&b, &f, read_folder(&b, &f), MINDAVEHU_BAD_BLOCKS);
+    mindavehu_put(b.state, MINDAVEHU_N, 4);
+    FOLDER_KEPT(&b, &f, read_folder(&b, &f), MINDAVEHU_BAD_ADDRESSES);
+    f.asked[63] = 8, above.asked[64] = 8;
+    FOLDER_KEPT(&b, &f, read_folder(&b, &f), MINDAVEHU_NO_ADDRESS);
+    FOLDER_KEPT(&b, &none, read_folder(&b, &none), MINDAVEHU_BAD_COUNT);
+    FOLDER_KEPT(&b, &above, read_folder(&b, &above), MINDAVEHU_BAD_COUNT);
+    FOLDER_KEPT(&b, &above, mindavehu_read_many(STATE(&b), FOLDER(&above), MEMORY(&b), above.buffer, 64 * 64, above.answer, MINDAVEHU_MANY_ANSWER),
+                MINDAVEHU_WRONG_LENGTH);
+    FOLDER_KEPT(&b, &none, mindavehu_read_many(STATE(&b), FOLDER(&none), MEMORY(&b), none.buffer, 1, none.answer, MINDAVEHU_MANY_ANSWER),
+                MINDAVEHU_WRONG_LENGTH);
+    mindavehu_put(b.state, MINDAVEHU_M, 1025);
+    FOLDER_KEPT(&b, &none, mindavehu_read_many(STATE(&b), FOLDER(&none), MEMORY(&b), none.buffer, 1, none.answer, MINDAVEHU_MANY_ANSWER),
+                MINDAVEHU_OUTSIDE);
+    FOLDER_KEPT(&b, &f, mindavehu_read_many(STATE(&b), FOLDER(&f), MEMORY(&b), f.buffer, f.buffer_length, f.answer, MINDAVEHU_ANSWER),
+                MINDAVEHU_WRONG_LENGTH);
+    FOLDER_KEPT(&b, &f, mindavehu_read_many(b.state, 71, FOLDER(&f), MEMORY(&b), INTO(&f)), MINDAVEHU_WRONG_LENGTH);
+    drop(&b), drop_folder(&f), drop_folder(&none), drop_folder(&above);
+}
+
 int main(void)
 {
     replay();
@@ -264,7 +392,9 @@ int main(void)
     sharing();
     in_parts();
     writes();
+    folder();
     refusals();
+    folder_refusals();
     printf("week: %u facts hold\n", checks);
     return 0;
 }

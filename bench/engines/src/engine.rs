@@ -12,6 +12,7 @@ const DONE: u64 = 7;
 
 const FIRST_COUNTER: usize = 5;
 const MOST_COUNTED: u64 = 1 << 63;
+const MOST_ASKED: usize = 64;
 
 /// An index of the used block rows by their fingerprints, made in each call. It is asked while the block rows are where they were.
 pub trait Index: Default {
@@ -44,11 +45,15 @@ fn counters_too_large(state: &[u8]) -> bool {
 /// Adds to the counters and fills the answer.
 fn done(state: &mut [u8], answer: &mut [u8], word: u64, flash_writes: u64, primary_writes: u64) -> Result<(), u32> {
     let is_read = word == HIT || word == MISS;
-    for (k, more) in [is_read as u64, (word == HIT) as u64, flash_writes, primary_writes].into_iter().enumerate() {
+    add_counted(state, [is_read as u64, (word == HIT) as u64, flash_writes, primary_writes]);
+    fill(answer, word, flash_writes, primary_writes)
+}
+
+fn add_counted(state: &mut [u8], counts: [u64; 4]) {
+    for (k, more) in counts.into_iter().enumerate() {
         let counter = number(state, FIRST_COUNTER + k);
         set_number(state, FIRST_COUNTER + k, counter + more);
     }
-    fill(answer, word, flash_writes, primary_writes)
 }
 
 fn fill(answer: &mut [u8], word: u64, first: u64, second: u64) -> Result<(), u32> {
@@ -189,28 +194,96 @@ fn checked<I: Index>(
     Ok(sizes)
 }
 
+/// A read by itself, without refusals. A miss takes the block that is given, where one is, and otherwise that of the disk. Answers the word, flash
+/// writes and primary writes.
+#[inline(always)]
+fn read_one<I: Index>(mut taken: Taken<I>, a: u32, block: &mut [u8], given: Option<&[u8]>) -> (u64, u64, u64) {
+    let b = taken.sizes.b;
+    let held = held(&taken.sizes, taken.addresses, a);
+    let old = held.map(|k| *row(taken.addresses, k));
+    let hit = old.and_then(|old| taken.index.find(taken.blocks, held_fingerprint(&old)).map(|place| (old, place)));
+    let (word, g, cached, dirty) = match hit {
+        Some((old, place)) => {
+            copy(taken.flash, slot(row(taken.blocks, place)), block, 0, b);
+            (HIT, *held_fingerprint(&old), Some(place), is_dirty(&old))
+        }
+        None => {
+            match given {
+                Some(given) => block.copy_from_slice(given),
+                None => copy(taken.disk, a as usize, block, 0, b),
+            }
+            let g = fingerprint(block);
+            (MISS, g, taken.index.find(taken.blocks, &g), false)
+        }
+    };
+    let (flash_writes, primary_writes) = taken.step(a, held, &g, cached, block, dirty);
+    (word, flash_writes, primary_writes)
+}
+
 #[allow(clippy::too_many_arguments)]
 pub fn read<I: Index>(state: &mut [u8], a: u32, disk: &mut [u8], flash: &mut [u8], addresses: &mut [u8], blocks: &mut [u8], block: &mut [u8], answer: &mut [u8]) -> Result<(), u32> {
     let mut index = I::default();
     let sizes = checked(&mut index, state, Some(a), disk, flash, addresses, blocks, Some(block.len()), answer, true)?;
-    let b = sizes.b;
-    let held = held(&sizes, addresses, a);
-    let old = held.map(|k| *row(addresses, k));
-    let hit = old.and_then(|old| index.find(blocks, held_fingerprint(&old)).map(|place| (old, place)));
-    let (word, g, cached, dirty) = match hit {
-        Some((old, place)) => {
-            copy(flash, slot(row(blocks, place)), block, 0, b);
-            (HIT, *held_fingerprint(&old), Some(place), is_dirty(&old))
-        }
-        None => {
-            copy(disk, a as usize, block, 0, b);
-            let g = fingerprint(block);
-            (MISS, g, index.find(blocks, &g), false)
-        }
-    };
-    let mut taken = Taken { sizes, index: &index, state, disk, flash, addresses, blocks };
-    let (flash_writes, primary_writes) = taken.step(a, held, &g, cached, block, dirty);
+    let taken = Taken { sizes, index: &index, state, disk, flash, addresses, blocks };
+    let (word, flash_writes, primary_writes) = read_one(taken, a, block, None);
     done(state, answer, word, flash_writes, primary_writes)
+}
+
+/// Whether a buffer of this length has room for `count` blocks of `b` bytes and no byte more.
+fn is_product(length: usize, count: usize, b: usize) -> bool {
+    length % b == 0 && length / b == count
+}
+
+/// The reads of a list of addresses in turn, with the refusals before the first. The tables are indexed anew before each read.
+#[allow(clippy::too_many_arguments)]
+pub fn read_many<I: Index>(
+    state: &mut [u8],
+    asked: &[u32],
+    disk: &mut [u8],
+    flash: &mut [u8],
+    addresses: &mut [u8],
+    blocks: &mut [u8],
+    buffer: &mut [u8],
+    answer: &mut [u8],
+) -> Result<(), u32> {
+    if state.len() != 72 || answer.len() != 32 {
+        return Err(2);
+    }
+    let sizes = numbers(state, [disk.len(), flash.len(), addresses.len(), blocks.len()], None, None)?;
+    let Sizes { b, p, .. } = sizes;
+    if !is_product(buffer.len(), asked.len(), b) {
+        return Err(2);
+    }
+    if asked.is_empty() || asked.len() > MOST_ASKED {
+        return Err(10);
+    }
+    if asked.iter().any(|a| *a as usize >= p) {
+        return Err(3);
+    }
+    check(&sizes, addresses, blocks, &mut I::default())?;
+    if counters_too_large(state) {
+        return Err(9);
+    }
+    let mut sums = [0; 4];
+    for (k, a) in asked.iter().enumerate() {
+        let (before, rest) = buffer.split_at_mut(k * b);
+        let first = asked[..k].iter().position(|other| other == a);
+        let given = first.map(|j| &before[j * b..(j + 1) * b]);
+        let sizes = crate::layout::sizes(state)?;
+        let mut index = I::default();
+        check(&sizes, addresses, blocks, &mut index)?;
+        let taken = Taken { sizes, index: &index, state, disk, flash, addresses, blocks };
+        let (word, flash_writes, primary_writes) = read_one(taken, *a, &mut rest[..b], given);
+        sums[0] += (word == HIT) as u64;
+        sums[1] += flash_writes;
+        sums[2] += primary_writes;
+        sums[3] += (word == MISS && first.is_none()) as u64;
+    }
+    add_counted(state, [asked.len() as u64, sums[0], sums[1], sums[2]]);
+    for (k, sum) in sums.into_iter().enumerate() {
+        set_number(answer, k, sum);
+    }
+    Ok(())
 }
 
 #[allow(clippy::too_many_arguments)]

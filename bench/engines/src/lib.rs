@@ -25,6 +25,19 @@ macro_rules! calls {
             crate::number_of(crate::engine::read::<$index>(state, address, disk, flash, addresses, blocks, block, answer))
         }
         #[allow(clippy::too_many_arguments)]
+        pub fn read_many(
+            state: &mut [u8],
+            asked: &[u32],
+            disk: &mut [u8],
+            flash: &mut [u8],
+            addresses: &mut [u8],
+            blocks: &mut [u8],
+            buffer: &mut [u8],
+            answer: &mut [u8],
+        ) -> u32 {
+            crate::number_of(crate::engine::read_many::<$index>(state, asked, disk, flash, addresses, blocks, buffer, answer))
+        }
+        #[allow(clippy::too_many_arguments)]
         pub fn write_through(state: &mut [u8], address: u32, disk: &mut [u8], flash: &mut [u8], addresses: &mut [u8], blocks: &mut [u8], block: &[u8], answer: &mut [u8]) -> u32 {
             crate::number_of(crate::engine::write::<$index>(state, address, disk, flash, addresses, blocks, block, answer, false))
         }

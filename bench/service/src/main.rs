@@ -1,6 +1,7 @@
 //! Times the proved service beside unproved Rust engines in one run, interleaved, on copies of the same boxes: the best of each call, as ratios to the
 //! peer `maps`; whether the bounds are kept; and the rows of README's table, in Markdown.
 mod boxes;
+mod many;
 mod measure;
 #[cfg(not(feature = "double"))]
 mod service;
@@ -108,6 +109,9 @@ impl Bounds {
 /// The most that the service's time may grow with the tables, over the growth of the peer's time.
 const MOST_OF_GROWTH: f64 = 1.1;
 const MOST_AT_WORST: f64 = 140_000.0;
+/// How many times as fast as 64 single calls one call for 64 hits is to be, and one with misses: not slower, but for what two runs differ by.
+const LEAST_OF_HITS: f64 = 5.0;
+const LEAST_OF_MISSES: f64 = 0.97;
 
 fn print_what_is_measured() {
     let sha = if cfg!(feature = "soft") { "portable code (`force-soft`)" } else { "the processor's SHA instructions where it has them" };
@@ -143,6 +147,7 @@ fn main() {
     let small = Group::measured(vec![full(Shape { b: 64, p: 4096, m: 16, d: 8 }), full(Shape { b: 64, p: 4096, m: 1, d: 1 })], 1);
     let by_hand = SAME.iter().flat_map(|same| HELD.map(|held| crafted(Shape { b: 64, ..LARGE }, *same, held))).collect();
     let by_hand = Group::measured(by_hand, 0);
+    let folders = many::all(&large.boxes[FULL]);
     growth();
 
     println!("\nBounds:");
@@ -166,6 +171,11 @@ fn main() {
         let what = format!("worst case: {}, at most {} µs:", SCENARIOS[scenario], micro(MOST_AT_WORST));
         bounds.line(&what, micro(slowest), 0.0 < slowest && slowest <= MOST_AT_WORST);
     }
+    for (k, folder) in folders.iter().enumerate() {
+        let least = if k == 0 { LEAST_OF_HITS } else { LEAST_OF_MISSES };
+        let what = format!("a folder of {}: one call, times as fast as 64 calls, at least {least}:", folder.name);
+        bounds.line(&what, format!("{:.2}", folder.speed()), folder.speed() >= least);
+    }
 
     println!("\nMicroseconds of a call by the service / by {}, and how many times as fast the service is:\n", ENGINES[1]);
     println!("| a call, microseconds: service / peer (speed over the peer's) | {} |\n|---|{}", SCENARIOS[..COLUMNS].join(" | "), "---:|".repeat(COLUMNS));
@@ -175,6 +185,9 @@ fn main() {
         let places = k * HELD.len()..(k + 1) * HELD.len();
         println!("{}", markdown(&format!("B 64, m 1,024, d 256, {same} bytes the same"), |scenario| by_hand.slowest(scenario, places.clone())));
     }
+    println!("\nMicroseconds of 64 reads by the service:\n");
+    println!("| {}: 64 reads, microseconds | one call | 64 calls | speed over that of 64 calls |\n|---|---:|---:|---:|", large.boxes[FULL].name);
+    folders.iter().for_each(|folder| println!("| {} | {} | {} | {:.2} |", folder.name, micro(folder.many), micro(folder.single), folder.speed()));
     if !bounds.kept {
         std::process::exit(1);
     }

@@ -4,6 +4,9 @@ type M = *mut u8;
 
 extern "C" {
     fn mindavehu_read(s: M, sl: usize, address: u32, d: M, dl: usize, f: M, fl: usize, a: M, al: usize, b: M, bl: usize, k: M, kl: usize, w: M, wl: usize) -> u32;
+    fn mindavehu_read_many(
+        s: M, sl: usize, asked: *const u32, count: usize, d: M, dl: usize, f: M, fl: usize, a: M, al: usize, b: M, bl: usize, k: M, kl: usize, w: M, wl: usize,
+    ) -> u32;
     fn mindavehu_write_through(s: M, sl: usize, address: u32, d: M, dl: usize, f: M, fl: usize, a: M, al: usize, b: M, bl: usize, k: P, kl: usize, w: M, wl: usize) -> u32;
     fn mindavehu_write_back(s: M, sl: usize, address: u32, d: M, dl: usize, f: M, fl: usize, a: M, al: usize, b: M, bl: usize, k: P, kl: usize, w: M, wl: usize) -> u32;
     fn mindavehu_write_invalidate(s: M, sl: usize, address: u32, d: M, dl: usize, f: P, fl: usize, a: M, al: usize, b: M, bl: usize, k: P, kl: usize, w: M, wl: usize) -> u32;
@@ -28,4 +31,11 @@ functions! {
     write_invalidate = mindavehu_write_invalidate(s: &mut [u8], as_mut_ptr, address; d: &mut [u8], as_mut_ptr, f: &[u8], as_ptr, a: &mut [u8], as_mut_ptr, b: &mut [u8], as_mut_ptr, k: &[u8], as_ptr, w: &mut [u8], as_mut_ptr);
     flush = mindavehu_flush(s: &mut [u8], as_mut_ptr; d: &mut [u8], as_mut_ptr, f: &[u8], as_ptr, a: &mut [u8], as_mut_ptr, b: &[u8], as_ptr, w: &mut [u8], as_mut_ptr);
     look = mindavehu_look(s: &[u8], as_ptr, address; d: &[u8], as_ptr, f: &[u8], as_ptr, a: &[u8], as_ptr, b: &[u8], as_ptr, w: &mut [u8], as_mut_ptr);
+}
+
+/// The one function that takes a slice of addresses.
+#[allow(clippy::too_many_arguments)]
+pub fn read_many(s: &mut [u8], asked: &[u32], d: &mut [u8], f: &mut [u8], a: &mut [u8], b: &mut [u8], k: &mut [u8], w: &mut [u8]) -> u32 {
+    let [s, d, f, a, b, k, w] = [s, d, f, a, b, k, w].map(|bytes| (bytes.as_mut_ptr(), bytes.len()));
+    unsafe { mindavehu_read_many(s.0, s.1, asked.as_ptr(), asked.len(), d.0, d.1, f.0, f.1, a.0, a.1, b.0, b.1, k.0, k.1, w.0, w.1) }
 }

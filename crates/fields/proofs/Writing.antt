@@ -11,21 +11,23 @@ use Rattle.paper.specs.Cache.{Counters}
 use Rattle.policy.specs.declared.Word.{Word}
 use Rattle.policy.specs.declared.Answer.{Answer}
 use Rattle.policy.specs.declared.Answer.the-variants.{Refused, Answered}
+use Rattle.policy.specs.declared.many.Answer as Many
+use Rattle.policy.specs.declared.many.Answer.the-variants.{Refused as Refusal, Batched}
 use Rattle.look.specs.declared.Place.{Place}
 use Rattle.look.specs.declared.Place.the-variants.{Refused as NoPlace, Flash, Disk}
-use Rattle.policy.specs.Contract.{wordOf, answerOf}
-use Rattle.fields.specs.Fields.{put8, putState, putAnswer, wordNumber, fitting}
-use Rattle.fields.specs.Noted.{Noted, noted, LeftLook, placeIn, opening}
+use Rattle.policy.specs.Contract.{wordOf, answerOf, manyAnswerOf}
+use Rattle.fields.specs.Fields.{put8, putState, putAnswer, putMany, wordNumber, fitting}
+use Rattle.fields.specs.Noted.{Noted, noted, notedMany, LeftLook, placeIn, opening}
 
 -- ---- the lengths
 
-pub fitting-is : (s l : List ℕ) → length s ≡ 72 → eqb (length l) 24 ≡ fitting s l
+pub fitting-is : (n : ℕ) (s l : List ℕ) → length s ≡ 72 → eqb (length l) n ≡ fitting n s l
 unfolding fitting
-fitting-is s l h = rw (eq-eqb (length s) 72 h) refl
+fitting-is n s l h = rw (eq-eqb (length s) 72 h) refl
 
-pub not-fitting : (s l : List ℕ) → (length s ≡ 72 → ⊥) → false ≡ fitting s l
+pub not-fitting : (n : ℕ) (s l : List ℕ) → (length s ≡ 72 → ⊥) → false ≡ fitting n s l
 unfolding fitting
-not-fitting s l h = rw (ne-eqb (length s) 72 h) refl
+not-fitting n s l h = rw (ne-eqb (length s) 72 h) refl
 
 -- ---- what is written of an answer
 
@@ -36,6 +38,14 @@ module _ (a : Answer) (n : ℕ) (k : Counters) (s l : List ℕ) where
   pub noted-served : (w : Word) (f p u : ℕ) (s′ l′ : List ℕ) → a ≡ Answered w f p → s′ ≡ putState n k s → u ≡ wordNumber (wordOf w) → l′ ≡ putAnswer u f p l
       → _≡_ {A = Noted} (record { number = 0; state = s′; answer = l′ }) (noted (answerOf a) n k s l)
   noted-served w f p u s′ l′ e es eu el = rw e (λ i. record { number = 0; state = es i; answer = (el ∙ ap (λ (x : ℕ). putAnswer x f p l) eu) i })
+
+module _ (a : Many.Answer) (n : ℕ) (k : Counters) (s l : List ℕ) where
+  pub many-refused : (number : ℕ) → a ≡ Refusal number → _≡_ {A = Noted} (record { number = number; state = s; answer = l }) (notedMany (manyAnswerOf a) n k s l)
+  many-refused number e = rw e refl
+
+  pub many-served : (h f p m : ℕ) (s′ l′ : List ℕ) → a ≡ Batched h f p m → s′ ≡ putState n k s → l′ ≡ putMany h f p m l
+      → _≡_ {A = Noted} (record { number = 0; state = s′; answer = l′ }) (notedMany (manyAnswerOf a) n k s l)
+  many-served h f p m s′ l′ e es el = rw e (λ i. record { number = 0; state = es i; answer = el i })
 
 -- ---- what is written of a look's place
 

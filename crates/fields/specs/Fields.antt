@@ -38,6 +38,10 @@ putState n k s = put8 64 (k .primaryWrites) (put8 56 (k .flashWrites) (put8 48 (
 unfoldable pub putAnswer : (word second third : ℕ) → List ℕ → List ℕ
 putAnswer word second third l = put8 16 third (put8 8 second (put8 0 word l))
 
+-- the answer of a folder read, 32 bytes: the hits, the flash writes, the primary writes and the fetches
+unfoldable pub putMany : (hits flash primary fetches : ℕ) → List ℕ → List ℕ
+putMany hits flash primary fetches l = put8 24 fetches (put8 16 primary (put8 8 flash (put8 0 hits l)))
+
 -- the numbers of the words
 abbrev pub wordNumber : Word → ℕ
 wordNumber hit = 1
@@ -48,6 +52,6 @@ wordNumber fromCache = 5
 wordNumber fromDisk = 6
 wordNumber done = 7
 
--- the state has 72 bytes, and the answer 24
-unfoldable pub fitting : (state answer : List ℕ) → Bool
-fitting s l = eqb (length s) 72 && eqb (length l) 24
+-- the state has 72 bytes, and the answer n: 24, of a folder read 32
+unfoldable pub fitting : ℕ → (state answer : List ℕ) → Bool
+fitting n s l = eqb (length s) 72 && eqb (length l) n

@@ -1,13 +1,14 @@
--- What is written of an answer, of an opening and of a look's place, in numbers and bytes. Assumes nothing.
+-- What is written of an answer, of a folder read's, of an opening and of a look's place, in numbers and bytes. Assumes nothing.
 use mathlib.Core.Bool.{cond}
 use mathlib.Core.List.{List}
 use Prim.Native.Nat.{ℕ, _*_}
 use lib.Dec.{eqb}
 use Rattle.paper.specs.Cache.{Counters}
 use Rattle.paper.specs.Lent.{Answer, refused, answered}
+use Rattle.paper.specs.BatchLent.{BatchAnswer, batched}
 use Rattle.look.specs.declared.Place.{Place}
 use Rattle.look.specs.declared.Place.the-variants.{Refused, Flash, Disk}
-use Rattle.fields.specs.Fields.{put8, putState, putAnswer, wordNumber}
+use Rattle.fields.specs.Fields.{put8, putState, putAnswer, putMany, wordNumber}
 
 -- ---- what an answer of the paper is in numbers and bytes
 
@@ -34,6 +35,23 @@ pub record Noted : Type 0 where
 
 abbrev pub noted : Answer → ℕ → Counters → (state answer : List ℕ) → Noted
 noted a n c s l = record { number = numberOf a; state = stateAfter a n c s; answer = answerAfter a l }
+
+-- ---- a folder read
+
+abbrev pub manyNumberOf : BatchAnswer → ℕ
+manyNumberOf (BatchAnswer.refused k) = k
+manyNumberOf (batched h f p n) = 0
+
+abbrev pub manyStateAfter : BatchAnswer → ℕ → Counters → List ℕ → List ℕ
+manyStateAfter (BatchAnswer.refused k) n c s = s
+manyStateAfter (batched h f p m) n c s = putState n c s
+
+abbrev pub manyAnswerAfter : BatchAnswer → List ℕ → List ℕ
+manyAnswerAfter (BatchAnswer.refused k) l = l
+manyAnswerAfter (batched h f p n) l = putMany h f p n l
+
+abbrev pub notedMany : BatchAnswer → ℕ → Counters → (state answer : List ℕ) → Noted
+notedMany a n c s l = record { number = manyNumberOf a; state = manyStateAfter a n c s; answer = manyAnswerAfter a l }
 
 -- ---- opening
 

@@ -7,17 +7,18 @@ use parts::BoxRecord;
 use policy::Answer;
 use policy::Word;
 use policy::calls::Outcome;
+use policy::many;
 use tables::SourceAddress;
 ghost use mathlib.Core.Path.{_≡_};
 ghost use Prim.Native.Nat.{_+_, _*_, _≤_, _<_, _^_};
 ghost use lib.ListN.{length};
 ghost use Rattle.refusals.specs.Given.{countersOf};
-ghost use Rattle.policy.specs.Contract.{wordOf, answerOf};
+ghost use Rattle.policy.specs.Contract.{wordOf, answerOf, manyAnswerOf};
 ghost use Rattle.open.specs.Contract.{numberOf};
 ghost use Rattle.block.specs.Blocks.{splice};
 ghost use Rattle.tables.specs.Rows.{le8};
-ghost use Rattle.fields.specs.Fields.{lowBytes, recordIn, countersIn, putState, putAnswer, wordNumber, fitting};
-ghost use Rattle.fields.specs.Noted.{noted, opening, startOf, placeIn};
+ghost use Rattle.fields.specs.Fields.{lowBytes, recordIn, countersIn, putState, putAnswer, putMany, wordNumber, fitting};
+ghost use Rattle.fields.specs.Noted.{noted, notedMany, opening, startOf, placeIn};
 
 // A byte, widened.
 fn wide(x: u8) -> u64
@@ -59,14 +60,14 @@ pub fn put8(s: &mut [u8], at: usize, v: u64)
     block::put(&w, s, at);
 }
 
-// Whether the state has 72 bytes and the answer 24.
-pub fn fit(state: &[u8], answer: &[u8]) -> bool
-    ensures { λ r. ⌜ r ≡ fitting (now (state .entry)) (now (answer .entry)) ⌝ }
+// Whether the state has 72 bytes and the answer `n`.
+pub fn fit(n: usize, state: &[u8], answer: &[u8]) -> bool
+    ensures { λ r. ⌜ r ≡ fitting n (now (state .entry)) (now (answer .entry)) ⌝ }
 {
     if state.len() != 72 {
         return false;
     }
-    answer.len() == 24
+    answer.len() == n
 }
 
 // The box record in the state.
@@ -118,6 +119,17 @@ pub fn put_answer(answer: &mut [u8], word: u64, second: usize, third: usize)
     put8(answer, 16, third as u64);
 }
 
+// Writes the four numbers of a folder read's answer.
+pub fn put_many(answer: &mut [u8], hits: usize, flash: usize, primary: usize, fetches: usize)
+    requires { ⌜ length (now answer) ≡ 32 ⌝ }
+    ensures { λ _. ⌜ now (answer .exit) ≡ putMany hits flash primary fetches (now (answer .entry)) ⌝ }
+{
+    put8(answer, 0, hits as u64);
+    put8(answer, 8, flash as u64);
+    put8(answer, 16, primary as u64);
+    put8(answer, 24, fetches as u64);
+}
+
 // The number of a word.
 pub fn word_number(w: Word) -> u64
     ensures { λ r. ⌜ r ≡ wordNumber (wordOf w) ⌝ }
@@ -147,6 +159,25 @@ pub fn write_outcome(state: &mut [u8], answer: &mut [u8], o: Outcome) -> u32
         Answer::Answered(w, f, p) => {
             put_state(state, b.held, c);
             put_answer(answer, word_number(w), f, p);
+            0
+        }
+    }
+}
+
+// The same of a folder read.
+pub fn write_many(state: &mut [u8], answer: &mut [u8], o: many::Outcome) -> u32
+    requires { ⌜ (length (now state) ≡ 72) × (length (now answer) ≡ 32) ⌝ }
+    ensures { λ r. ⌜ record { number = r; state = now (state .exit); answer = now (answer .exit) }
+        ≡ notedMany (manyAnswerOf (o .answer)) (o .box_record .held) (countersOf (o .counters)) (now (state .entry)) (now (answer .entry)) ⌝ }
+{
+    let a = o.answer;
+    let b = o.box_record;
+    let c = o.counters;
+    match a {
+        many::Answer::Refused(k) => k,
+        many::Answer::Batched(h, f, p, n) => {
+            put_state(state, b.held, c);
+            put_many(answer, h, f, p, n);
             0
         }
     }

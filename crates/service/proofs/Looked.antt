@@ -65,7 +65,7 @@ module _ (B a : ℕ) (flash disk l : List ℕ) (h : length l ≡ 24) (bB : B < 2
 
 module _ (a : ℕ) (s disk flash addresses blocks l : List ℕ) where
   -- a wrong length: nothing is changed
-  pub not-looked : fitting s l ≡ false → _≡_ {A = LeftLook} (record { number = 2; answer = l }) (leavesLook a s disk flash addresses blocks l)
+  pub not-looked : fitting 24 s l ≡ false → _≡_ {A = LeftLook} (record { number = 2; answer = l }) (leavesLook a s disk flash addresses blocks l)
   unfolding leavesLook
   not-looked h = rw h refl
 
@@ -79,7 +79,7 @@ module _ (a : ℕ) (s disk flash addresses blocks l : List ℕ) where
         let k = countersOf (countersIn s) in
         starts b flash disk a p (subst (PartIn b flash disk a) (sym (ep k)) (where-in b disk flash addresses blocks k a ba bb)) lf ld
 
-    module _ (h : fitting s l ≡ true) (number : ℕ) (l′ : List ℕ) (e : _≡_ {A = LeftLook} (record { number = number; answer = l′ }) (placeIn (b .size) a l p)) where
+    module _ (h : fitting 24 s l ≡ true) (number : ℕ) (l′ : List ℕ) (e : _≡_ {A = LeftLook} (record { number = number; answer = l′ }) (placeIn (b .size) a l p)) where
       written : _≡_ {A = LeftLook} (record { number = number; answer = l′ }) (placeIn (recordIn s .size) a l p)
       written = e ∙ ap (λ (x : BoxRecord). placeIn (x .size) a l p) eb
 

@@ -11,13 +11,15 @@ use borrow.Author.Tests.{eq-eqb, eqb-true, eqb-false}
 use Rattle.paper.specs.KeyedLaws.{and-left, by-test}
 use Rattle.paper.specs.Cache.{Numbers, Word, noCounts}
 use Rattle.paper.specs.Lent.{Lent, Ask, refused, answered, After, calling, opening, refusal, call, served, lentOf, opened, fresh, unopened}
+use Rattle.paper.specs.BatchLent.{BatchAnswer, batched, BatchAfter, batchRefusal, batchedFrom, servedBatch, callBatch}
+use Rattle.paper.specs.BatchLentLaws.{batch-finds, batch-served, batch-keeps, batch-lent, batch-leaves, batch-fits}
 use Rattle.paper.specs.RefusalLaws.{served-is, keeps, opened-is, refused-opening}
 use Rattle.paper.specs.CallLaws.{In64, served-finds, served-lent, outcome, outcome-sound, counters-stay}
 use Rattle.parts.specs.Rep.{numbersOf}
 use Rattle.refusals.specs.Given.{countersOf, lent}
 use Rattle.fields.specs.Fields.{get8, put8, recordIn, countersIn, putState, fitting}
 use Rattle.fields.specs.FieldLaws.{get8-below, length-put8, get8-put8, get8-before, get8-after, length-putState, record-back, counters-back}
-use Rattle.service.specs.Left.{lentIn, toldIn, leaves, freshRecord, openedIn, leavesOpen}
+use Rattle.service.specs.Left.{lentIn, toldIn, leaves, toldManyIn, leavesMany, freshRecord, openedIn, leavesOpen}
 
 -- the state has its length, the four numbers are as they were, and n, the buffers and the counters are the paper's
 pub record Carries (state disk flash addresses blocks : List ℕ) (N : Numbers) (t : Lent) : Type 0 where
@@ -50,6 +52,19 @@ module _ (s : List ℕ) (h : length s ≡ 72) where
     next-refused k disk flash addresses blocks e el =
         rw e (record { long = h; numbers = refl; lent = subst (λ (t : Lent). lentIn s (t .disk) (t .flash) (t .addresses) (t .blocks) ≡ t) (sym el) refl })
 
+  -- the same of a folder read
+  module _ (l : List ℕ) (x : BatchAfter) where
+    many-served : (h f p n : ℕ) → x .answer ≡ batched h f p n → x .lent .n < 2 ^ 64 → In64 (x .lent .counters)
+        → (let z = toldManyIn s l x in Carries (z .state) (z .disk) (z .flash) (z .addresses) (z .blocks) (numbersOf (recordIn s)) (x .lent))
+    unfolding toldManyIn
+    many-served h f p n e bn bk = rw e (written (x .lent) bn bk)
+
+    many-refused : (k : ℕ) (disk flash addresses blocks : List ℕ) → x .answer ≡ BatchAnswer.refused k → x .lent ≡ lentIn s disk flash addresses blocks
+        → (let z = toldManyIn s l x in Carries (z .state) (z .disk) (z .flash) (z .addresses) (z .blocks) (numbersOf (recordIn s)) (x .lent))
+    unfolding toldManyIn
+    many-refused k disk flash addresses blocks e el =
+        rw e (record { long = h; numbers = refl; lent = subst (λ (t : Lent). lentIn s (t .disk) (t .flash) (t .addresses) (t .blocks) ≡ t) (sym el) refl })
+
 -- counters of eight bytes each have 64 bits
 in64 : (s : List ℕ) → ((i : ℕ) → getD s i 0 < 256) → In64 (countersOf (countersIn s))
 in64 s b = record { reads = get8-below s 40 b; hits = get8-below s 48 b; flashWrites = get8-below s 56 b; primaryWrites = get8-below s 64 b }
@@ -68,11 +83,11 @@ served-word : (N : Numbers) (t : Lent) (q : Ask) → refusal N t (calling q) ≡
 unfolding served
 served-word N t q e = ap (λ (x : After). x .answer) (served-is N t q e)
 
-module _ (q : Ask) (s disk flash addresses blocks l : List ℕ) (h : fitting s l ≡ true) where
-  seventy-two : length s ≡ 72
-  unfolding fitting
-  seventy-two = eqb-true (length s) 72 (and-left (eqb (length s) 72) (eqb (length l) 24) h)
+seventy-two : (n : ℕ) (s l : List ℕ) → fitting n s l ≡ true → length s ≡ 72
+unfolding fitting
+seventy-two n s l h = eqb-true (length s) 72 (and-left (eqb (length s) 72) (eqb (length l) n) h)
 
+module _ (q : Ask) (s disk flash addresses blocks l : List ℕ) (h : fitting 24 s l ≡ true) where
   -- after a call the bytes carry what the paper's call left, served or refused, where the counters have 64 bits
   pub carried-64 : In64 (countersOf (countersIn s))
       → (let z = leaves q s disk flash addresses blocks l in Carries (z .state) (z .disk) (z .flash) (z .addresses) (z .blocks) (numbersOf (recordIn s))
@@ -84,15 +99,45 @@ module _ (q : Ask) (s disk flash addresses blocks l : List ℕ) (h : fitting s l
       rw h
       (by-test (eqb (refusal N t (calling q)) 0)
       (λ y. let e = eqb-true (refusal N t (calling q)) 0 y in
-      next-served s seventy-two l (call N t q) _ _ _ (served-word N t q e) (held-below N t q e) (counters-stay N t q b))
+      next-served s (seventy-two 24 s l h) l (call N t q) _ _ _ (served-word N t q e) (held-below N t q e) (counters-stay N t q b))
       (λ y. let k = keeps N t q (eqb-false (refusal N t (calling q)) 0 y) in
-      next-refused s seventy-two l (call N t q) _ disk flash addresses blocks (k .answer) (k .lent)))
+      next-refused s (seventy-two 24 s l h) l (call N t q) _ disk flash addresses blocks (k .answer) (k .lent)))
 
   -- they have where the state is of bytes
   pub carried : ((i : ℕ) → getD s i 0 < 256)
       → (let z = leaves q s disk flash addresses blocks l in Carries (z .state) (z .disk) (z .flash) (z .addresses) (z .blocks) (numbersOf (recordIn s))
       ((call (numbersOf (recordIn s)) (lentIn s disk flash addresses blocks) q) .lent))
   carried bytes = carried-64 (in64 s bytes)
+
+-- a folder read holds at most m addresses
+many-below : (N : Numbers) (t : Lent) (q f : List ℕ) → batchRefusal N t q f ≡ 0 → (callBatch N t q f) .lent .n < 2 ^ 64
+unfolding lentOf
+many-below N t q f e =
+    let m = batch-finds N t q f e .fits .m-most in
+    let few = batch-leaves N t q f e .0 .few in
+    let n = ap (λ (x : Lent). x .n) (batch-lent N t q f e) in
+    omega arith
+
+many-answer : (N : Numbers) (t : Lent) (q f : List ℕ) → batchRefusal N t q f ≡ 0
+    → (let o = batchedFrom N t q in (callBatch N t q f) .answer ≡ batched (o .hits) (o .flashWrites) (o .primaryWrites) (o .fetches))
+unfolding servedBatch
+many-answer N t q f e = ap (λ (x : BatchAfter). x .answer) (batch-served N t q f e)
+
+module _ (q f s disk flash addresses blocks l : List ℕ) (h : fitting 32 s l ≡ true) where
+  -- after a folder read they carry what the paper's left, served or refused
+  pub carried-many : In64 (countersOf (countersIn s))
+      → (let z = leavesMany q f s disk flash addresses blocks l in Carries (z .state) (z .disk) (z .flash) (z .addresses) (z .blocks) (numbersOf (recordIn s))
+      ((callBatch (numbersOf (recordIn s)) (lentIn s disk flash addresses blocks) q f) .lent))
+  unfolding leavesMany
+  carried-many b =
+      let N = numbersOf (recordIn s) in
+      let t = lentIn s disk flash addresses blocks in
+      rw h
+      (by-test (eqb (batchRefusal N t q f) 0)
+      (λ y. let e = eqb-true (batchRefusal N t q f) 0 y in
+      many-served s (seventy-two 32 s l h) l (callBatch N t q f) _ _ _ _ (many-answer N t q f e) (many-below N t q f e) (batch-fits N t q f e))
+      (λ y. let k = batch-keeps N t q f (eqb-false (batchRefusal N t q f) 0 y) in
+      many-refused s (seventy-two 32 s l h) l (callBatch N t q f) _ disk flash addresses blocks (k .answer) (k .lent)))
 
 -- after an opening they carry the fresh box, or where it is refused what was given, with n = 0
 module _ (s disk flash addresses blocks : List ℕ) (h : length s ≡ 72) where

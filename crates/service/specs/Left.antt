@@ -9,13 +9,14 @@ use lib.Dec.{eqb}
 use lib.ListN.{length}
 use Rattle.block.specs.Blocks.{part}
 use Rattle.paper.specs.Lent.{Lent, Ask, Answer, refused, answered, After, lentBlock, call}
+use Rattle.paper.specs.BatchLent.{BatchAfter, callBatch}
 use Rattle.parts.specs.declared.BoxRecord.{BoxRecord}
 use Rattle.parts.specs.Rep.{numbersOf}
 use Rattle.refusals.specs.Given.{countersOf, lent}
 use Rattle.open.specs.Contract.{Opened, opens}
 use Rattle.look.specs.Look.{whereIs}
 use Rattle.fields.specs.Fields.{get8, recordIn, countersIn, wordNumber, fitting}
-use Rattle.fields.specs.Noted.{numberOf, stateAfter, answerAfter, opening, LeftLook, placeIn}
+use Rattle.fields.specs.Noted.{numberOf, stateAfter, answerAfter, manyNumberOf, manyStateAfter, manyAnswerAfter, opening, LeftLook, placeIn}
 
 -- what is lent, of the state's bytes and the four buffers
 abbrev pub lentIn : (state disk flash addresses blocks : List ℕ) → Lent
@@ -51,9 +52,42 @@ toldIn s l x =
 -- A state that isn't 72 bytes or an answer that isn't 24: 2, and nothing is changed.
 unfoldable pub leaves : Ask → (state disk flash addresses blocks answer : List ℕ) → Left
 leaves q s disk flash addresses blocks l =
-    cond (fitting s l)
+    cond (fitting 24 s l)
     (toldIn s l (call (numbersOf (recordIn s)) (lentIn s disk flash addresses blocks) q))
     (record { number = 2; state = s; disk = disk; flash = flash; addresses = addresses; blocks = blocks; block = lentBlock q; answer = l })
+
+-- ---- a folder read
+
+-- what it leaves: the number it returns and every buffer lent to it
+pub record LeftMany : Type 0 where
+  pub number : ℕ
+  pub state : List ℕ
+  pub disk : List ℕ
+  pub flash : List ℕ
+  pub addresses : List ℕ
+  pub blocks : List ℕ
+  pub buffer : List ℕ
+  pub answer : List ℕ
+
+unfoldable pub toldManyIn : (state answer : List ℕ) → BatchAfter → LeftMany
+toldManyIn s l x =
+    record {
+      number = manyNumberOf (x .answer);
+      state = manyStateAfter (x .answer) (x .lent .n) (x .lent .counters) s;
+      disk = x .lent .disk;
+      flash = x .lent .flash;
+      addresses = x .lent .addresses;
+      blocks = x .lent .blocks;
+      buffer = x .buffer;
+      answer = manyAnswerAfter (x .answer) l;
+    }
+
+-- A state that isn't 72 bytes or an answer that isn't 32: 2, and nothing is changed.
+unfoldable pub leavesMany : (asked buffer state disk flash addresses blocks answer : List ℕ) → LeftMany
+leavesMany q f s disk flash addresses blocks l =
+    cond (fitting 32 s l)
+    (toldManyIn s l (callBatch (numbersOf (recordIn s)) (lentIn s disk flash addresses blocks) q f))
+    (record { number = 2; state = s; disk = disk; flash = flash; addresses = addresses; blocks = blocks; buffer = f; answer = l })
 
 -- ---- opening
 
@@ -86,7 +120,7 @@ leavesOpen s disk flash addresses blocks =
 
 unfoldable pub leavesLook : ℕ → (state disk flash addresses blocks answer : List ℕ) → LeftLook
 leavesLook a s disk flash addresses blocks l =
-    cond (fitting s l)
+    cond (fitting 24 s l)
     (placeIn (recordIn s .size) a l (whereIs (numbersOf (recordIn s)) (lentIn s disk flash addresses blocks) a))
     (record { number = 2; answer = l })
 

@@ -1,7 +1,7 @@
 -- Demand 3 of the running engine: from an opening in C that is not refused, for every list of C calls, each with an answer's buffer of its own, of any
 -- length, what each call returns and leaves is the paper's, and `Demand3` holds of the list. The calls are given by what their contracts say. Assumes nothing.
 use mathlib.Core.Path.{_≡_, refl, sym, ap, _∙_, subst, subst₂}
-use mathlib.Core.Bool.{true, false, cond}
+use mathlib.Core.Bool.{Bool, true, false, cond}
 use mathlib.Core.List.{List, [], _∷_}
 use Prim.Native.Nat.{ℕ}
 use native.Mathlib.Omega.{arith}
@@ -12,23 +12,30 @@ use Rattle.paper.specs.KeyedLaws.{by-test}
 use Rattle.paper.specs.Cache.{Numbers}
 use Rattle.paper.specs.Lent.{Lent, Ask, opening, refusal, lentBlock, call, opened, fresh}
 use Rattle.paper.specs.RefusalLaws.{opened-is}
-use Rattle.paper.specs.CallLaws.{In64, counters-stay}
+use Rattle.paper.specs.BatchLent.{Asking, one, many, callBatch}
+use Rattle.paper.specs.CallLaws.{In64}
 use Rattle.paper.specs.Demand3.{next, Demand3}
-use Rattle.paper.specs.Demand3Laws.{demand-3, Written, opened-written, call-written, look-stays}
+use Rattle.paper.specs.Demand3Laws.{demand-3, Written, opened-written, next-written, next-64, look-stays}
 use Rattle.parts.specs.Rep.{numbersOf}
 use Rattle.refusals.specs.Given.{countersOf, lent}
 use Rattle.fields.specs.Fields.{recordIn, countersIn, fitting}
 use Rattle.fields.specs.Noted.{LeftLook}
-use Rattle.service.specs.Left.{lentIn, toldIn, Left, leaves, freshRecord, openedIn, leavesOpen, leavesLook, Shows}
-use Rattle.service.specs.Carried.{Carries, carried-64, carried-open}
+use Rattle.service.specs.Left.{lentIn, toldIn, Left, leaves, LeftMany, toldManyIn, leavesMany, freshRecord, openedIn, leavesOpen, leavesLook, Shows}
+use Rattle.service.specs.Carried.{Carries, carried-64, carried-many, carried-open}
 
--- a C call: what is asked, and the answer's buffer
-pub record Made : Type 0 where
-  pub ask : Ask
-  pub answer : List ℕ
+-- a C call: what is asked, and the answer's buffer; or the addresses and the buffer of a folder read, and the answer's buffer
+pub data Made : Type 0 where
+  single : Ask → (answer : List ℕ) → Made
+  folder : (asked buffer answer : List ℕ) → Made
 
-abbrev pub made : Ask → List ℕ → Made
-made q l = record { ask = q; answer = l }
+abbrev pub askedBy : Made → Asking
+askedBy (single q l) = one q
+askedBy (folder q f l) = many q f
+
+-- the answer's buffer has its length: 24 bytes, of a folder read 32
+abbrev pub fitsIts : Made → Bool
+fitsIts (single q l) = eqb (length l) 24
+fitsIts (folder q f l) = eqb (length l) 32
 
 -- what passes from call to call
 pub record Kept : Type 0 where
@@ -70,7 +77,7 @@ Returns N t y q l = leftBy y q l ≡ cond (eqb (length l) 24) (toldIn (y .state)
 abbrev pub LookGives : ℕ → Kept → List ℕ → ℕ → List ℕ → Type 0
 LookGives a y l r k =
     (record { number = r; answer = k } ≡ leavesLook a (y .state) (y .disk) (y .flash) (y .addresses) (y .blocks) l)
-    × (fitting (y .state) l ≡ true
+    × (fitting 24 (y .state) l ≡ true
     → Shows r k (lentIn (y .state) (y .disk) (y .flash) (y .addresses) (y .blocks))
     (call (numbersOf (recordIn (y .state))) (lentIn (y .state) (y .disk) (y .flash) (y .addresses) (y .blocks)) (Ask.look a)))
 
@@ -97,18 +104,54 @@ keptBy y (Ask.back a x) l = keptOf (leftBy y (Ask.back a x) l)
 keptBy y (Ask.invalidate a x) l = keptOf (leftBy y (Ask.invalidate a x) l)
 keptBy y (Ask.flush n) l = keptOf (leftBy y (Ask.flush n) l)
 
--- the paper's list has the calls whose answer's buffer is of 24 bytes; the others do nothing
-abbrev pub nextBy : Numbers → Lent → Made → Lent
-nextBy N t c = cond (eqb (length (c .answer)) 24) (next N t (c .ask)) t
+-- ---- a folder read
 
-unfoldable pub asksOf : List Made → List Ask
+abbrev pub leftMany : Kept → (asked buffer answer : List ℕ) → LeftMany
+leftMany y q f l = leavesMany q f (y .state) (y .disk) (y .flash) (y .addresses) (y .blocks) l
+
+abbrev pub keptMany : LeftMany → Kept
+keptMany z = record { state = z .state; disk = z .disk; flash = z .flash; addresses = z .addresses; blocks = z .blocks }
+
+-- nothing is changed, and 2 returned
+abbrev pub untoldMany : Kept → (buffer answer : List ℕ) → LeftMany
+untoldMany y f l =
+    record {
+      number = 2;
+      state = y .state;
+      disk = y .disk;
+      flash = y .flash;
+      addresses = y .addresses;
+      blocks = y .blocks;
+      buffer = f;
+      answer = l;
+    }
+
+-- it returns and leaves what the paper's on t does
+abbrev pub ReturnsMany : Numbers → Lent → Kept → (asked buffer answer : List ℕ) → Type 0
+ReturnsMany N t y q f l = leftMany y q f l ≡ cond (eqb (length l) 32) (toldManyIn (y .state) l (callBatch N t q f)) (untoldMany y f l)
+
+-- ---- a call of either kind
+
+abbrev pub SaysIts : Numbers → Lent → Kept → Made → Type 0
+SaysIts N t y (single q l) = Says N t y q l
+SaysIts N t y (folder q f l) = ReturnsMany N t y q f l
+
+abbrev pub keptIts : Kept → Made → Kept
+keptIts y (single q l) = keptBy y q l
+keptIts y (folder q f l) = keptMany (leftMany y q f l)
+
+-- the paper's list has the calls whose answer's buffer has its length; the others do nothing
+abbrev pub nextBy : Numbers → Lent → Made → Lent
+nextBy N t c = cond (fitsIts c) (next N t (askedBy c)) t
+
+unfoldable pub asksOf : List Made → List Asking
 asksOf [] = []
-asksOf (c ∷ cs) = cond (eqb (length (c .answer)) 24) (c .ask ∷ asksOf cs) (asksOf cs)
+asksOf (c ∷ cs) = cond (fitsIts c) (askedBy c ∷ asksOf cs) (asksOf cs)
 
 -- each call of the list returns and leaves the paper's, and the bytes carry the paper's state on
 unfoldable pub Follows : Numbers → Lent → Kept → List Made → Type 0
 Follows N t y [] = CarriesIn y N t
-Follows N t y (c ∷ cs) = CarriesIn y N t × Says N t y (c .ask) (c .answer) × Follows N (nextBy N t c) (keptBy y (c .ask) (c .answer)) cs
+Follows N t y (c ∷ cs) = CarriesIn y N t × SaysIts N t y c × Follows N (nextBy N t c) (keptIts y c) cs
 
 module _ (N : Numbers) where
   returns : (t : Lent) (y : Kept) (q : Ask) (l : List ℕ) → CarriesIn y N t → Returns N t y q l
@@ -116,21 +159,21 @@ module _ (N : Numbers) where
   returns t y q l k =
       rw (eq-eqb (length (y .state)) 72 (k .long)) (by-test (eqb (length l) 24) (λ z. rw (z, k .numbers, k .lent) refl) (λ z. rw z refl))
 
-  -- an answer of 24 bytes fits, one of another length does not
-  fit-24 : (y : Kept) (l : List ℕ) → length (y .state) ≡ 72 → eqb (length l) 24 ≡ true → fitting (y .state) l ≡ true
+  -- an answer of its length fits, one of another length does not
+  fit-is : (n : ℕ) (y : Kept) (l : List ℕ) → length (y .state) ≡ 72 → eqb (length l) n ≡ true → fitting n (y .state) l ≡ true
   unfolding fitting
-  fit-24 y l e z = rw (eq-eqb (length (y .state)) 72 e, z) refl
+  fit-is n y l e z = rw (eq-eqb (length (y .state)) 72 e, z) refl
 
-  unfit-24 : (y : Kept) (l : List ℕ) → length (y .state) ≡ 72 → eqb (length l) 24 ≡ false → fitting (y .state) l ≡ false
+  unfit-is : (n : ℕ) (y : Kept) (l : List ℕ) → length (y .state) ≡ 72 → eqb (length l) n ≡ false → fitting n (y .state) l ≡ false
   unfolding fitting
-  unfit-24 y l e z = rw (eq-eqb (length (y .state)) 72 e, z) refl
+  unfit-is n y l e z = rw (eq-eqb (length (y .state)) 72 e, z) refl
 
   -- what a call leaves then
-  left-untold : (y : Kept) (q : Ask) (l : List ℕ) → fitting (y .state) l ≡ false → leftBy y q l ≡ untold y q l
+  left-untold : (y : Kept) (q : Ask) (l : List ℕ) → fitting 24 (y .state) l ≡ false → leftBy y q l ≡ untold y q l
   unfolding leaves
   left-untold y q l z = rw z refl
 
-  look-untold : (y : Kept) (a : ℕ) (l : List ℕ) → fitting (y .state) l ≡ false
+  look-untold : (y : Kept) (a : ℕ) (l : List ℕ) → fitting 24 (y .state) l ≡ false
       → leavesLook a (y .state) (y .disk) (y .flash) (y .addresses) (y .blocks) l ≡ record { number = 2; answer = l }
   unfolding leavesLook
   look-untold y a l z = rw z refl
@@ -138,9 +181,9 @@ module _ (N : Numbers) where
   look-returns : (t : Lent) (y : Kept) (a : ℕ) (l : List ℕ) → CarriesIn y N t
       → (r : ℕ) (k : List ℕ) → LookGives a y l r k → LookReturns N t a l r k
   look-returns t y a l c r k g = (
-    λ z. subst₂ (λ (M : Numbers) (x : Lent). Shows r k x (call M x (Ask.look a))) (c .numbers) (c .lent) (g .1 (fit-24 y l (c .long) z)),
+    λ z. subst₂ (λ (M : Numbers) (x : Lent). Shows r k x (call M x (Ask.look a))) (c .numbers) (c .lent) (g .1 (fit-is 24 y l (c .long) z)),
     λ z.
-        let e = g .0 ∙ look-untold y a l (unfit-24 y l (c .long) z) in
+        let e = g .0 ∙ look-untold y a l (unfit-is 24 y l (c .long) z) in
         (ap (λ (x : LeftLook). x .number) e, ap (λ (x : LeftLook). x .answer) e),
   )
 
@@ -154,14 +197,14 @@ module _ (N : Numbers) where
 
   -- the bytes carry on what a call leaves
   carry : (t : Lent) (y : Kept) (q : Ask) (l : List ℕ) → CarriesIn y N t → In64 (t .counters) → eqb (length l) 24 ≡ true
-      → CarriesIn (keptOf (leftBy y q l)) N (next N t q)
+      → CarriesIn (keptOf (leftBy y q l)) N (next N t (one q))
   carry t y q l k b z =
       subst₂ (λ (M : Numbers) (x : Lent). CarriesIn (keptOf (leftBy y q l)) M ((call M x q) .lent)) (k .numbers) (k .lent)
-      (carried-64 q (y .state) (y .disk) (y .flash) (y .addresses) (y .blocks) l (fit-24 y l (k .long) z)
+      (carried-64 q (y .state) (y .disk) (y .flash) (y .addresses) (y .blocks) l (fit-is 24 y l (k .long) z)
       (subst (λ (x : Lent). In64 (x .counters)) (sym (k .lent)) b))
 
   carries-on : (t : Lent) (y : Kept) (q : Ask) (l : List ℕ) → CarriesIn y N t → In64 (t .counters) → Written N t → eqb (length l) 24 ≡ true
-      → CarriesIn (keptBy y q l) N (next N t q)
+      → CarriesIn (keptBy y q l) N (next N t (one q))
   carries-on t y (Ask.look a) l k b w z = subst (λ (x : Lent). CarriesIn y N x) (sym (look-stays N t a w)) k
   carries-on t y (Ask.read a x) l k b w z = carry t y (Ask.read a x) l k b z
   carries-on t y (Ask.through a x) l k b w z = carry t y (Ask.through a x) l k b z
@@ -171,7 +214,7 @@ module _ (N : Numbers) where
 
   -- a call with an answer of another length changes nothing
   unchanged : (t : Lent) (y : Kept) (q : Ask) (l : List ℕ) → CarriesIn y N t → eqb (length l) 24 ≡ false → keptOf (leftBy y q l) ≡ y
-  unchanged t y q l k z = ap keptOf (left-untold y q l (unfit-24 y l (k .long) z))
+  unchanged t y q l k z = ap keptOf (left-untold y q l (unfit-is 24 y l (k .long) z))
 
   stays : (t : Lent) (y : Kept) (q : Ask) (l : List ℕ) → CarriesIn y N t → eqb (length l) 24 ≡ false → keptBy y q l ≡ y
   stays t y (Ask.look a) l k z = refl
@@ -181,16 +224,46 @@ module _ (N : Numbers) where
   stays t y (Ask.invalidate a x) l k z = unchanged t y (Ask.invalidate a x) l k z
   stays t y (Ask.flush n) l k z = unchanged t y (Ask.flush n) l k z
 
+  -- the same of a folder read
+  returns-many : (t : Lent) (y : Kept) (q f l : List ℕ) → CarriesIn y N t → ReturnsMany N t y q f l
+  unfolding leavesMany fitting
+  returns-many t y q f l k =
+      rw (eq-eqb (length (y .state)) 72 (k .long)) (by-test (eqb (length l) 32) (λ z. rw (z, k .numbers, k .lent) refl) (λ z. rw z refl))
+
+  carry-many : (t : Lent) (y : Kept) (q f l : List ℕ) → CarriesIn y N t → In64 (t .counters) → eqb (length l) 32 ≡ true
+      → CarriesIn (keptMany (leftMany y q f l)) N (next N t (many q f))
+  carry-many t y q f l k b z =
+      subst₂ (λ (M : Numbers) (x : Lent). CarriesIn (keptMany (leftMany y q f l)) M ((callBatch M x q f) .lent)) (k .numbers) (k .lent)
+      (carried-many q f (y .state) (y .disk) (y .flash) (y .addresses) (y .blocks) l (fit-is 32 y l (k .long) z)
+      (subst (λ (x : Lent). In64 (x .counters)) (sym (k .lent)) b))
+
+  left-many : (y : Kept) (q f l : List ℕ) → fitting 32 (y .state) l ≡ false → leftMany y q f l ≡ untoldMany y f l
+  unfolding leavesMany
+  left-many y q f l z = rw z refl
+
+  -- of a call of either kind
+  says-its : (t : Lent) (y : Kept) (c : Made) → CarriesIn y N t → SaysIts N t y c
+  says-its t y (single q l) k = says t y q l k
+  says-its t y (folder q f l) k = returns-many t y q f l k
+
+  carries-its : (t : Lent) (y : Kept) (c : Made) → CarriesIn y N t → In64 (t .counters) → Written N t → fitsIts c ≡ true
+      → CarriesIn (keptIts y c) N (next N t (askedBy c))
+  carries-its t y (single q l) k b w z = carries-on t y q l k b w z
+  carries-its t y (folder q f l) k b w z = carry-many t y q f l k b z
+
+  stays-its : (t : Lent) (y : Kept) (c : Made) → CarriesIn y N t → fitsIts c ≡ false → keptIts y c ≡ y
+  stays-its t y (single q l) k z = stays t y q l k z
+  stays-its t y (folder q f l) k z = ap keptMany (left-many y q f l (unfit-is 32 y l (k .long) z))
+
   follows : (t : Lent) (y : Kept) (cs : List Made) → CarriesIn y N t → In64 (t .counters) → Written N t → Follows N t y cs
   unfolding Follows
   follows t y [] k b w = k
   follows t y (c ∷ cs) k b w = (
     k,
-    says t y (c .ask) (c .answer) k,
-    by-test (eqb (length (c .answer)) 24)
-        (λ z. rw z (follows (next N t (c .ask)) (keptBy y (c .ask) (c .answer)) cs (carries-on t y (c .ask) (c .answer) k b w z)
-        (counters-stay N t (c .ask) b) (call-written N t (c .ask) w)))
-        (λ z. rw z (subst (λ (x : Kept). Follows N t x cs) (sym (stays t y (c .ask) (c .answer) k z)) (follows t y cs k b w))),
+    says-its t y c k,
+    by-test (fitsIts c)
+        (λ z. rw z (follows (next N t (askedBy c)) (keptIts y c) cs (carries-its t y c k b w z) (next-64 N t (askedBy c) b) (next-written N t (askedBy c) w)))
+        (λ z. rw z (subst (λ (x : Kept). Follows N t x cs) (sym (stays-its t y c k z)) (follows t y cs k b w))),
   )
 
 module _ (s disk flash addresses blocks : List ℕ) (cs : List Made) (h : length s ≡ 72) where

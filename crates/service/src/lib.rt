@@ -9,7 +9,7 @@ ghost use Rattle.paper.specs.Lent.{Ask, call};
 ghost use Rattle.parts.specs.Rep.{numbersOf};
 ghost use Rattle.policy.specs.Contract.{askOf};
 ghost use Rattle.fields.specs.Fields.{recordIn, fitting};
-ghost use Rattle.service.specs.Left.{lentIn, leaves, leavesOpen, leavesLook, Shows};
+ghost use Rattle.service.specs.Left.{lentIn, leaves, leavesMany, leavesOpen, leavesLook, Shows};
 
 // Reads the block at `address` into `block`.
 #[no_mangle]
@@ -36,7 +36,7 @@ pub extern "C" fn mindavehu_read(
         ≡ leaves (Ask.read address (now (block .entry))) (now (state .entry)) (now (disk .entry)) (now (flash .entry)) (now (addresses .entry))
         (now (blocks .entry)) (now (answer .entry)) ⌝ }
 {
-    if !fields::fit(state, answer) {
+    if !fields::fit(24, state, answer) {
         return 2;
     }
     let b = fields::record_in(state);
@@ -52,6 +52,40 @@ pub extern "C" fn mindavehu_read(
         block,
     );
     fields::write_outcome(state, answer, o)
+}
+
+// Reads the block at each address of `asked`, in turn, into its place of `buffer`.
+#[no_mangle]
+pub extern "C" fn mindavehu_read_many(
+    state: &mut [u8],
+    asked: &[u32],
+    disk: &mut [u8],
+    flash: &mut [u8],
+    addresses: &mut [u8],
+    blocks: &mut [u8],
+    buffer: &mut [u8],
+    answer: &mut [u8],
+) -> u32
+    ensures { λ r. ⌜ record {
+      number = r;
+      state = now (state .exit);
+      disk = now (disk .exit);
+      flash = now (flash .exit);
+      addresses = now (addresses .exit);
+      blocks = now (blocks .exit);
+      buffer = now (buffer .exit);
+      answer = now (answer .exit);
+    }
+        ≡ leavesMany (now (asked .entry)) (now (buffer .entry)) (now (state .entry)) (now (disk .entry)) (now (flash .entry)) (now (addresses .entry))
+        (now (blocks .entry)) (now (answer .entry)) ⌝ }
+{
+    if !fields::fit(32, state, answer) {
+        return 2;
+    }
+    let b = fields::record_in(state);
+    let c = fields::counters_in(state);
+    let o = policy::many::read_many(b, asked, disk, flash, addresses, blocks, c, buffer);
+    fields::write_many(state, answer, o)
 }
 
 // Writes `block`, by the kind of the write.
@@ -79,7 +113,7 @@ fn write(
         ≡ leaves (askOf kind address (now (block .entry))) (now (state .entry)) (now (disk .entry)) (now (flash .entry)) (now (addresses .entry))
         (now (blocks .entry)) (now (answer .entry)) ⌝ }
 {
-    if !fields::fit(state, answer) {
+    if !fields::fit(24, state, answer) {
         return 2;
     }
     let b = fields::record_in(state);
@@ -268,7 +302,7 @@ pub extern "C" fn mindavehu_flush(
         ≡ leaves (Ask.flush (recordIn (now (state .entry)) .rows)) (now (state .entry)) (now (disk .entry)) (now (flash .entry)) (now (addresses .entry))
         (now (blocks .entry)) (now (answer .entry)) ⌝ }
 {
-    if !fields::fit(state, answer) {
+    if !fields::fit(24, state, answer) {
         return 2;
     }
     let b = fields::record_in(state);
@@ -291,12 +325,12 @@ pub extern "C" fn mindavehu_look(
     ensures { λ r. ⌜ record { number = r; answer = now (answer .exit) }
         ≡ leavesLook address (now (state .entry)) (now (disk .entry)) (now (flash .entry)) (now (addresses .entry)) (now (blocks .entry))
         (now (answer .entry)) ⌝ }
-    ensures { λ r. ⌜ (fitting (now (state .entry)) (now (answer .entry)) ≡ true
+    ensures { λ r. ⌜ (fitting 24 (now (state .entry)) (now (answer .entry)) ≡ true
         → Shows r (now (answer .exit)) (lentIn (now (state .entry)) (now (disk .entry)) (now (flash .entry)) (now (addresses .entry)) (now (blocks .entry)))
         (call (numbersOf (recordIn (now (state .entry)))) (lentIn (now (state .entry)) (now (disk .entry)) (now (flash .entry)) (now (addresses .entry))
         (now (blocks .entry))) (Ask.look address))) ⌝ }
 {
-    if !fields::fit(state, answer) {
+    if !fields::fit(24, state, answer) {
         return 2;
     }
     let b = fields::record_in(state);

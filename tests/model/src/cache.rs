@@ -65,6 +65,15 @@ pub struct Answer {
     pub second: u64,
 }
 
+/// The answer of one call for a folder. A fetch is a block that a read of it has taken from the disk.
+#[derive(Clone, Copy, Debug, Default, PartialEq, Eq)]
+pub struct ManyAnswer {
+    pub hits: u64,
+    pub flash: u64,
+    pub primary: u64,
+    pub fetches: u64,
+}
+
 #[derive(Clone, Copy, Debug, PartialEq, Eq)]
 pub struct Held {
     pub fingerprint: Fingerprint,
@@ -124,13 +133,12 @@ impl Cache {
         if call.takes_address() && address as usize >= self.p {
             return Err(3);
         }
-        let Counters { reads, hits, flash, primary } = self.counters;
-        if call != Call::Look && [reads, hits, flash, primary].iter().any(|counter| *counter > MOST_COUNTED) {
+        if call != Call::Look && self.counter_too_large() {
             return Err(9);
         }
         Ok(match call {
             Call::Open => panic!("opening makes a cache"),
-            Call::Read => self.read(address, block),
+            Call::Read => self.read(address, block, None),
             Call::Through => self.write(address, block, false, true),
             Call::Back => self.write(address, block, true, false),
             Call::Invalidate => self.invalidate(address, block),
@@ -140,7 +148,52 @@ impl Cache {
         })
     }
 
-    fn read(&mut self, a: u32, block: &mut Vec<u8>) -> Answer {
+    /// One call for a folder (document 02, U2): the reads of these addresses in turn, their blocks one behind the other in `buffer`.
+    pub fn read_many(&mut self, asked: &[u32], buffer: &mut Vec<u8>) -> Result<ManyAnswer, u32> {
+        // Numbers of 128 bits, in which no product is too large.
+        if buffer.len() as u128 != asked.len() as u128 * self.b as u128 {
+            return Err(2);
+        }
+        // "It refuses with 10 an empty list or one above 64, checked after 2, and with 3 if any address is too large."
+        if asked.is_empty() || asked.len() > MOST_ASKED {
+            return Err(10);
+        }
+        if asked.iter().any(|address| *address as usize >= self.p) {
+            return Err(3);
+        }
+        // "with 9 checked only before the first"
+        if self.counter_too_large() {
+            return Err(9);
+        }
+        let mut answer = ManyAnswer::default();
+        let mut first_blocks: HashMap<u32, Vec<u8>> = HashMap::new();
+        buffer.clear();
+        for a in asked {
+            // "a repeat that misses takes the block that its address's first read put in the buffer"
+            let first = first_blocks.get(a).cloned();
+            let repeat = first.is_some();
+            let mut block = Vec::new();
+            let Answer { word, first: flash, second: primary } = self.read(*a, &mut block, first);
+            answer.hits += (word == HIT) as u64;
+            answer.flash += flash;
+            answer.primary += primary;
+            // "A disk fetch is made for the first read of each distinct address in the list exactly where that read is a miss"
+            answer.fetches += (word == MISS && !repeat) as u64;
+            buffer.extend(&block);
+            if !repeat {
+                first_blocks.insert(*a, block);
+            }
+        }
+        Ok(answer)
+    }
+
+    fn counter_too_large(&self) -> bool {
+        let Counters { reads, hits, flash, primary } = self.counters;
+        [reads, hits, flash, primary].iter().any(|counter| *counter > MOST_COUNTED)
+    }
+
+    /// A read. Where it misses, it takes the block that is given, or that of the disk where none is.
+    fn read(&mut self, a: u32, block: &mut Vec<u8>, given: Option<Vec<u8>>) -> Answer {
         let known = self.held.get(&a).copied().filter(|row| self.slots.contains_key(&row.fingerprint));
         let (word, writes) = match known {
             Some(row) => {
@@ -148,7 +201,7 @@ impl Cache {
                 (HIT, self.step(a, row.fingerprint, block, row.dirty))
             }
             None => {
-                *block = self.disk.block(a as usize).to_vec();
+                *block = given.unwrap_or_else(|| self.disk.block(a as usize).to_vec());
                 (MISS, self.step(a, fingerprint(block), block, false))
             }
         };

@@ -15,6 +15,30 @@ pub struct Lent {
     pub answer: Vec<u8>,
 }
 
+/// What one call for a folder is lent beside a box, whose block and answer it leaves alone.
+#[derive(Clone, Debug, PartialEq, Eq)]
+pub struct Folder {
+    pub asked: Vec<u32>,
+    pub buffer: Vec<u8>,
+    pub answer: Vec<u8>,
+}
+
+impl Folder {
+    /// Where this differs from what was expected.
+    pub fn difference(&self, expected: &Folder) -> Option<String> {
+        let place = |one: &[u8], two: &[u8]| one.iter().zip(two).position(|(x, y)| x != y).unwrap_or(one.len().min(two.len()));
+        if self.asked != expected.asked {
+            Some("the list of addresses".to_string())
+        } else if self.buffer != expected.buffer {
+            Some(format!("buffer: byte {}", place(&self.buffer, &expected.buffer)))
+        } else if self.answer != expected.answer {
+            Some(format!("answer: {:?} where {:?} is expected", self.answer, expected.answer))
+        } else {
+            None
+        }
+    }
+}
+
 /// The state in numbers, all of 64 bits.
 #[derive(Clone, Copy, Debug, PartialEq, Eq)]
 pub struct Numbers {
@@ -122,13 +146,12 @@ fn one(numbers: &Numbers) -> bool {
 }
 
 /// Asked after 1, so that no product is too large.
-fn two(call: Call, numbers: &Numbers, lent: &Lent) -> bool {
+fn two(numbers: &Numbers, lent: &Lent) -> bool {
     let wrong = |bytes: &Vec<u8>, length: u64| bytes.len() as u64 != length;
     wrong(&lent.disk, numbers.p * numbers.b)
         || wrong(&lent.flash, numbers.d * numbers.b)
         || wrong(&lent.addresses, numbers.m * ROW as u64)
         || wrong(&lent.blocks, numbers.d * ROW as u64)
-        || call.takes_block() && wrong(&lent.block, numbers.b)
 }
 
 fn six(numbers: &Numbers, rows: &[AddressRow], bytes: &[u8]) -> bool {
@@ -167,17 +190,44 @@ pub fn refusal(call: Call, address: u32, lent: &Lent) -> u32 {
         return 2;
     }
     let numbers = lent.numbers();
+    let own = |number: u32| match number {
+        2 => call.takes_block() && lent.block.len() as u64 != numbers.b,
+        _ => address as u64 >= numbers.p,
+    };
+    first_of(call.checks(), lent, own)
+}
+
+/// The number with which one call for a folder is refused, 0 where it is served. A state or an answer of another length comes before all.
+pub fn refusal_many(lent: &Lent, folder: &Folder) -> u32 {
+    if lent.state.len() != STATE || folder.answer.len() != MANY_ANSWER {
+        return 2;
+    }
+    let numbers = lent.numbers();
+    let count = folder.asked.len();
+    let own = |number: u32| match number {
+        // In numbers of 128 bits, in which no product is too large.
+        2 => folder.buffer.len() as u128 != count as u128 * numbers.b as u128,
+        10 => count == 0 || count > MOST_ASKED,
+        _ => folder.asked.iter().any(|address| *address as u64 >= numbers.p),
+    };
+    first_of(&MANY_CHECKS, lent, own)
+}
+
+/// The first of these checks that applies, 0 where none does. `own` is the call's own part of 2, of 3 and of 10.
+fn first_of(checks: &[u32], lent: &Lent, own: impl Fn(u32) -> bool) -> u32 {
+    let numbers = lent.numbers();
     let (rows, blocks) = read_tables(lent);
     let applies = |number: &&u32| match **number {
         1 => one(&numbers),
-        2 => two(call, &numbers, lent),
-        3 => address as u64 >= numbers.p,
+        2 => two(&numbers, lent) || own(2),
+        3 => own(3),
         6 => six(&numbers, &rows, &lent.addresses),
         7 => seven(&numbers, &blocks),
         8 => eight(&numbers, &rows, &blocks),
-        _ => numbers.counters.iter().any(|counter| *counter > MOST_COUNTED),
+        9 => numbers.counters.iter().any(|counter| *counter > MOST_COUNTED),
+        _ => own(10),
     };
-    call.checks().iter().find(applies).copied().unwrap_or(0)
+    checks.iter().find(applies).copied().unwrap_or(0)
 }
 
 /// Carries a call out on lent bytes: gives the number of the refusal or 0, and leaves in every buffer what it must hold afterwards.
@@ -204,6 +254,29 @@ pub fn carry_out(call: Call, address: u32, lent: &mut Lent) -> u32 {
     cache.store(lent);
     lent.answer = answer.to_bytes();
     0
+}
+
+/// The same for one call for a folder.
+pub fn carry_out_many(lent: &mut Lent, folder: &mut Folder) -> u32 {
+    let number = refusal_many(lent, folder);
+    if number == 0 {
+        let mut cache = Cache::load(lent);
+        let answer = cache.read_many(&folder.asked, &mut folder.buffer).expect("every refusal has been asked for");
+        cache.store(lent);
+        folder.answer = answer.to_bytes();
+    }
+    number
+}
+
+impl ManyAnswer {
+    pub fn to_bytes(self) -> Vec<u8> {
+        [self.hits, self.flash, self.primary, self.fetches].iter().flat_map(|number| number.to_le_bytes()).collect()
+    }
+
+    pub fn from_bytes(bytes: &[u8]) -> ManyAnswer {
+        let [hits, flash, primary, fetches] = std::array::from_fn(|k| u64::from_le_bytes(bytes[k * 8..k * 8 + 8].try_into().unwrap()));
+        ManyAnswer { hits, flash, primary, fetches }
+    }
 }
 
 impl Answer {

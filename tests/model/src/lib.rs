@@ -1,13 +1,14 @@
 //! The cache of documents 01 and 02 in maps and queues, made from the documents alone, to compare an engine over tables with.
 //!
 //! `Cache` runs calls from a fresh box. `Lent` is a box in bytes, any bytes: `carry_out` gives what a call must answer and what every buffer
-//! must hold after it. `machines` has the two machines that the document compares a list of calls with.
+//! must hold after it. The call that reads a folder of addresses is lent a `Folder` beside the box: `Cache::read_many`, `carry_out_many`.
+//! `machines` has the two machines that the document compares a list of calls with.
 mod cache;
 mod lent;
 pub mod machines;
 
-pub use cache::{Answer, Cache, Counters};
-pub use lent::{carry_out, read_tables, refusal, AddressRow, BlockRow, Lent, Numbers};
+pub use cache::{Answer, Cache, Counters, ManyAnswer};
+pub use lent::{carry_out, carry_out_many, read_tables, refusal, refusal_many, AddressRow, BlockRow, Folder, Lent, Numbers};
 
 use sha2::{Digest, Sha256};
 
@@ -26,6 +27,11 @@ pub const MOST_COUNTED: u64 = 1 << 63;
 pub const ROW: usize = 40;
 pub const STATE: usize = 72;
 pub const ANSWER: usize = 24;
+/// The answer of one call for a folder, and the most addresses of it.
+pub const MANY_ANSWER: usize = 32;
+pub const MOST_ASKED: usize = 64;
+/// The refusals that one call for a folder checks, in the order of the documents.
+pub const MANY_CHECKS: [u32; 8] = [1, 2, 10, 3, 6, 7, 8, 9];
 
 #[derive(Clone, Copy, Debug, PartialEq, Eq, Hash)]
 pub enum Call {

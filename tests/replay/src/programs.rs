@@ -1,7 +1,7 @@
 //! The built programs: the proved replay, and the trainer's program of the states, which is compiled here through the header.
 use std::io::{ErrorKind, Write};
 use std::path::{Path, PathBuf};
-use std::process::{Command, Stdio};
+use std::process::{Command, Output, Stdio};
 use std::sync::OnceLock;
 use std::time::Duration;
 
@@ -12,7 +12,7 @@ pub fn root() -> PathBuf {
 /// A program that reads standard input and writes standard output.
 pub struct Program {
     path: PathBuf,
-    words: Vec<&'static str>,
+    words: Vec<String>,
 }
 
 /// How an input is written: at once, or in pieces of so many bytes with a pause after each, as far as the pauses last.
@@ -33,26 +33,36 @@ impl Program {
     }
 
     /// The program of the states, with the compiler's options and its own.
-    pub fn states(build: &'static Build, words: &[&'static str]) -> Program {
-        Program { path: build.path().to_owned(), words: words.to_vec() }
+    pub fn states(build: &'static Build, words: &[&str]) -> Program {
+        Program { path: build.path().to_owned(), words: words.iter().map(|word| word.to_string()).collect() }
     }
 
     /// The script that makes a page of the states' output.
-    pub fn page(title: &'static str) -> Program {
-        Program { path: root().join("trainer/page.py"), words: vec![title] }
+    pub fn page(title: &str) -> Program {
+        Program { path: root().join("trainer/page.py"), words: vec![title.to_string()] }
     }
 
     /// Starts the program, gives it the input and takes its output. It must end well and say nothing on standard error.
     pub fn run(&self, input: &[u8], writing: Writing) -> Vec<u8> {
-        let mut child = Command::new(&self.path).args(&self.words).stdin(Stdio::piped()).stdout(Stdio::piped()).stderr(Stdio::piped()).spawn().unwrap();
-        let stdin = child.stdin.take().unwrap();
-        let done = std::thread::scope(|scope| {
-            scope.spawn(|| write(stdin, input, writing));
-            child.wait_with_output().unwrap()
-        });
+        let done = self.done(input, writing);
         let said = String::from_utf8_lossy(&done.stderr);
         assert!(done.status.success() && said.is_empty(), "{} ended with {} and said: {said}", self.path.display(), done.status);
         done.stdout
+    }
+
+    /// The same where it need not end well: the status, the output, and what it said on standard error.
+    pub fn ended(&self, input: &[u8]) -> (Option<i32>, Vec<u8>, String) {
+        let done = self.done(input, Writing::Whole);
+        (done.status.code(), done.stdout, String::from_utf8_lossy(&done.stderr).into_owned())
+    }
+
+    fn done(&self, input: &[u8], writing: Writing) -> Output {
+        let mut child = Command::new(&self.path).args(&self.words).stdin(Stdio::piped()).stdout(Stdio::piped()).stderr(Stdio::piped()).spawn().unwrap();
+        let stdin = child.stdin.take().unwrap();
+        std::thread::scope(|scope| {
+            scope.spawn(|| write(stdin, input, writing));
+            child.wait_with_output().unwrap()
+        })
     }
 }
 

@@ -1,5 +1,5 @@
 //! What the program of the states must print, from the model's box. A held row's content is found by its fingerprint, not by where its block is.
-use crate::follow;
+use crate::{follow, lines};
 use model::{fingerprint, read_tables, Cache, Fingerprint, Lent};
 use std::collections::HashMap;
 
@@ -79,4 +79,42 @@ fn written(input: &[u8], full: bool, parts: bool) -> String {
 /// The lines of the replay in an output of the states.
 pub fn without_states(output: &str) -> String {
     output.split_inclusive('\n').filter(|line| !line.starts_with(' ')).collect()
+}
+
+/// Addresses as the option of the states' program takes them.
+pub fn option(asked: &[u32]) -> String {
+    asked.iter().map(|a| a.to_string()).collect::<Vec<_>>().join(",")
+}
+
+/// The whole output of the program of the states with `--folder`: the list, then the folder by one call and read by read.
+pub fn folder(input: &[u8], asked: &[u32]) -> String {
+    let mut output = states(input, false);
+    let (mut last, mut calls) = (None, 0);
+    follow(input, |_, line, cache| {
+        last = cache.cloned();
+        calls += line.is_some() as usize;
+    });
+    // A refused box line ends all.
+    let Some(mut cache) = last else { return output };
+    let name = if asked.is_empty() { "none".to_string() } else { joined(asked.iter()) };
+    let mut buffer = vec![0; asked.len() * cache.b];
+    output += &format!("folder {name}, one call\n");
+    let contents = Contents::of(cache.b);
+    let answer = match cache.read_many(asked, &mut buffer) {
+        Err(number) => return output + &format!("{} refused {number}\n{}", calls + 1, state(&cache, &contents)),
+        Ok(answer) => answer,
+    };
+    let model::ManyAnswer { hits, flash, primary, fetches } = answer;
+    let read = format!("    contents {}\n", joined(buffer.chunks_exact(cache.b).map(|block| block[0])));
+    let sums = format!("{}\n", crate::counters(&cache));
+    output += &format!("{} folder hits {hits} flash {flash} primary {primary} fetches {fetches}\n{read}{}{sums}", calls + 1, state(&cache, &contents));
+    // Read by read: what the list prints when it has the reads as its last lines, without what it prints for the others.
+    let reads: Vec<u8> = asked.iter().flat_map(|a| format!("R {a}\n").into_bytes()).collect();
+    let longer = states(&[&lines(input).join(&b'\n')[..], b"\n", &reads].concat(), false);
+    let (before, all) = (states(input, false).lines().count() - 2, longer.lines().count() - 2);
+    let each: String = longer.split_inclusive('\n').take(all).skip(before).collect();
+    let sums = longer.lines().nth(all).unwrap();
+    let misses = asked.len() as u64 - hits;
+    output += &format!("folder {name}, read by read\n{each}{read}{sums}\n");
+    output + &format!("the same contents, tables, flash, disk and counters\nblocks fetched from disk: {fetches} by one call, {misses} read by read\n")
 }

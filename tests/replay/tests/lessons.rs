@@ -63,15 +63,16 @@ fn a_flush_in_parts() {
     println!("the lesson of a flush in parts, {} lines", written.lines().count());
 }
 
-/// What the pages show is what the programs print: README.md has the states of each list in one piece, week.md those of the week with its tale
-/// between them.
+/// What the pages show is what the programs print: README.md has the states of each list in one piece, the page of a lesson that has its own (week.md,
+/// folder.md) those of its list with the tale between them.
 #[test]
 fn as_the_pages_tell_them() {
-    let [readme, week] = ["README.md", "week.md"].map(|name| std::fs::read_to_string(root().join("lessons").join(name)).unwrap());
+    let page = |name: &str| std::fs::read_to_string(root().join("lessons").join(name)).ok();
+    let readme = page("README.md").unwrap();
     let lessons = lessons();
     for (name, input, _) in &lessons {
         let shown = states::states(input, false);
-        let told = if name == "week" { in_order(&week, &shown) } else { readme.contains(&format!("```\n{shown}```\n")) };
+        let told = page(&format!("{name}.md")).map_or_else(|| readme.contains(&format!("```\n{shown}```\n")), |own| in_order(&own, &shown));
         assert!(told && readme.contains(&format!("({name}.txt)")), "lessons/ does not tell {name} as it is:\n{shown}");
     }
     println!("{} lessons in the pages of lessons/, state by state", lessons.len());

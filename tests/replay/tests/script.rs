@@ -42,15 +42,27 @@ fn states_and_page() {
     println!("./replay --states, --parts and --page, of a file and of standard input");
 }
 
+#[test]
+fn a_folder() {
+    let expected = |asked: &[u32]| replay::states::folder(stored("lessons/folder.txt").as_bytes(), asked);
+    assert_eq!(written(&["--folder", "1,4,1", "folder.txt"], None), expected(&[1, 4, 1]));
+    assert_eq!(written(&["--folder", "0"], Some("folder.txt")), expected(&[0]));
+    assert_eq!(written(&["--folder", "", "folder.txt"], None), expected(&[]));
+    println!("./replay --folder, of a file and of standard input");
+}
+
 /// Nothing on standard output, the words on standard error, and the status.
 #[test]
 fn what_cannot_be_done() {
-    let cases: [(&[&str], i32, &str); 5] = [
+    let cases: [(&[&str], i32, &str); 8] = [
         (&["no-such-list.txt"], 1, "there is no file no-such-list.txt"),
         (&["--states", "no-such-list.txt"], 1, "there is no file no-such-list.txt"),
         (&["."], 1, ". is a folder, not a list of requests"),
         (&["--stats", "week.txt"], 2, "unknown option --stats"),
         (&["week.txt", "refused-3.txt"], 2, "more than one file is named"),
+        (&["--folder"], 2, "--folder wants the addresses of the folder"),
+        (&["--folder", "folder.txt"], 2, "this is no such list: folder.txt"),
+        (&["--folder", "1, 2", "folder.txt"], 2, "with commas between them and no spaces"),
     ];
     for (words, status, message) in cases {
         let done = script(words, None);

@@ -1,6 +1,6 @@
 //! Random boxes in bytes: fresh ones, sound ones that no list of calls need reach, each way of breaking one, and any bytes.
 use common::Random;
-use model::{fingerprint, read_tables, AddressRow, BlockRow, Call, Fingerprint, Lent, Numbers, ANSWER, BLOCK_SIZES, MOST_COUNTED, ROW};
+use model::{fingerprint, read_tables, AddressRow, BlockRow, Call, Fingerprint, Folder, Lent, Numbers, ANSWER, BLOCK_SIZES, MANY_ANSWER, MOST_COUNTED, ROW};
 use std::collections::HashSet;
 
 pub fn fill(random: &mut Random, bytes: &mut [u8]) {
@@ -182,6 +182,31 @@ pub fn sound_at(random: &mut Random, shape: Shape, place: Option<usize>) -> Lent
     lent.state = Numbers { n: n as u64, counters, ..shape.numbers() }.to_bytes();
     lent.block = contents.one(random).clone();
     lent
+}
+
+/// How many addresses a folder has: mostly few, now and then any number up to 70, or one at an edge of what is served.
+pub fn folder_count(random: &mut Random) -> usize {
+    match random.below(8) {
+        0 => random.below(71),
+        1 => pick(random, &[0, 1, 63, 64, 65]),
+        _ => 1 + random.below(12),
+    }
+}
+
+/// A folder of `count` addresses, each one of these, in memory of any bytes.
+pub fn folder(random: &mut Random, addresses: &[u32], b: usize, count: usize) -> Folder {
+    Folder { asked: (0..count).map(|_| pick(random, addresses)).collect(), buffer: bytes(random, count * b), answer: bytes(random, MANY_ANSWER) }
+}
+
+/// One to six addresses of a box for a folder to repeat. About half of them are held, where any are.
+pub fn few_addresses(random: &mut Random, lent: &Lent) -> Vec<u32> {
+    let Numbers { p, n, .. } = lent.numbers();
+    let (rows, _) = read_tables(lent);
+    let one = |random: &mut Random| match random.below(2) {
+        0 if n > 0 => rows[random.below(n as usize)].address,
+        _ => random.below(p as usize) as u32,
+    };
+    (0..1 + random.below(6)).map(|_| one(random)).collect()
 }
 
 /// The ways of breaking a call's input.

@@ -1,5 +1,5 @@
 //! The service's C functions, on boxes in bytes.
-use model::{Call, Lent};
+use model::{Call, Folder, Lent};
 
 type P = *const u8;
 type M = *mut u8;
@@ -7,6 +7,9 @@ type M = *mut u8;
 extern "C" {
     fn mindavehu_open(s: M, sl: usize, d: P, dl: usize, f: P, fl: usize, a: M, al: usize, b: M, bl: usize) -> u32;
     fn mindavehu_read(s: M, sl: usize, address: u32, d: M, dl: usize, f: M, fl: usize, a: M, al: usize, b: M, bl: usize, k: M, kl: usize, w: M, wl: usize) -> u32;
+    fn mindavehu_read_many(
+        s: M, sl: usize, asked: *const u32, count: usize, d: M, dl: usize, f: M, fl: usize, a: M, al: usize, b: M, bl: usize, k: M, kl: usize, w: M, wl: usize,
+    ) -> u32;
     fn mindavehu_write_through(s: M, sl: usize, address: u32, d: M, dl: usize, f: M, fl: usize, a: M, al: usize, b: M, bl: usize, k: P, kl: usize, w: M, wl: usize) -> u32;
     fn mindavehu_write_back(s: M, sl: usize, address: u32, d: M, dl: usize, f: M, fl: usize, a: M, al: usize, b: M, bl: usize, k: P, kl: usize, w: M, wl: usize) -> u32;
     fn mindavehu_write_invalidate(s: M, sl: usize, address: u32, d: M, dl: usize, f: P, fl: usize, a: M, al: usize, b: M, bl: usize, k: P, kl: usize, w: M, wl: usize) -> u32;
@@ -41,35 +44,78 @@ fn on_slices(call: Call, address: u32, [state, disk, flash, addresses, blocks, b
     }
 }
 
+/// With the folder's buffer and answer in the places of the lent block and the answer.
+fn many_on_slices(asked: &[u32], mut buffers: Buffers) -> u32 {
+    let [s, d, f, a, b, k, w] = buffers.each_mut().map(|bytes| bytes.as_mut_ptr());
+    let [sl, dl, fl, al, bl, kl, wl] = buffers.map(|bytes| bytes.len());
+    // SAFETY: each pointer comes with the length of its own slice.
+    unsafe { mindavehu_read_many(s, sl, asked.as_ptr(), asked.len(), d, dl, f, fl, a, al, b, bl, k, kl, w, wl) }
+}
+
 /// Calls the service on a box. The address is not used by an opening and a flush.
 pub fn call(call: Call, address: u32, lent: &mut Lent) -> u32 {
     on_slices(call, address, buffers(lent))
 }
 
+/// One call for a folder. The box's own block and answer are not lent to it.
+pub fn call_many(lent: &mut Lent, folder: &mut Folder) -> u32 {
+    let Lent { state, disk, flash, addresses, blocks, .. } = lent;
+    many_on_slices(&folder.asked, [state, disk, flash, addresses, blocks, &mut folder.buffer, &mut folder.answer])
+}
+
 const GUARD: usize = 32;
 
-/// The same with every buffer at a place `shift` bytes (below 32) off, between bytes that must keep their values.
-pub fn call_guarded(call: Call, address: u32, lent: &mut Lent, shift: usize) -> u32 {
-    let mut lifted: Vec<Vec<u8>> = buffers(lent)
-        .iter()
-        .enumerate()
-        .map(|(k, bytes)| {
-            let mut wide = vec![0xA5; bytes.len() + 3 * GUARD];
+/// Buffers copied to places `shift` bytes (below 32) off, between bytes that must keep their values.
+struct Lifted {
+    wide: Vec<Vec<u8>>,
+    inside: Vec<std::ops::Range<usize>>,
+}
+
+impl Lifted {
+    fn new(buffers: &Buffers, shift: usize) -> Lifted {
+        let mut lifted = Lifted { wide: Vec::new(), inside: Vec::new() };
+        for (k, bytes) in buffers.iter().enumerate() {
             let start = GUARD + (shift + 3 * k) % GUARD;
+            let mut wide = vec![0xA5; bytes.len() + 3 * GUARD];
             wide[start..start + bytes.len()].copy_from_slice(bytes);
-            wide
-        })
-        .collect();
-    let lengths = buffers(lent).map(|bytes| bytes.len());
-    let start = |k: usize| GUARD + (shift + 3 * k) % GUARD;
-    let mut slices = lifted.iter_mut().enumerate().map(|(k, wide)| &mut wide[start(k)..start(k) + lengths[k]]);
-    let number = on_slices(call, address, std::array::from_fn(|_| slices.next().unwrap()));
-    drop(slices);
-    for (k, bytes) in buffers(lent).into_iter().enumerate() {
-        let (before, rest) = lifted[k].split_at(start(k));
-        let (inside, after) = rest.split_at(lengths[k]);
-        assert!(before.iter().chain(after).all(|byte| *byte == 0xA5), "{call:?} wrote outside buffer {k}");
-        bytes.copy_from_slice(inside);
+            lifted.wide.push(wide);
+            lifted.inside.push(start..start + bytes.len());
+        }
+        lifted
     }
+
+    fn slices(&mut self) -> Buffers<'_> {
+        let mut slices = self.wide.iter_mut().zip(&self.inside).map(|(wide, inside)| &mut wide[inside.clone()]);
+        std::array::from_fn(|_| slices.next().unwrap())
+    }
+
+    /// Copies the bytes back, and looks at those around them.
+    fn put_back(self, buffers: Buffers, name: &str) {
+        for (k, bytes) in buffers.into_iter().enumerate() {
+            let (wide, inside) = (&self.wide[k], self.inside[k].clone());
+            let outside = wide[..inside.start].iter().chain(&wide[inside.end..]);
+            assert!(outside.into_iter().all(|byte| *byte == 0xA5), "{name} wrote outside buffer {k}");
+            bytes.copy_from_slice(&wide[inside]);
+        }
+    }
+}
+
+/// The same as `call` with every buffer lifted.
+pub fn call_guarded(call: Call, address: u32, lent: &mut Lent, shift: usize) -> u32 {
+    let mut lifted = Lifted::new(&buffers(lent), shift);
+    let number = on_slices(call, address, lifted.slices());
+    lifted.put_back(buffers(lent), &format!("{call:?}"));
+    number
+}
+
+/// The same as `call_many` with every buffer lifted. The addresses stay at a multiple of four bytes, between others that the box has not.
+pub fn call_many_guarded(lent: &mut Lent, folder: &mut Folder, shift: usize) -> u32 {
+    let Lent { state, disk, flash, addresses, blocks, .. } = lent;
+    let own: Buffers = [state, disk, flash, addresses, blocks, &mut folder.buffer, &mut folder.answer];
+    let mut lifted = Lifted::new(&own, shift);
+    let start = 1 + shift % 4;
+    let wide = [&vec![u32::MAX; start][..], &folder.asked, &[u32::MAX; 4]].concat();
+    let number = many_on_slices(&wide[start..start + folder.asked.len()], lifted.slices());
+    lifted.put_back(own, "one call for a folder");
     number
 }

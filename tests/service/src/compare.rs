@@ -1,6 +1,6 @@
 //! One call on the service and on the model, with every byte compared.
-use crate::calls::call_guarded;
-use model::{carry_out, Call, Lent, Numbers, STATE};
+use crate::calls::{call_guarded, call_many_guarded};
+use model::{carry_out, carry_out_many, Call, Folder, Lent, Numbers, STATE};
 
 /// Carries a call out on the service and on the model's copy of the box. Gives the number on which both agree.
 pub fn compare(call: Call, address: u32, lent: &mut Lent, shift: usize, context: &dyn Fn() -> String) -> u32 {
@@ -20,6 +20,22 @@ pub fn compare(call: Call, address: u32, lent: &mut Lent, shift: usize, context:
         }
         if let Some(place) = lent.difference(&kept) {
             panic!("refused {call:?} {address} with number {number}: {place}, {}", context());
+        }
+    }
+    given
+}
+
+/// The same for one call for a folder.
+pub fn compare_many(lent: &mut Lent, folder: &mut Folder, shift: usize, context: &dyn Fn() -> String) -> u32 {
+    let before = (lent.clone(), folder.clone());
+    let mut expected = before.clone();
+    let number = carry_out_many(&mut expected.0, &mut expected.1);
+    let given = call_many_guarded(lent, folder, shift);
+    assert_eq!(given, number, "number of the folder {:?}, {}", folder.asked, context());
+    // Said again without the model: a refused call keeps every byte.
+    for (other, what) in [(expected, "the model"), (before, "what it was before")].into_iter().take(1 + (number != 0) as usize) {
+        if let Some(place) = lent.difference(&other.0).or(folder.difference(&other.1)) {
+            panic!("after the folder {:?} with number {number}, against {what}: {place}, {}", folder.asked, context());
         }
     }
     given

@@ -23,6 +23,22 @@ unsafe extern "C" fn mindavehu_read(s: M, sl: usize, address: u32, d: M, dl: usi
     )
 }
 
+#[no_mangle]
+unsafe extern "C" fn mindavehu_read_many(
+    s: M, sl: usize, asked: *const u32, count: usize, d: M, dl: usize, f: M, fl: usize, a: M, al: usize, b: M, bl: usize, k: M, kl: usize, w: M, wl: usize,
+) -> u32 {
+    engines::maps::read_many(
+        from_raw_parts_mut(s, sl),
+        from_raw_parts(asked, count),
+        from_raw_parts_mut(d, dl),
+        from_raw_parts_mut(f, fl),
+        from_raw_parts_mut(a, al),
+        from_raw_parts_mut(b, bl),
+        from_raw_parts_mut(k, kl),
+        from_raw_parts_mut(w, wl),
+    )
+}
+
 macro_rules! writes {
     ($($name:ident $function:ident $flash:ident $slice:ident;)*) => { $(
         #[no_mangle]

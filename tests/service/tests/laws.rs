@@ -2,9 +2,9 @@
 //! The model of the cache takes no part.
 use common::Random;
 use model::machines::{PlainDisk, PrintedDlru};
-use model::{fingerprint, read_tables, Answer, Call, Fingerprint, Lent, CACHE, CALLS, DONE, HIT};
-use service::boxes::{bytes, most, pick, unopened, Contents, Shape};
-use service::calls::call;
+use model::{fingerprint, read_tables, Answer, Call, Fingerprint, Folder, Lent, ManyAnswer, CACHE, CALLS, DONE, HIT};
+use service::boxes::{bytes, folder, folder_count, most, pick, unopened, Contents, Shape};
+use service::calls::{call, call_many};
 use service::progress::{count, seed, Progress};
 use std::collections::{HashMap, HashSet};
 
@@ -47,18 +47,94 @@ fn state_laws(lent: &Lent, plain: &PlainDisk, known: &mut Fingerprints, context:
     assert!(!dirty(lent).is_empty() || plain.is(&lent.disk), "disk where no row is dirty, {context}");
 }
 
-/// A list of all calls beside the plain disk. Gives the calls that were not refused.
-fn beside_plain_disk(random: &mut Random, shape: Shape, length: usize, seed: u64) -> usize {
+/// The single reads of a folder in turn, on a copy of the box before it: one call has left the same in every buffer, and answered their sums. A fetch is
+/// the first read of an address where that misses. Gives the repeats that miss.
+fn as_single_reads(before: &Lent, after: &Lent, many: &Folder, context: &str) -> u64 {
+    let mut single = before.clone();
+    let b = before.numbers().b as usize;
+    let (mut blocks, mut answer, mut seen) = (Vec::new(), ManyAnswer::default(), HashSet::new());
+    for a in &many.asked {
+        single.block = vec![0; b];
+        assert_eq!(call(Call::Read, *a, &mut single), 0, "single read {a}, {context}");
+        let Answer { word, first, second } = Answer::from_bytes(&single.answer);
+        answer.hits += (word == HIT) as u64;
+        answer.flash += first;
+        answer.primary += second;
+        answer.fetches += (seen.insert(*a) && word != HIT) as u64;
+        blocks.extend_from_slice(&single.block);
+    }
+    assert!(many.buffer == blocks, "blocks of the folder, {context}");
+    assert_eq!(ManyAnswer::from_bytes(&many.answer), answer, "answer of the folder, {context}");
+    let misses = many.asked.len() as u64 - answer.hits;
+    assert!(answer.fetches <= misses, "fetches, {context}");
+    // The block and the answer of single reads are no part of the folder's call.
+    (single.block, single.answer) = (after.block.clone(), after.answer.clone());
+    assert_eq!(after.difference(&single), None, "against single reads, {context}");
+    misses - answer.fetches
+}
+
+/// What the lists beside the plain disk have met.
+#[derive(Default)]
+struct Beside {
+    served: usize,
+    folders: usize,
+    missed_repeats: u64,
+}
+
+/// A folder beside the plain disk, which is fed its reads. In such a list only the buffer, the count and an address can be refused.
+fn folder_beside(random: &mut Random, lent: &mut Lent, plain: &mut PlainDisk, beside: &mut Beside, context: &str) {
+    let (b, p) = (lent.numbers().b as usize, lent.numbers().p as usize);
+    let near = 1 + random.below(p.min(12));
+    let mut some: Vec<u32> = (0..near).map(|_| random.below(p) as u32).collect();
+    if random.below(12) == 0 {
+        some.push(p as u32 + random.below(3) as u32);
+    }
+    let count = folder_count(random);
+    let mut many = folder(random, &some, b, count);
+    if random.below(30) == 0 {
+        many.buffer.push(0);
+    }
+    let before = lent.clone();
+    let number = call_many(lent, &mut many);
+    let expected = if many.buffer.len() != count * b {
+        2
+    } else if count == 0 || count > 64 {
+        10
+    } else if many.asked.iter().any(|a| *a as usize >= p) {
+        3
+    } else {
+        0
+    };
+    assert_eq!(number, expected, "{context}");
+    if number != 0 {
+        assert_eq!(lent.difference(&before), None, "refused, {context}");
+        return;
+    }
+    for (a, block) in many.asked.iter().zip(many.buffer.chunks_exact(b)) {
+        assert_eq!(Some(block), plain.feed(Call::Read, *a, &[], false), "block of {a} in the folder, {context}");
+    }
+    beside.missed_repeats += as_single_reads(&before, lent, &many, context);
+    beside.folders += 1;
+    beside.served += 1;
+}
+
+/// A list of all calls beside the plain disk.
+fn beside_plain_disk(random: &mut Random, shape: Shape, length: usize, seed: u64, beside: &mut Beside) {
     let Shape { b, p, d, .. } = shape;
     let pool = 1 + random.below(2 * d + 2);
     let contents = Contents::new(random, b, pool);
     let mut lent = unopened(random, shape, &contents);
     let mut plain = PlainDisk::new(&lent.disk, b);
     let mut known = Fingerprints::default();
-    let mut served = 0;
     assert_eq!(call(Call::Open, 0, &mut lent), 0);
     state_laws(&lent, &plain, &mut known, &format!("{shape:?} fresh, seed {seed}"));
     for turn in 0..length {
+        if random.below(8) == 0 {
+            let context = format!("{shape:?}, call {turn}: a folder, seed {seed}");
+            folder_beside(random, &mut lent, &mut plain, beside, &context);
+            state_laws(&lent, &plain, &mut known, &context);
+            continue;
+        }
         let kind = match random.below(22) {
             0..=6 => Call::Read,
             7..=9 => Call::Through,
@@ -114,36 +190,67 @@ fn beside_plain_disk(random: &mut Random, shape: Shape, length: usize, seed: u64
             assert!(plain.is(&lent.disk), "disk after a flush, {context}");
         }
         state_laws(&lent, &plain, &mut known, &context);
-        served += (number == 0) as usize;
+        beside.served += (number == 0) as usize;
     }
-    served
 }
 
 #[test]
 fn plain_disk_and_orphan_law() {
     let (seed, total) = (seed(401), count(60_000));
     let mut random = Random(seed);
-    let (mut calls, mut served, mut lists) = (0, 0, 0);
+    let (mut calls, mut lists, mut beside) = (0, 0, Beside::default());
     let mut progress = Progress::new("plain disk", total);
     while calls < total {
         let b = pick(&mut random, &[64, 64, 128, 256]);
         let most = pick(&mut random, &[Shape { b, p: 5, m: 4, d: 3 }, Shape { b, p: 20, m: 10, d: 6 }, Shape { b, p: 60, m: 40, d: 24 }]);
         let shape = Shape::below(&mut random, most);
-        served += beside_plain_disk(&mut random, shape, 150, seed);
+        beside_plain_disk(&mut random, shape, 150, seed, &mut beside);
         calls += 150;
         lists += 1;
         progress.at(calls);
     }
     let large = Shape { b: 64, p: 2_000, m: 1_024, d: 256 };
-    served += beside_plain_disk(&mut random, large, 5_000, seed);
+    beside_plain_disk(&mut random, large, 5_000, seed, &mut beside);
     calls += 5_000;
     lists += 1;
+    let Beside { served, folders, missed_repeats } = beside;
+    assert!(folders > 0 && missed_repeats > 0);
+    println!("{folders} folders, with {missed_repeats} repeats that miss, are as their single reads in turn");
     println!("{calls} calls in {lists} lists, {served} served (seed {seed}, {:.1} s)", progress.seconds());
     println!("  blocks returned, and the disk after each full flush and wherever no row is dirty, are the plain disk's");
     println!("  a flush counts the smaller of k and the dirty rows and leaves the newest; the orphan law and the fingerprints hold in every state");
 }
 
-/// Reads, with looks, flushes and refused calls of every kind between them, beside the printed D-LRU. Gives its hits.
+/// The tables have the addresses and the fingerprints of the printed lists, in their order.
+fn same_lists(lent: &Lent, printed: &PrintedDlru, context: &str) {
+    let (rows, blocks) = read_tables(lent);
+    let held = rows[..lent.numbers().n as usize].iter().map(|row| row.address);
+    assert!(held.eq(printed.addresses.iter().copied()), "held addresses, {context}");
+    let cached = blocks.iter().filter(|row| row.used == 1).map(|row| row.fingerprint);
+    assert!(cached.eq(printed.fingerprints.iter().copied()), "cached fingerprints, {context}");
+}
+
+/// A folder beside the printed D-LRU, which is fed its reads; refused now and then. Gives the hits.
+fn folder_beside_printed(random: &mut Random, lent: &mut Lent, printed: &mut PrintedDlru, context: &str) -> usize {
+    let (b, p, m) = (lent.numbers().b as usize, lent.numbers().p as usize, lent.numbers().m as usize);
+    let near = if random.below(3) == 0 { p } else { (m + 2).min(p) };
+    let mut some: Vec<u32> = (0..1 + random.below(16)).map(|_| random.below(near) as u32).collect();
+    if random.below(12) == 0 {
+        some.push(p as u32);
+    }
+    let count = folder_count(random);
+    let mut many = folder(random, &some, b, count);
+    let refused = call_many(lent, &mut many) != 0;
+    assert_eq!(refused, count == 0 || count > 64 || many.asked.iter().any(|a| *a as usize >= p), "{context}");
+    let expected: Vec<Option<bool>> = many.asked.iter().map(|a| printed.feed(*a, refused)).collect();
+    let hits = expected.iter().filter(|hit| **hit == Some(true)).count();
+    if !refused {
+        assert_eq!(ManyAnswer::from_bytes(&many.answer).hits, hits as u64, "hits of {:?}, {context}", many.asked);
+    }
+    hits
+}
+
+/// Reads and folders, with looks, flushes and refused calls of every kind between them, beside the printed D-LRU. Gives its hits.
 fn beside_printed(random: &mut Random, shape: Shape, length: usize, seed: u64) -> usize {
     let Shape { b, p, m, d } = shape;
     let pool = 1 + random.below(3 * d + 2);
@@ -153,6 +260,12 @@ fn beside_printed(random: &mut Random, shape: Shape, length: usize, seed: u64) -
     let mut hits = 0;
     assert_eq!(call(Call::Open, 0, &mut lent), 0);
     for turn in 0..length {
+        if random.below(12) == 0 {
+            let context = format!("{shape:?}, call {turn}: a folder, seed {seed}");
+            hits += folder_beside_printed(random, &mut lent, &mut printed, &context);
+            same_lists(&lent, &printed, &context);
+            continue;
+        }
         let mut kind = match random.below(10) {
             0 => Call::Look,
             1 if random.below(2) == 0 => Call::FlushSome(random.below(m + 2)),
@@ -183,9 +296,7 @@ fn beside_printed(random: &mut Random, shape: Shape, length: usize, seed: u64) -
             assert_eq!(Some(Answer::from_bytes(&lent.answer).word == HIT), hit, "hit, {context}");
             hits += (hit == Some(true)) as usize;
         }
-        let (rows, blocks) = read_tables(&lent);
-        assert!(rows[..lent.numbers().n as usize].iter().map(|row| row.address).eq(printed.addresses.iter().copied()), "held addresses, {context}");
-        assert!(blocks.iter().filter(|row| row.used == 1).map(|row| row.fingerprint).eq(printed.fingerprints.iter().copied()), "cached fingerprints, {context}");
+        same_lists(&lent, &printed, &context);
     }
     hits
 }

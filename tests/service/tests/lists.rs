@@ -1,16 +1,26 @@
 //! Random lists of calls from fresh boxes: after each call every number and every byte is the model's.
 use common::Random;
-use model::{Answer, Cache, Call, Lent, BLOCK_SIZES, CALLS};
-use service::boxes::{most, pick, unopened, Contents, Shape};
-use service::calls::call;
+use model::{Answer, Cache, Call, Lent, ManyAnswer, BLOCK_SIZES, CALLS, MANY_ANSWER};
+use service::boxes::{bytes, folder, folder_count, most, pick, unopened, Contents, Shape};
+use service::calls::{call, call_many};
 use service::progress::{count, seed, Progress};
+
+/// What the folders were that were opened with one call each.
+#[derive(Default)]
+struct Folders {
+    calls: usize,
+    reads: u64,
+    hits: u64,
+    fetches: u64,
+}
 
 /// What a run has met, so that it shows where a list would say little.
 #[derive(Default)]
 struct Met {
     calls: usize,
-    refused: [usize; 10],
+    refused: [usize; 11],
     words: [usize; 8],
+    folders: Folders,
     flash_writes: u64,
     primary_writes: u64,
     /// Flushes in parts that left a row dirty.
@@ -34,6 +44,11 @@ impl Met {
             self.refused[2], self.refused[3], self.flash_writes, self.primary_writes, self.written_back
         );
         println!("  {} flushes in parts left a row dirty", self.left_dirty);
+        let Folders { calls, reads, hits, fetches } = self.folders;
+        let missed_repeats = reads - hits - fetches;
+        let refused = self.refused[10];
+        println!("  {calls} calls for folders: {reads} reads, {hits} hits, {fetches} fetches, {missed_repeats} repeats that miss; {refused} refused with 10");
+        assert!(hits > 0 && fetches > 0 && self.refused[10] > 0, "a kind of folder never came");
         assert!(self.words[1..].iter().all(|count| *count > 0) && self.written_back > 0, "a kind of answer never came");
     }
 }
@@ -65,6 +80,46 @@ fn buffer(lent: &mut Lent, which: usize) -> &mut Vec<u8> {
     [&mut lent.disk, &mut lent.flash, &mut lent.addresses, &mut lent.blocks].into_iter().nth(which).unwrap()
 }
 
+/// Opens a folder with one call, of few addresses or of many near each other, and compares every byte with the model.
+fn open_folder(random: &mut Random, shape: Shape, lent: &mut Lent, cache: &mut Cache, met: &mut Met) {
+    let near = 1 + random.below(shape.m + 2).min(shape.p - 1);
+    let different = pick(random, &[1, 2, 3, 5, 8, 64]);
+    let mut some: Vec<u32> = (0..different).map(|_| random.below(near) as u32).collect();
+    match random.below(12) {
+        0 => some.push(shape.p as u32),
+        1..=4 => some.push(random.below(shape.p) as u32),
+        _ => {}
+    }
+    let count = folder_count(random);
+    let mut folder = folder(random, &some, shape.b, count);
+    if random.below(40) == 0 {
+        folder.buffer.push(0);
+    }
+    let mut expected = folder.clone();
+    let number = call_many(lent, &mut folder);
+    let context = || format!("{shape:?}, call {} of list {}: the folder {:?}", met.calls, met.lists, folder.asked);
+    match cache.read_many(&expected.asked, &mut expected.buffer) {
+        Err(refused) => {
+            assert_eq!(number, refused, "{}", context());
+            met.refused[number as usize] += 1;
+        }
+        Ok(answer) => {
+            assert_eq!(number, 0, "{}", context());
+            expected.answer = answer.to_bytes();
+            met.folders.reads += count as u64;
+            met.folders.hits += answer.hits;
+            met.folders.fetches += answer.fetches;
+            met.flash_writes += answer.flash;
+            met.primary_writes += answer.primary;
+            met.written_back += answer.primary;
+        }
+    }
+    assert_eq!(folder.difference(&expected), None, "{}", context());
+    assert_eq!(cache.difference(lent), None, "{}", context());
+    met.folders.calls += 1;
+    met.calls += 1;
+}
+
 /// Lends a buffer of a wrong length: refused with 2, and nothing moves.
 fn wrong_length(random: &mut Random, kind: Call, address: u32, lent: &mut Lent) {
     let which = random.below(4);
@@ -94,6 +149,10 @@ fn list(random: &mut Random, shape: Shape, length: usize, met: &mut Met) {
     assert!(lent.block == block && lent.answer == answer);
     met.lists += 1;
     for turn in 0..length {
+        if random.below(8) == 0 {
+            open_folder(random, shape, &mut lent, &mut cache, met);
+            continue;
+        }
         let (kind, address) = choose(random, shape);
         if random.below(100) == 0 && p * b < 100_000 {
             wrong_length(random, kind, address, &mut lent);
@@ -153,6 +212,7 @@ fn small_boxes() {
         progress.at(met.calls);
     }
     met.show("small boxes", seed, &progress);
+    assert!(met.folders.hits + met.folders.fetches < met.folders.reads, "no repeat missed");
 }
 
 #[test]
@@ -222,6 +282,11 @@ fn largest_boxes() {
         assert_eq!(cache.difference(&lent), None, "{kind:?}");
         met.calls += 1;
     }
+    let mut many = model::Folder { asked: (0..64).map(|k| 65_535 - k * k).collect(), buffer: bytes(&mut random, 64 * b), answer: vec![0; MANY_ANSWER] };
+    let mut buffer = many.buffer.clone();
+    assert_eq!(call_many(&mut lent, &mut many), 0);
+    assert_eq!(ManyAnswer::from_bytes(&many.answer), cache.read_many(&many.asked, &mut buffer).unwrap());
+    assert!(many.buffer == buffer && cache.difference(&lent).is_none());
     met.lists += 1;
     met.show("largest boxes", seed, &progress);
 }

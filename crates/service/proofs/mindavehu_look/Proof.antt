@@ -18,10 +18,10 @@ use Rattle.service.proofs.mindavehu_look.Tie as tie
 abbrev start : tie.After-fit → tie.Start
 start c = c .before .before .before .before .before .before .before .before
 
-fits : (c : tie.Else1) → (let a = start (c .before) .args in fitting (a .state .now) (a .answer .now) ≡ true)
+fits : (c : tie.Else1) → (let a = start (c .before) .args in fitting 24 (a .state .now) (a .answer .now) ≡ true)
 fits c = sym (c .before .fit .ensures) ∙ not-false _ (c .if1 .left)
 
-unfits : (c : tie.Then1) → (let a = start (c .before) .args in fitting (a .state .now) (a .answer .now) ≡ false)
+unfits : (c : tie.Then1) → (let a = start (c .before) .args in fitting 24 (a .state .now) (a .answer .now) ≡ false)
 unfits c = sym (c .before .fit .ensures) ∙ not-true _ (c .if1 .taken)
 
 bytesA : (c : tie.After-fit) → Bytes (start c .args .addresses .now)
@@ -36,7 +36,7 @@ returns c =
     (not-looked (a .address) (a .state .now) (a .disk .now) (a .flash .now) (a .addresses .now) (a .blocks .now) (a .answer .now) (unfits c), λ h. absurd (false≢true (sym (unfits c) ∙ h)))
 
 record-in-requires : tie.Need-record-in-requires
-record-in-requires c κs = lengths _ _ (fits c) .0
+record-in-requires c κs = lengths _ _ _ (fits c) .0
 
 write-place-requires : tie.Need-write-place-requires
 write-place-requires c κs =
@@ -46,7 +46,7 @@ write-place-requires c κs =
     let a = start (e .before) .args in
     let f : length (a .flash .now) < 2 ^ 64 = start (e .before) .good .1 .1 .1 .0 .0 in
     let d : length (a .disk .now) < 2 ^ 64 = start (e .before) .good .1 .1 .0 .0 in
-    (lengths _ _ (fits e) .1, starts-below (a .address) (a .state .now) (a .disk .now) (a .flash .now) (a .addresses .now) (a .blocks .now) (a .answer .now) (b .record-in .result) (b .record-in .ensures) (p .place-of .result) (p .place-of .ensures) (bytesA (e .before)) (bytesB (e .before)) f d)
+    (lengths _ _ _ (fits e) .1, starts-below (a .address) (a .state .now) (a .disk .now) (a .flash .now) (a .addresses .now) (a .blocks .now) (a .answer .now) (b .record-in .result) (b .record-in .ensures) (p .place-of .result) (p .place-of .ensures) (bytesA (e .before)) (bytesB (e .before)) f d)
 
 returns-2 : tie.Need-returns-2
 returns-2 c =
@@ -61,7 +61,7 @@ returns-2 c =
     let below = get8-below (a .state .now) 0 (λ i. omega (arith, f .before .before .before .before .before .before .before .shared-slice-known .given i)) in (
       looked (a .address) (a .state .now) (a .disk .now) (a .flash .now) (a .addresses .now) (a .blocks .now) (a .answer .now) (b .record-in .result) (b .record-in .ensures) (p .place-of .result) (p .place-of .ensures) (fits e) _ _ (w .write-place .ensures),
       λ h. looked-shows (a .address) (a .state .now) (a .disk .now) (a .flash .now) (a .addresses .now) (a .blocks .now) (a .answer .now) (b .record-in .result) (b .record-in .ensures) (p .place-of .result) (p .place-of .ensures) h _ _ (w .write-place .ensures)
-          (bytesA f) (bytesB f) (lengths _ _ h .1) below lf ld,
+          (bytesA f) (bytesB f) (lengths _ _ _ h .1) below lf ld,
     )
 
 pub mindavehu-look-spec : {M : Type 1} → statement M
