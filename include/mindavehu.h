@@ -117,7 +117,7 @@ extern "C" {
 #define MINDAVEHU_NEW 4    /* a write: none was */
 #define MINDAVEHU_CACHE 5  /* a look: the part is of the flash */
 #define MINDAVEHU_DISK 6   /* a look: the part is of the disk */
-#define MINDAVEHU_DONE 7   /* a flush */
+#define MINDAVEHU_DONE 7   /* a flush, whole or in parts */
 
 /* The fields of the state, by the byte where each starts. */
 #define MINDAVEHU_B 0
@@ -223,6 +223,16 @@ uint32_t mindavehu_flush(uint8_t *state, size_t state_length,
                          uint8_t *addresses, size_t addresses_length,
                          const uint8_t *blocks, size_t blocks_length,
                          uint8_t *answer, size_t answer_length);
+
+/* A flush in parts: copies the blocks of at most `most` dirty addresses, oldest use first, to the disk. Answers DONE; the answer's
+ * primary writes say of how many: the smaller of `most` and the dirty addresses before. Fewer than `most` means that none is left,
+ * and then the disk is what was written. 0 copies nothing; m or more is mindavehu_flush. */
+uint32_t mindavehu_flush_some(uint8_t *state, size_t state_length, size_t most,
+                              uint8_t *disk, size_t disk_length,
+                              const uint8_t *flash, size_t flash_length,
+                              uint8_t *addresses, size_t addresses_length,
+                              const uint8_t *blocks, size_t blocks_length,
+                              uint8_t *answer, size_t answer_length);
 
 /* Tells where the block at the address is: CACHE or DISK, then the byte of flash or disk where it starts, then its length B.
  * Nothing is moved or counted. A refused look keeps the answer's bytes: what they held before is no part. */

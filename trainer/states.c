@@ -15,6 +15,9 @@
  *     flash   the first byte of each slot
  *     disk    the first byte of each disk block
  *
+ * With --parts, a line `F k` is a flush of at most k dirty addresses, oldest use first; k is printed where the others have their address. A replay
+ * knows no such line: without --parts it is refused with 4.
+ *
  * With --folder ADDRESSES (decimals with commas between them; an empty word for none), the folder of these addresses is opened after the list, twice
  * from the same box: with one call, and read by read. Both ways are printed, with the content of each block read, and whether they leave the same:
  *
@@ -54,7 +57,7 @@ static uint8_t state[MINDAVEHU_STATE], answer[MINDAVEHU_ANSWER];
 static uint8_t disk[MOST_BYTES], flash[MOST_BYTES], block[MOST_B];
 static uint8_t addresses[MOST_M * MINDAVEHU_ROW], blocks[MOST_D * MINDAVEHU_ROW];
 static size_t B, P, m, d;
-static int full;
+static int full, parts;
 
 /* The folder that is opened after the list, where one is asked for; the blocks read of it, and the answer of the one call. */
 static int has_folder, differs;
@@ -73,7 +76,7 @@ struct line {
     size_t length;
 };
 
-/* A call: its letter, its address as it is printed, and the byte that a written block is filled with. */
+/* A call: its letter, its address as it is printed, or the most that a flush in parts copies, and the byte that a written block is filled with. */
 struct call {
     char letter;
     int has_address;
@@ -162,7 +165,7 @@ static int is_call(const struct line *line, struct call *call)
     if (line->length == 0 || line->length > MOST_LINE || !line->bytes[0] || !strchr("RLFTBI", line->bytes[0]))
         return 0;
     call->letter = (char)line->bytes[0];
-    call->has_address = call->letter != 'F';
+    call->has_address = call->letter != 'F' || (parts && line->length > 1);
     if (call->has_address && !(take_text(line, &at, " ") && take_decimal(line, &at, &call->address)))
         return 0;
     if (strchr("TBI", call->letter) && !(take_text(line, &at, " ") && take_hexadecimal(line, &at, &call->content)))
@@ -205,7 +208,7 @@ static uint32_t carry_out(const struct call *call)
     case 'L':
         return mindavehu_look(STATE, a, MEMORY, ANSWER);
     default:
-        return mindavehu_flush(STATE, MEMORY, ANSWER);
+        return call->has_address ? mindavehu_flush_some(STATE, a, MEMORY, ANSWER) : mindavehu_flush(STATE, MEMORY, ANSWER);
     }
 }
 
@@ -445,13 +448,14 @@ static int take_folder(const char *word)
 int main(int count, char **words)
 {
     full = count == 2 && strcmp(words[1], "--full") == 0;
+    parts = count == 2 && strcmp(words[1], "--parts") == 0;
     if (count == 3 && strcmp(words[1], "--folder") == 0) {
         if (!take_folder(words[2])) {
             fprintf(stderr, "states: --folder takes at most %d addresses with commas between them, such as 2,5,2: %s\n", MOST_FOLDER, words[2]);
             return 2;
         }
-    } else if (count > 1 && !full) {
-        fprintf(stderr, "states: unknown option %s; there are --full and --folder ADDRESSES\n", words[1]);
+    } else if (count > 1 && !full && !parts) {
+        fprintf(stderr, "states: unknown option %s; there are --full, --parts and --folder ADDRESSES\n", words[1]);
         return 2;
     }
     replay();

@@ -76,6 +76,12 @@ static void *flushes(void *unused)
     return unused;
 }
 
+static void *flushes_in_parts(void *unused)
+{
+    mindavehu_flush_some(state, sizeof state, 5, MEMORY, answer, sizeof answer);
+    return unused;
+}
+
 static void *looks(void *unused)
 {
     mindavehu_look(state, sizeof state, 1200, MEMORY, answer, sizeof answer);
@@ -104,7 +110,7 @@ static long used(void *(*call)(void *))
 int main(void)
 {
     static const struct { const char *name; void *(*call)(void *); } calls[] = {
-        {"open", opens}, {"write back", writes_back}, {"read", reads}, {"folder", folders}, {"flush", flushes},
+        {"open", opens}, {"write back", writes_back}, {"read", reads}, {"folder", folders}, {"flush in parts", flushes_in_parts}, {"flush", flushes},
         {"look", looks}, {"write invalidate", invalidates}, {"write through", writes_through},
     };
     long none = used(nothing);

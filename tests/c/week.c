@@ -1,5 +1,5 @@
-/* A week of calls through the header: the document's replay (E1), write back and sharing, eviction, flush, looks, a folder opened with one call,
- * and refusals.
+/* A week of calls through the header: the document's replay (E1), write back and sharing, eviction, flush, whole and in parts, looks, a folder opened
+ * with one call, and refusals.
  * Prints what it checked, or the line that failed. */
 #include <stdio.h>
 #include <stdlib.h>
@@ -85,6 +85,7 @@ static uint32_t invalidate(struct box *b, uint32_t a, int byte)
     return mindavehu_write_invalidate(STATE(b), a, MEMORY(b), BLOCK(b), ANSWER(b));
 }
 static uint32_t flush(struct box *b) { return mindavehu_flush(STATE(b), MEMORY(b), ANSWER(b)); }
+static uint32_t flush_some(struct box *b, size_t most) { return mindavehu_flush_some(STATE(b), most, MEMORY(b), ANSWER(b)); }
 static uint32_t look(struct box *b, uint32_t a) { return mindavehu_look(STATE(b), a, MEMORY(b), ANSWER(b)); }
 
 static int says(const struct box *b, uint64_t word, uint64_t second, uint64_t third)
@@ -164,6 +165,22 @@ static void sharing(void)
     EXPECT(filled(b.disk + 64, 64, 9));
     EXPECT(flush(&b) == 0 && says(&b, MINDAVEHU_DONE, 0, 0));
     EXPECT(counted(&b, 1, 0, 2, 2));
+    drop(&b);
+}
+
+/* A busy afternoon: the flush in parts, oldest first, until the count is below what was asked for. */
+static void in_parts(void)
+{
+    struct box b = make(64, 8, 4, 4);
+    EXPECT(open_box(&b) == 0);
+    EXPECT(back(&b, 0, 9) == 0 && read_block(&b, 4) == 0 && back(&b, 1, 8) == 0 && back(&b, 2, 7) == 0);
+    EXPECT(flush_some(&b, 0) == 0 && says(&b, MINDAVEHU_DONE, 0, 0) && filled(b.disk, 64, 0));
+    EXPECT(flush_some(&b, 2) == 0 && says(&b, MINDAVEHU_DONE, 0, 2));
+    EXPECT(filled(b.disk, 64, 9) && filled(b.disk + 64, 64, 8) && filled(b.disk + 2 * 64, 64, 2));
+    EXPECT(flush_some(&b, 2) == 0 && says(&b, MINDAVEHU_DONE, 0, 1) && filled(b.disk + 2 * 64, 64, 7));
+    EXPECT(flush_some(&b, SIZE_MAX) == 0 && says(&b, MINDAVEHU_DONE, 0, 0));
+    EXPECT(back(&b, 2, 6) == 0 && flush_some(&b, SIZE_MAX) == 0 && says(&b, MINDAVEHU_DONE, 0, 1) && filled(b.disk + 2 * 64, 64, 6));
+    EXPECT(counted(&b, 1, 0, 5, 4));
     drop(&b);
 }
 
@@ -297,6 +314,7 @@ static void refusals(void)
     KEPT(&b, mindavehu_look(STATE(&b), 0xFFFFFFFF, MEMORY(&b), ANSWER(&b)), MINDAVEHU_NO_ADDRESS);
     KEPT(&b, mindavehu_read(b.state, 71, 1, MEMORY(&b), BLOCK(&b), ANSWER(&b)), MINDAVEHU_WRONG_LENGTH);
     KEPT(&b, mindavehu_flush(STATE(&b), MEMORY(&b), b.answer, 23), MINDAVEHU_WRONG_LENGTH);
+    KEPT(&b, mindavehu_flush_some(b.state, 71, 1, MEMORY(&b), ANSWER(&b)), MINDAVEHU_WRONG_LENGTH);
     KEPT(&b, mindavehu_look(STATE(&b), 1, MEMORY(&b), b.answer, 0), MINDAVEHU_WRONG_LENGTH);
     KEPT(&b, mindavehu_open(b.state, 8, MEMORY(&b)), MINDAVEHU_WRONG_LENGTH);
     KEPT(&b, mindavehu_write_back(STATE(&b), 1, MEMORY(&b), b.block, 63, ANSWER(&b)), MINDAVEHU_WRONG_LENGTH);
@@ -306,6 +324,7 @@ static void refusals(void)
     mindavehu_put(b.state, MINDAVEHU_READS, 0);
     b.blocks[32] ^= 1;
     KEPT(&b, mindavehu_flush(STATE(&b), MEMORY(&b), ANSWER(&b)), MINDAVEHU_BAD_BLOCKS);
+    KEPT(&b, mindavehu_flush_some(STATE(&b), 0, MEMORY(&b), ANSWER(&b)), MINDAVEHU_BAD_BLOCKS);
     b.blocks[32] ^= 1;
     b.blocks[MINDAVEHU_ROW] ^= 1;
     KEPT(&b, mindavehu_flush(STATE(&b), MEMORY(&b), ANSWER(&b)), MINDAVEHU_DIRTY_UNCACHED);
@@ -371,6 +390,7 @@ int main(void)
     replay();
     saved_unchanged();
     sharing();
+    in_parts();
     writes();
     folder();
     refusals();

@@ -322,20 +322,29 @@ pub fn write_invalidate<I: Index>(state: &mut [u8], a: u32, disk: &mut [u8], fla
     done(state, answer, word, 0, 1)
 }
 
-pub fn flush<I: Index>(state: &mut [u8], disk: &mut [u8], flash: &[u8], addresses: &mut [u8], blocks: &[u8], answer: &mut [u8]) -> Result<(), u32> {
+/// Of at most `most` dirty rows, oldest first.
+pub fn flush<I: Index>(
+    state: &mut [u8],
+    most: usize,
+    disk: &mut [u8],
+    flash: &[u8],
+    addresses: &mut [u8],
+    blocks: &[u8],
+    answer: &mut [u8],
+) -> Result<(), u32> {
     let mut index = I::default();
     let sizes = checked(&mut index, state, None, disk, flash, addresses, blocks, None, answer, true)?;
     let mut primary_writes = 0;
     for k in 0..sizes.n {
         let held = *row(addresses, k);
-        if is_dirty(&held) {
+        if is_dirty(&held) && primary_writes < most {
             let place = index.find(blocks, held_fingerprint(&held)).unwrap();
             copy(flash, slot(row(blocks, place)), disk, address(&held) as usize, sizes.b);
             addresses[k * ROW + 36] = 0;
             primary_writes += 1;
         }
     }
-    done(state, answer, DONE, 0, primary_writes)
+    done(state, answer, DONE, 0, primary_writes as u64)
 }
 
 pub fn look<I: Index>(state: &[u8], a: u32, disk: &[u8], flash: &[u8], addresses: &[u8], blocks: &[u8], answer: &mut [u8]) -> Result<(), u32> {

@@ -50,7 +50,10 @@ macro_rules! calls {
             crate::number_of(crate::engine::write_invalidate::<$index>(state, address, disk, flash, addresses, blocks, block, answer))
         }
         pub fn flush(state: &mut [u8], disk: &mut [u8], flash: &[u8], addresses: &mut [u8], blocks: &[u8], answer: &mut [u8]) -> u32 {
-            crate::number_of(crate::engine::flush::<$index>(state, disk, flash, addresses, blocks, answer))
+            flush_some(state, usize::MAX, disk, flash, addresses, blocks, answer)
+        }
+        pub fn flush_some(state: &mut [u8], most: usize, disk: &mut [u8], flash: &[u8], addresses: &mut [u8], blocks: &[u8], answer: &mut [u8]) -> u32 {
+            crate::number_of(crate::engine::flush::<$index>(state, most, disk, flash, addresses, blocks, answer))
         }
         pub fn look(state: &[u8], address: u32, disk: &[u8], flash: &[u8], addresses: &[u8], blocks: &[u8], answer: &mut [u8]) -> u32 {
             crate::number_of(crate::engine::look::<$index>(state, address, disk, flash, addresses, blocks, answer))

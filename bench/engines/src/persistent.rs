@@ -232,7 +232,11 @@ impl Persistent {
     }
 
     pub fn flush(&mut self, disk: &mut [u8], flash: &[u8], answer: &mut [u8]) -> u32 {
-        let dirty: Vec<u32> = self.addresses.values().copied().filter(|a| self.held[a].dirty).collect();
+        self.flush_some(usize::MAX, disk, flash, answer)
+    }
+
+    pub fn flush_some(&mut self, most: usize, disk: &mut [u8], flash: &[u8], answer: &mut [u8]) -> u32 {
+        let dirty: Vec<u32> = self.addresses.values().copied().filter(|a| self.held[a].dirty).take(most).collect();
         for a in &dirty {
             self.clean(*a, disk, flash);
         }

@@ -15,6 +15,7 @@ macro_rules! by {
             Call::Back => $engine::write_back(state, $a, disk, flash, addresses, blocks, block, answer),
             Call::Invalidate => $engine::write_invalidate(state, $a, disk, flash, addresses, blocks, block, answer),
             Call::Flush => $engine::flush(state, disk, flash, addresses, blocks, answer),
+            Call::FlushSome(most) => $engine::flush_some(state, most, disk, flash, addresses, blocks, answer),
             Call::Look => $engine::look(state, $a, disk, flash, addresses, blocks, answer),
         }
     }};
@@ -38,6 +39,7 @@ fn by_persistent(engine: &mut Persistent, call: Call, a: u32, lent: &mut Lent) -
         Call::Back => engine.write_back(a, disk, flash, block, answer),
         Call::Invalidate => engine.write_invalidate(a, disk, block, answer),
         Call::Flush => engine.flush(disk, flash, answer),
+        Call::FlushSome(most) => engine.flush_some(most, disk, flash, answer),
         Call::Look => engine.look(a, answer),
     };
     engine.store(state, addresses, blocks);
@@ -80,7 +82,7 @@ fn lists_and_broken_boxes() {
         let mut three = expected.clone();
         let mut persistent = Persistent::load(&three.state, &three.addresses, &three.blocks);
         for turn in 0..200 {
-            let call = CALLS[1 + random.below(6)];
+            let call = CALLS[1 + random.below(7)];
             let a = random.below(p + 1) as u32;
             let context = format!("{call:?} {a}, turn {turn} of round {round}, seed {seed}");
             expected.block = vec![random.below(contents) as u8; b];
@@ -96,7 +98,7 @@ fn lists_and_broken_boxes() {
                     6 => bad.state[random.below(72)] ^= 1 << random.below(8),
                     _ => drop([&mut bad.disk, &mut bad.flash, &mut bad.addresses, &mut bad.blocks, &mut bad.block, &mut bad.state, &mut bad.answer][random.below(7)].pop()),
                 }
-                let call = CALLS[random.below(7)];
+                let call = CALLS[random.below(8)];
                 let [mut first, mut second] = [bad.clone(), bad.clone()];
                 let number = carry_out(call, a, &mut bad);
                 is(by!(maps, call, a, &mut first), &first, number, &bad, &format!("maps, broken, {context}"));
@@ -161,7 +163,7 @@ fn fingerprints_with_one_beginning() {
             2 => expected.addresses[random.below(m) * ROW + 36] = 1,
             _ => {}
         }
-        let call = CALLS[1 + random.below(6)];
+        let call = CALLS[1 + random.below(7)];
         let a = random.below(expected.disk.len() / 64 + 1) as u32;
         let [mut one, mut two] = [expected.clone(), expected.clone()];
         let number = carry_out(call, a, &mut expected);

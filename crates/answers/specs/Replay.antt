@@ -53,16 +53,16 @@ started N = fresh N (record { n = 0; disk = startDisk (N .B) (N .P); flash = rep
 
 -- ---- a later line
 
--- the call that a line asks for: "a block of B bytes hh"; a read is lent a block of zeros
-unfoldable pub asked : ℕ → Command → Option Ask
-asked B (Read a) = some (Ask.read a (replicate B 0))
-asked B (Look a) = some (Ask.look a)
-asked B Flush = some Ask.flush
-asked B (Through a x) = some (Ask.through a (replicate B x))
-asked B (Back a x) = some (Ask.back a (replicate B x))
-asked B (Invalidate a x) = some (Ask.invalidate a (replicate B x))
-asked B (Box b p m d) = none
-asked B Unformed = none
+-- the call that a line asks for: "a block of B bytes hh"; a read is lent a block of zeros; a flush is the full one
+unfoldable pub asked : Numbers → Command → Option Ask
+asked N (Read a) = some (Ask.read a (replicate (N .B) 0))
+asked N (Look a) = some (Ask.look a)
+asked N Flush = some (Ask.flush (N .m))
+asked N (Through a x) = some (Ask.through a (replicate (N .B) x))
+asked N (Back a x) = some (Ask.back a (replicate (N .B) x))
+asked N (Invalidate a x) = some (Ask.invalidate a (replicate (N .B) x))
+asked N (Box b p m d) = none
+asked N Unformed = none
 
 -- what the line answers, and what is lent after it; "4: a replay line isn't of the form below"
 pub record Done : Type 0 where
@@ -82,7 +82,7 @@ next k = (k + 1) % 2 ^ 64
 unfoldable pub laterLines : ℕ → Numbers → Lent → List (List ℕ) → List ℕ
 laterLines k N t [] = countersText (t .counters)
 laterLines k N t (l ∷ ls) =
-    let o = doing N t (asked (N .B) (parsed l)) in
+    let o = doing N t (asked N (parsed l)) in
     answerText k (parsed l) (o .answer) ++ laterLines (next k) N (o .lent) ls
 
 -- "Refusals show .. 0 for the box line"; "if line 1 is refused the program ends there, without the counters line"

@@ -120,7 +120,7 @@ pub fn call(
     ensures { λ r. ⌜ numbersOf (r .box_record) ≡ numbersOf b ⌝ }
     ensures { λ r. ⌜ doneOf r (now (disk .exit)) (now (flash .exit)) (now (addresses .exit)) (now (blocks .exit))
         ≡ doing (numbersOf b) (lent b (now (disk .entry)) (now (flash .entry)) (now (addresses .entry)) (now (blocks .entry)) (countersOf c))
-        (asked (b .size) line) ⌝ }
+        (asked (numbersOf b) line) ⌝ }
 {
     match line {
         Command::Read(a) => read(b, SourceAddress(a), disk, flash, addresses, blocks, c),

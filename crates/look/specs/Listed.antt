@@ -68,7 +68,7 @@ Meets y c (Ask.read a l) = Calls y c
 Meets y c (Ask.through a l) = Calls y c
 Meets y c (Ask.back a l) = Calls y c
 Meets y c (Ask.invalidate a l) = Calls y c
-Meets y c Ask.flush = Calls y c
+Meets y c (Ask.flush k) = Calls y c
 
 -- a folder read that was made: the addresses asked for, the buffer lent to it, what it answered, and what it left of what passes on and of the buffer
 pub record Folder : Type 0 where
@@ -163,7 +163,7 @@ module _ (N : Numbers) where
   meets-is y t c (Ask.through a l) i w e m = called-is y t c i m
   meets-is y t c (Ask.back a l) i w e m = called-is y t c i m
   meets-is y t c (Ask.invalidate a l) i w e m = called-is y t c i m
-  meets-is y t c Ask.flush i w e m = called-is y t c i m
+  meets-is y t c (Ask.flush k) i w e m = called-is y t c i m
 
   folder-is : (y : Kept) (t : Lent) (c : Folder) → Is y t → ReadsMany y c
       → (numbersOf (c .left .box) ≡ N) × (batchOf c ≡ callBatch N t (c .asked) (c .lentBuffer))

@@ -4,9 +4,9 @@ use mathlib.Core.Path.{_≡_}
 use mathlib.Core.Bool.{Bool, true, false, not, _&&_, _||_, cond}
 use mathlib.Core.List.{List, [], _∷_, _++_}
 use mathlib.Core.Option.{Option, none, some, Option·map}
-use Prim.Native.Nat.{ℕ, _+_, _<_}
+use Prim.Native.Nat.{ℕ, zero, suc, _+_, _<_}
 use lib.Dec.{eqb}
-use lib.ListN.{length, getD, set}
+use lib.ListN.{length, getD, set, take, drop}
 use Rattle.tables.specs.Records.{slotsFrom}
 use Rattle.paper.specs.Keyed.{has, without, find}
 
@@ -128,6 +128,30 @@ module _ {F X : Type 0} (H : Hashing F X) where
   cleaned chosen [] = []
   cleaned chosen (r ∷ rs) = record { address = r .address; fingerprint = r .fingerprint; dirty = r .dirty && not (chosen (r .fingerprint)) } ∷ cleaned chosen rs
 
+  -- "the dirty rows before": how many these are
+  abbrev pub dirtyRows : List (AddressRow F) → ℕ
+  dirtyRows rows = copies (λ f. true) rows
+
+  -- "one call cleans at most k dirty rows, oldest first": they are those among so many rows, from the oldest on
+  abbrev pub reach : ℕ → List (AddressRow F) → ℕ
+  reach k [] = 0
+  reach zero (r ∷ rs) = 0
+  reach (suc k) (r ∷ rs) = suc (cond (r .dirty) (reach k rs) (reach (suc k) rs))
+
+  -- the rows when the first i are clean, and the box when the dirty ones among these are copied to disk too
+  abbrev pub partly : ℕ → List (AddressRow F) → List (AddressRow F)
+  partly i rows = cleaned (λ f. true) (take i rows) ++ drop i rows
+
+  abbrev pub cleanTo : ℕ → Box F X → Box F X
+  cleanTo i s =
+      record {
+        rows = partly i (s .rows);
+        free = s .free;
+        used = s .used;
+        flash = s .flash;
+        disk = copied (λ f. true) (take i (s .rows)) (s .used) (s .flash) (s .disk);
+      }
+
   -- Step 1. "If a is held, its row is taken out. Otherwise, if n = m, the oldest row is taken out, after its block is copied
   -- to its disk address if it was dirty. Let q be the fingerprint of the row taken out, if any."
   unfoldable pub oldestOut : Box F X → List (AddressRow F) → RowOut F X
@@ -227,7 +251,8 @@ pub data Call (X : Type 0) : Type 0 where
   back : ℕ → X → Call X
   invalidate : ℕ → X → Call X
   look : ℕ → Call X
-  flush : Call X
+  -- of at most so many dirty rows; "The full flush becomes that call with k = m."
+  flush : ℕ → Call X
 
 -- What a call is about: its address, the block that it writes there, whether it is a read, whether it returns a block, and whether it counts
 pub record About (X : Type 0) : Type 0 where
@@ -244,7 +269,7 @@ about (through a b) = record { address = some a; written = some b; reads = false
 about (back a b) = record { address = some a; written = some b; reads = false; returns = false; counts = true }
 about (invalidate a b) = record { address = some a; written = some b; reads = false; returns = false; counts = true }
 about (look a) = record { address = some a; written = none; reads = false; returns = true; counts = false }
-about flush = record { address = none; written = none; reads = false; returns = false; counts = true }
+about (flush k) = record { address = none; written = none; reads = false; returns = false; counts = true }
 
 -- what is there, if anything, before a list
 abbrev pub before : {A : Type 0} → Option A → List A → List A
@@ -340,22 +365,12 @@ module _ {F X : Type 0} (H : Hashing F X) where
   lookAs s a (some r) = record { box = s; word = fromCache; block = some (blockOf H (r .fingerprint) (s .used) (s .flash)); flashWrites = 0; primaryWrites = 0 }
   lookAs s a none = record { box = s; word = fromDisk; block = some (getD (s .disk) a (H .blank)); flashWrites = 0; primaryWrites = 0 }
 
-  -- "Flush: each dirty row, oldest first, is copied to disk and made clean. No order changes."
-  unfoldable pub flushed : Box F X → Outcome F X
-  flushed s =
-      record {
-        box = record {
-          rows = cleaned H (λ f. true) (s .rows);
-          free = s .free;
-          used = s .used;
-          flash = s .flash;
-          disk = copied H (λ f. true) (s .rows) (s .used) (s .flash) (s .disk);
-        };
-        word = done;
-        block = none;
-        flashWrites = 0;
-        primaryWrites = copies H (λ f. true) (s .rows);
-      }
+  -- "Flush: each dirty row, oldest first, is copied to disk and made clean. No order changes."; "one call cleans at most k dirty rows, oldest
+  -- first, and says how many it cleaned": by the primary writes of its answer
+  unfoldable pub flushed : ℕ → Box F X → Outcome F X
+  flushed k s =
+      let i = reach H k (s .rows) in
+      record { box = cleanTo H i s; word = done; block = none; flashWrites = 0; primaryWrites = dirtyRows H (take i (s .rows)) }
 
   unfoldable pub serve : Numbers → Box F X → Call X → Outcome F X
   serve N s (read a) = readAs (N .m) s a (getD (s .disk) a (H .blank)) (rowWithBlock s a)
@@ -363,7 +378,7 @@ module _ {F X : Type 0} (H : Hashing F X) where
   serve N s (back a b) = writeBack (N .m) s a b
   serve N s (invalidate a b) = writeInvalidate s a b
   serve N s (look a) = lookAs s a (rowWithBlock s a)
-  serve N s flush = flushed s
+  serve N s (flush k) = flushed k s
 
 -- "Fresh: n = 0, counters and address rows zero, block rows free with slots 0 to d − 1 in order; flash and disk keep their bytes."
 abbrev pub fresh : {F X : Type 0} → ℕ → List X → List X → Box F X

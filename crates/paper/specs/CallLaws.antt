@@ -1,24 +1,26 @@
 -- What a served call finds and leaves: lent memory that passes, before and after, and counters that stay in 64 bits.
 use mathlib.Core.Path.{_≡_, refl, sym, ap, ap₂, _∙_, subst}
-use mathlib.Core.Bool.{true, and-false, false, not, _&&_, _||_}
+use mathlib.Core.Bool.{true, false, not, _&&_, _||_}
 use mathlib.Core.List.{List, [], _∷_}
 use mathlib.Core.Logic.{_≢_, _⊎_, inl, inr}
 use mathlib.Core.Option.{Option, none, some, Option·map}
-use Prim.Native.Nat.{ℕ, _≤_, _<_, _+_, _^_}
+use Prim.Native.Nat.{ℕ, _≤_, _<_, _+_, _^_, min}
 use native.Mathlib.Omega.{arith}
 use lib.Dec.{eqb, leb, ltb}
+use lib.ListN.{drop}
 use borrow.Author.Tests.{eqb-true, eqb-false, leb-true, leb-false, ltb-false, not-false}
 use Rattle.hash.specs.LastChunk.{Size}
 use Rattle.tables.specs.Unsound.{elem}
-use Rattle.paper.specs.Cache.{Numbers, Box, About, about, Below, flushed, Outcome, Within, Counters, counted, serve, oneIf, isRead, isHit}
+use Rattle.paper.specs.Cache.{Numbers, Box, About, about, Below, Outcome, Within, Counters, counted, serve, oneIf, isRead, isHit}
+use Rattle.paper.specs.Cache.{flushed, dirtyRows, done}
 use Rattle.paper.specs.KeyedLaws.{All, clash, by-test, or-false-left, or-false-right, and-left, and-right}
 use Rattle.paper.specs.Engine.{Fixed, fit, engine}
 use Rattle.paper.specs.Lent.{Lent, Ask, calling, callOf, aboutAsk, addressOf, lentBlock, between, unfit, wrongBuffers, wrongBlock, outside, over, counts}
-use Rattle.paper.specs.Lent.{refusal, served, call, boxIn, lentOf}
-use Rattle.paper.specs.Sound.{Sound, all-cleaned, sound-serve}
+use Rattle.paper.specs.Lent.{answered, refusal, served, call, boxIn, lentOf}
+use Rattle.paper.specs.Sound.{Sound, sound-serve}
+use Rattle.paper.specs.Partly.{dirtyOf, count-is, left-dirty, newest-stay, dirty-few, none-dirty}
 use Rattle.paper.specs.Quiet.{look-same}
 use Rattle.paper.specs.RowBytes.{Bytes}
-use Rattle.paper.specs.TestLaws.{all-every}
 use Rattle.paper.specs.LentLaws.{Passes, right-lengths, passes-sound, sound-passes, lent-back}
 use Rattle.paper.specs.LentForth.{lent-forth}
 use Rattle.paper.specs.RefusalLaws.{exactly, served-is, keeps}
@@ -89,7 +91,7 @@ about-call B (Ask.through a l) = refl
 about-call B (Ask.back a l) = refl
 about-call B (Ask.invalidate a l) = refl
 about-call B (Ask.look a) = refl
-about-call B Ask.flush = refl
+about-call B (Ask.flush k) = refl
 
 below : (P : ℕ) (a : Option ℕ) → outside P a ≡ false → Below P a
 below P none e = tt
@@ -258,11 +260,30 @@ look-keeps N t a bytesA bytesB =
     ∙ lent-forth N t (p .lengths) bytesA bytesB (p .addresses) (p .blocks))
     (λ y. keeps N t q (eqb-false (refusal N t (calling q)) 0 y) .lent)
 
--- after a flush that is not refused no row is dirty
-pub flush-cleans : (N : Numbers) (t : Lent) → refusal N t (calling Ask.flush) ≡ 0 → All (λ r. r .dirty ≡ false) ((boxIn N ((call N t Ask.flush) .lent)) .rows)
-unfolding callOf serve flushed
+-- "says how many it cleaned"; "The count is the smaller of k and the dirty rows before."
+pub flush-counts : (N : Numbers) (t : Lent) (k : ℕ) → refusal N t (calling (Ask.flush k)) ≡ 0
+    → (call N t (Ask.flush k)) .answer ≡ answered done 0 (min k (dirtyRows (engine (N .B)) ((boxIn N t) .rows)))
+unfolding callOf serve flushed served
+flush-counts N t k e =
+    ap (λ x. x .answer) (served-is N t (Ask.flush k) e) ∙ ap (answered done 0) (count-is (engine (N .B)) k (boxIn N t))
+
+-- the rows that it leaves dirty are the newest of the dirty rows before
+pub flush-leaves : (N : Numbers) (t : Lent) (k : ℕ) → refusal N t (calling (Ask.flush k)) ≡ 0
+    → dirtyOf ((boxIn N ((call N t (Ask.flush k)) .lent)) .rows)
+    ≡ drop (min k (dirtyRows (engine (N .B)) ((boxIn N t) .rows))) (dirtyOf ((boxIn N t) .rows))
+unfolding callOf serve
+flush-leaves N t k e = ap (λ x. dirtyOf (x .rows)) (served-box N t (Ask.flush k) e) ∙ newest-stay (engine (N .B)) k (boxIn N t)
+
+-- after a full flush that is not refused no row is dirty
+pub flush-cleans : (N : Numbers) (t : Lent) → refusal N t (calling (Ask.flush (N .m))) ≡ 0
+    → All (λ r. r .dirty ≡ false) ((boxIn N ((call N t (Ask.flush (N .m))) .lent)) .rows)
+unfolding callOf serve
 flush-cleans N t e =
-    rw (served-box N t Ask.flush e) (all-cleaned (engine (N .B)) (λ f. true) (λ r. Unit {0}) (λ r. r .dirty ≡ false) (λ r y. and-false (r .dirty)) ((boxIn N t) .rows) (all-every (λ r. Unit {0}) ((boxIn N t) .rows) (λ r. tt)))
+    let few = (passes-sound N t ((served-finds N t (Ask.flush (N .m)) e) .passes)) .few in
+    let rows = (boxIn N t) .rows in
+    rw (served-box N t (Ask.flush (N .m)) e)
+    (none-dirty (engine (N .B)) ((flushed (engine (N .B)) (N .m) (boxIn N t)) .box .rows)
+    (left-dirty (engine (N .B)) (N .m) (boxIn N t) ∙ omega (arith, dirty-few (engine (N .B)) rows, few)))
 
 -- counters of 64 bits keep to them, whatever is asked
 pub counters-stay : (N : Numbers) (t : Lent) (q : Ask) → In64 (t .counters) → In64 ((call N t q) .lent .counters)
@@ -277,4 +298,4 @@ counters-stay N t q h =
     go (Ask.back a l) e = counters-fit N t (Ask.back a l) e
     go (Ask.invalidate a l) e = counters-fit N t (Ask.invalidate a l) e
     go (Ask.look a) e = rw (look-counts N t a) h
-    go Ask.flush e = counters-fit N t Ask.flush e
+    go (Ask.flush k) e = counters-fit N t (Ask.flush k) e

@@ -21,55 +21,55 @@ use Rattle.paper.specs.Demand3Laws.{demand-3}
 -- ---- each call by its name
 
 -- what is asked is the paper's call of that name, a write's block being the bytes lent to it
-pub calls-by-name : (B a : ℕ) (l : List ℕ)
+pub calls-by-name : (B a k : ℕ) (l : List ℕ)
     → (callOf B (Ask.read a l) ≡ Call.read a)
     × (callOf B (Ask.through a l) ≡ Call.through a (fit B l))
     × (callOf B (Ask.back a l) ≡ Call.back a (fit B l))
     × (callOf B (Ask.invalidate a l) ≡ Call.invalidate a (fit B l))
     × (callOf B (Ask.look a) ≡ Call.look a)
-    × (callOf B Ask.flush ≡ Call.flush)
+    × (callOf B (Ask.flush k) ≡ Call.flush k)
 unfolding callOf
-calls-by-name B a l = (refl, refl, refl, refl, refl, refl)
+calls-by-name B a k l = (refl, refl, refl, refl, refl, refl)
 
 -- the block lent to it, where one is lent
-pub lent-by-name : (a : ℕ) (l : List ℕ)
+pub lent-by-name : (a k : ℕ) (l : List ℕ)
     → (lentBlock (Ask.read a l) ≡ some l)
     × (lentBlock (Ask.through a l) ≡ some l)
     × (lentBlock (Ask.back a l) ≡ some l)
     × (lentBlock (Ask.invalidate a l) ≡ some l)
     × (lentBlock (Ask.look a) ≡ none)
-    × (lentBlock Ask.flush ≡ none)
-lent-by-name a l = (refl, refl, refl, refl, refl, refl)
+    × (lentBlock (Ask.flush k) ≡ none)
+lent-by-name a k l = (refl, refl, refl, refl, refl, refl)
 
 -- what a served call leaves in the lent block: a read the block that it found, a write what was lent
-pub blocks-by-name : (B a : ℕ) (l : List ℕ) (b : Fixed B)
+pub blocks-by-name : (B a k : ℕ) (l : List ℕ) (b : Fixed B)
     → (blockAfter (Ask.read a l) (some b) ≡ some (b .0))
     × (blockAfter {B = B} (Ask.through a l) none ≡ some l)
     × (blockAfter {B = B} (Ask.back a l) none ≡ some l)
     × (blockAfter {B = B} (Ask.invalidate a l) none ≡ some l)
     × (blockAfter (Ask.look a) (some b) ≡ none)
-    × (blockAfter {B = B} Ask.flush none ≡ none)
-blocks-by-name B a l b = (refl, refl, refl, refl, refl, refl)
+    × (blockAfter {B = B} (Ask.flush k) none ≡ none)
+blocks-by-name B a k l b = (refl, refl, refl, refl, refl, refl)
 
 -- the part: a look's is the block that it found, the others have none
-pub parts-by-name : (B a : ℕ) (l : List ℕ) (b : Fixed B)
+pub parts-by-name : (B a k : ℕ) (l : List ℕ) (b : Fixed B)
     → (partAfter (Ask.read a l) (some b) ≡ [])
     × (partAfter {B = B} (Ask.through a l) none ≡ [])
     × (partAfter {B = B} (Ask.back a l) none ≡ [])
     × (partAfter {B = B} (Ask.invalidate a l) none ≡ [])
     × (partAfter (Ask.look a) (some b) ≡ b .0)
-    × (partAfter {B = B} Ask.flush none ≡ [])
-parts-by-name B a l b = (refl, refl, refl, refl, refl, refl)
+    × (partAfter {B = B} (Ask.flush k) none ≡ [])
+parts-by-name B a k l b = (refl, refl, refl, refl, refl, refl)
 
 -- the block returned: "the lent block after a read, or a look's part"
-pub returned-by-name : (a : ℕ) (l : List ℕ) (y : After)
+pub returned-by-name : (a k : ℕ) (l : List ℕ) (y : After)
     → (returned (Ask.read a l) y ≡ y .block)
     × (returned (Ask.through a l) y ≡ none)
     × (returned (Ask.back a l) y ≡ none)
     × (returned (Ask.invalidate a l) y ≡ none)
     × (returned (Ask.look a) y ≡ some (y .part))
-    × (returned Ask.flush y ≡ none)
-returned-by-name a l y = (refl, refl, refl, refl, refl, refl)
+    × (returned (Ask.flush k) y ≡ none)
+returned-by-name a k l y = (refl, refl, refl, refl, refl, refl)
 
 -- ---- the machines by example
 
@@ -80,7 +80,7 @@ pub plain-by-example :
     × (plainNext {X = ℕ} (0 ∷ 1 ∷ []) (Call.invalidate 1 5) ≡ 0 ∷ 5 ∷ [])
     × (plainNext {X = ℕ} (0 ∷ 1 ∷ []) (Call.read 1) ≡ 0 ∷ 1 ∷ [])
     × (plainNext {X = ℕ} (0 ∷ 1 ∷ []) (Call.look 1) ≡ 0 ∷ 1 ∷ [])
-    × (plainNext {X = ℕ} (0 ∷ 1 ∷ []) Call.flush ≡ 0 ∷ 1 ∷ [])
+    × (plainNext {X = ℕ} (0 ∷ 1 ∷ []) (Call.flush 2) ≡ 0 ∷ 1 ∷ [])
 plain-by-example = (refl, refl, refl, refl, refl, refl)
 
 -- a read and a look answer its block, no other call does
@@ -90,7 +90,7 @@ pub answers-by-example :
     × (plainBlock {X = ℕ} 9 (0 ∷ 1 ∷ []) (Call.through 1 5) ≡ none)
     × (plainBlock {X = ℕ} 9 (0 ∷ 1 ∷ []) (Call.back 1 5) ≡ none)
     × (plainBlock {X = ℕ} 9 (0 ∷ 1 ∷ []) (Call.invalidate 1 5) ≡ none)
-    × (plainBlock {X = ℕ} 9 (0 ∷ 1 ∷ []) Call.flush ≡ none)
+    × (plainBlock {X = ℕ} 9 (0 ∷ 1 ∷ []) (Call.flush 2) ≡ none)
 answers-by-example = (refl, refl, refl, refl, refl, refl)
 
 abbrev reading : ℕ → Read
@@ -143,9 +143,9 @@ pub numbers-by-example : (InList 1 → ⊥) × (InList 6 → ⊥) × (InList 7 �
 numbers-by-example = (λ h. false≢true h, λ h. false≢true h, λ h. false≢true h, λ h. false≢true h)
 
 -- a read, a look and a flush write no block, so that a list of them is compared with printed D-LRU
-pub reads-are-compared : (B a : ℕ) (l : List ℕ) → NoWrite (callOf B (Ask.read a l)) × NoWrite (callOf B (Ask.look a)) × NoWrite (callOf B Ask.flush)
+pub reads-are-compared : (B a k : ℕ) (l : List ℕ) → NoWrite (callOf B (Ask.read a l)) × NoWrite (callOf B (Ask.look a)) × NoWrite (callOf B (Ask.flush k))
 unfolding callOf
-reads-are-compared B a l = (refl, refl, refl)
+reads-are-compared B a k l = (refl, refl, refl)
 
 -- ---- reads alone
 
@@ -180,7 +180,7 @@ module _ (N : Numbers) where
 
   no-write : (rs : List (ℕ × List ℕ)) → All (λ q. NoWrite (callOf (N .B) q)) (map asRead rs)
   no-write [] = tt
-  no-write (r ∷ rs) = ((reads-are-compared (N .B) (r .0) (r .1)) .0, no-write rs)
+  no-write (r ∷ rs) = ((reads-are-compared (N .B) (r .0) 0 (r .1)) .0, no-write rs)
 
   -- In a list of reads alone, from a fresh box over any disk and flash bytes: hits, misses and the order of addresses and blocks are the printed D-LRU's.
   pub reads-alone : (t : Lent) (rs : List (ℕ × List ℕ)) → refusal N t opening ≡ 0

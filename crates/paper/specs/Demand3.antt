@@ -1,7 +1,7 @@
 -- Demand 3 as one type: a claim about every list of calls from a fresh box, in bytes and in refusals computed from the bytes.
 -- Assumes nothing.
 use mathlib.Core.Path.{_≡_}
-use mathlib.Core.Bool.{true, not, cond}
+use mathlib.Core.Bool.{true, false, not, cond}
 use mathlib.Core.List.{List, [], _∷_, _++_, map}
 use mathlib.Core.Option.{Option, none, some, Option·map}
 use Prim.Native.Nat.{ℕ}
@@ -79,9 +79,13 @@ abbrev pub OrphansWithin : (N : Numbers) → Lent → List (Fixed (N .B)) → As
 OrphansWithin N t plain (one q) = Unit {0}
 OrphansWithin N t plain (many l buffer) = (k : ℕ) → OrphanLaw (engine (N .B)) ((batchedFrom N t (take k l)) .box)
 
--- after a flush the disk is the plain disk
+-- "where demand 3 says "after each flush", the full one is meant": after it the disk is the plain disk
 abbrev pub FlushesWhole : (N : Numbers) → Lent → List (Fixed (N .B)) → Asking → Type 0
-FlushesWhole N t plain q = q ≡ one Ask.flush → (next N t q) .disk ≡ join plain
+FlushesWhole N t plain q = q ≡ one (Ask.flush (N .m)) → (next N t q) .disk ≡ join plain
+
+-- "the disk is the plain disk's whenever a call leaves no row dirty"
+abbrev pub CleanIsPlain : (N : Numbers) → Lent → List (Fixed (N .B)) → Type 0
+CleanIsPlain N t plain = All (λ r. r .dirty ≡ false) ((boxIn N t) .rows) → t .disk ≡ join plain
 
 -- "Printed D-LRU: it is fed the reads' addresses, which reads are refused, and the disk as it was at first"; "Compared after each read: held
 -- addresses in order, cached fingerprints in order and, unless it was refused, its hit or miss."
@@ -108,7 +112,7 @@ abbrev pub Premise : (N : Numbers) → Lent → List Asking → Type 0
 Premise N t qs = NoTwoShare (engine (N .B)) (firstPlain N t ++ written N t qs)
 
 -- "Demand 3 is one claim about the whole list of calls, not one for each call. A list begins with a fresh box over any disk and flash bytes."
--- t is the fresh box. `fingerprints`, `blocks`, `asReads` and `flushes` are under the premise.
+-- t is the fresh box. `fingerprints`, `blocks`, `asReads`, `flushes` and `clean` are under the premise.
 -- `printed` is of a list of single calls with no write in it: of reads alone, or with looks and flushes among them.
 pub record Demand3 (N : Numbers) (t : Lent) (qs : List Asking) : Type 0 where
   pub numbers : All InList (refusals N t qs)
@@ -118,6 +122,7 @@ pub record Demand3 (N : Numbers) (t : Lent) (qs : List Asking) : Type 0 where
   pub blocks : Premise N t qs → EachServed N (ShowsPlain N) t (firstPlain N t) qs
   pub asReads : Premise N t qs → EachServed N (AsReads N) t (firstPlain N t) qs
   pub flushes : Premise N t qs → EachServed N (FlushesWhole N) t (firstPlain N t) qs
+  pub clean : Premise N t qs → Throughout N (CleanIsPlain N) t (firstPlain N t) qs
   pub printed : (rs : List Ask) → qs ≡ map one rs → All (λ q. NoWrite (callOf (N .B) q)) rs
       → seenAfter N t rs ≡ printedTrace (engine (N .B) .same) (N .m) (N .d) (contentOf (engine (N .B)) (firstPlain N t))
       (record { addresses = []; fingerprints = [] }) (readsOf N t rs)

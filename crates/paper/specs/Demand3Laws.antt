@@ -20,13 +20,13 @@ use Rattle.paper.specs.BatchLent.{Asking, one, many, badCount, anyOutsid
 use Rattle.paper.specs.Machines.{plainNext, plainBlock, writtenBy, NoWrite, Compared, ifRead, seenIn, printedTrace, contentOf, OrphanLaw}
 use Rattle.paper.specs.Machines.{TrueFingerprints}
 use Rattle.paper.specs.Demand3.{numberOf, next, plainStep, Throughout, EachServed, InList, refusals, writtenIn, written, ShowsPlain, AsReads, OrphansWithin}
-use Rattle.paper.specs.Demand3.{FlushesWhole, readsOf, wordOf, seenAfter, firstPlain, Demand3}
+use Rattle.paper.specs.Demand3.{FlushesWhole, CleanIsPlain, readsOf, wordOf, seenAfter, firstPlain, Demand3}
 use Rattle.paper.specs.Events.{Event}
 use Rattle.paper.specs.Sound.{Sound, sound-fresh}
 use Rattle.paper.specs.Orphans.{NoWaste}
 use Rattle.paper.specs.OrphanList.{noWaste-serve, never-both}
 use Rattle.paper.specs.Faithful.{at, BlockTrue, Faithful}
-use Rattle.paper.specs.PlainDisk.{ServedWithin, Good, fresh-good, faithful-serve, flush-whole}
+use Rattle.paper.specs.PlainDisk.{ServedWithin, Good, clean-is-plain, fresh-good, faithful-serve, flush-whole}
 use Rattle.paper.specs.Quiet as Quiet
 use Rattle.paper.specs.Quiet.{traceOf, printed-quiet}
 use Rattle.paper.specs.Parts.{length-split, join-split}
@@ -212,7 +212,7 @@ module _ (N : Numbers) where
     shows t plain (Ask.through a l) z e = refl
     shows t plain (Ask.back a l) z e = refl
     shows t plain (Ask.invalidate a l) z e = refl
-    shows t plain Ask.flush z e = refl
+    shows t plain (Ask.flush k) z e = refl
 
     shown : (t : Lent) (plain : List (Fixed (N .B))) (q : Asking) → Held t plain → numberOf N t q ≡ 0 → All In (writtenIn N q) → ShowsPlain N t plain q
     unfolding servedBatch
@@ -225,9 +225,16 @@ module _ (N : Numbers) where
     flushed : (t : Lent) (plain : List (Fixed (N .B))) (q : Asking) → Held t plain → numberOf N t q ≡ 0 → All In (writtenIn N q) → FlushesWhole N t plain q
     unfolding callOf lentOf
     flushed t plain q k e i f =
-        let z : refusal N t (calling Ask.flush) ≡ 0 = subst (λ x. numberOf N t x ≡ 0) f e in
+        let z : refusal N t (calling (Ask.flush (N .m))) ≡ 0 = subst (λ x. numberOf N t x ≡ 0) f e in
         ap (λ x. (next N t x) .disk) f
-        ∙ ap (λ x. x .disk) (served-lent N t Ask.flush z) ∙ ap join (flush-whole H In only N plain (boxIn N t) ((good t plain k) .0) (k .faithful))
+        ∙ ap (λ x. x .disk) (served-lent N t (Ask.flush (N .m)) z) ∙ ap join (flush-whole H In only N plain (boxIn N t) ((good t plain k) .0) (k .faithful))
+
+    -- where the lent memory passes, its disk is that of its box
+    clean : (t : Lent) (plain : List (Fixed (N .B))) → Held t plain → CleanIsPlain N t plain
+    unfolding boxIn
+    clean t plain k c =
+        sym (join-split (N .B) (N .P) (t .disk) (k .kept .passes .lengths .disk))
+        ∙ ap join (clean-is-plain H In N plain (boxIn N t) ((good t plain k) .0) (k .faithful) c)
 
     as-reads : (t : Lent) (plain : List (Fixed (N .B))) (q : Asking) → Held t plain → numberOf N t q ≡ 0 → All In (writtenIn N q) → AsReads N t plain q
     as-reads t plain (one q) k e i = tt
@@ -370,6 +377,7 @@ module _ (N : Numbers) where
             blocks = λ only. each-served In only (ShowsPlain N) (shown In only) (opened N t) plain qs (fresh-held In only i₀) i₁;
             asReads = λ only. each-served In only (AsReads N) (as-reads In only) (opened N t) plain qs (fresh-held In only i₀) i₁;
             flushes = λ only. each-served In only (FlushesWhole N) (flushed In only) (opened N t) plain qs (fresh-held In only i₀) i₁;
+            clean = λ only. throughout In only (CleanIsPlain N) (clean In only) (opened N t) plain qs (fresh-held In only i₀) i₁;
             printed = λ rs e w. printed-reads rs w;
           }
 

@@ -8,8 +8,9 @@ use native.Mathlib.Omega.{arith}
 use lib.ListN.{length, getD}
 use Rattle.paper.specs.Cache.{Numbers, Hashing, AddressRow, Box, BlockRows, Stepped, Request, Outcome, Word, newest, copies, isLost, step, step1, step3}
 use Rattle.paper.specs.Cache.{step4, stored, Call, read, through, back, invalidate, look, flush, onDisk, rowWithBlock, answer, readAs, writeThrough}
-use Rattle.paper.specs.Cache.{backRequest, writeBack, writeInvalidate, lookAs, flushed, serve, oneIf, isHit, sameOrNew, blockOf, hit, miss}
+use Rattle.paper.specs.Cache.{backRequest, writeBack, writeInvalidate, lookAs, flushed, reach, serve, oneIf, isHit, sameOrNew, blockOf, hit, miss}
 use Rattle.paper.specs.KeyedLaws.{by-test}
+use Rattle.paper.specs.Partly.{parts-sum}
 use Rattle.paper.specs.Cases.{by-step1, by-step4}
 use Rattle.paper.specs.Sound.{Sound, sound-step1, sound-onDisk}
 
@@ -92,7 +93,10 @@ module _ {F X : Type 0} (H : Hashing F X) where
       go : (o : Option (AddressRow F)) → FewBy (N .m + 1) (lookAs H s a o)
       go (some r) = (omega arith, omega arith)
       go none = (omega arith, omega arith)
-  serve-few N s flush h m1 = let few = h .few in (omega arith, omega (arith, copies-le (λ f. true) (s .rows)))
+  serve-few N s (flush k) h m1 =
+      let few = h .few in
+      let c = parts-sum H (reach H k (s .rows)) (s .rows) in
+      (omega arith, omega (arith, c, copies-le (λ f. true) (s .rows)))
 
   -- a look adds nothing
   pub look-nothing : (N : Numbers) (s : Box F X) (a : ℕ)

@@ -82,7 +82,8 @@ lentOf N s k =
 pub data Ask : Type 0 where
   read through back invalidate : ℕ → List ℕ → Ask
   look : ℕ → Ask
-  flush : Ask
+  -- of at most so many dirty rows
+  flush : ℕ → Ask
 
 -- An opening is asked of lent memory too; it is no call of a list.
 pub data Asked : Type 0 where
@@ -96,7 +97,7 @@ callWith f (through a l) = Call.through a (f l)
 callWith f (back a l) = Call.back a (f l)
 callWith f (invalidate a l) = Call.invalidate a (f l)
 callWith f (look a) = Call.look a
-callWith f flush = Call.flush
+callWith f (flush k) = Call.flush k
 
 unfoldable pub callOf : (B : ℕ) → Ask → Call (Fixed B)
 callOf B q = callWith (fit B) q
@@ -116,7 +117,7 @@ lentBlock (through a l) = some l
 lentBlock (back a l) = some l
 lentBlock (invalidate a l) = some l
 lentBlock (look a) = none
-lentBlock flush = none
+lentBlock (flush k) = none
 
 -- "1: B, P, m or d outside its set." "a power of two from 64 to 4,096"; "1 to 65,536"; "1 to 1,024"; "1 to 256"
 abbrev pub between : ℕ → ℕ → ℕ → Bool

@@ -16,6 +16,8 @@ pub mod Demand3Laws
 pub mod RefusalLaws
 pub mod CallLaws
 pub mod Premise
+-- what a flush of at most k rows counts, and what it leaves dirty
+pub mod Partly
 -- what the definitions and the claims mean, by name and by example; a list of reads alone; what a write back leaves on the disk
 pub mod Claims
 pub mod BackKeeps

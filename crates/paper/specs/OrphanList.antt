@@ -7,12 +7,13 @@ use mathlib.Core.Option.{Option, none, some, Option·map, Option·none-ne-some, 
 use Prim.Native.Nat.{ℕ, _≤_}
 use lib.Dec.{eqb}
 use lib.ListN.{length, getD}
-use Rattle.paper.specs.Cache.{Numbers, Hashing, AddressRow, BlockRow, Box, BlockRows, rowOf, withoutAddress, known, cached, blockOf, cleaned}
+use Rattle.paper.specs.Cache.{Numbers, Hashing, AddressRow, BlockRow, Box, BlockRows, rowOf, withoutAddress, known, cached, blockOf}
 use Rattle.paper.specs.Cache.{someUncached, Call, read, through, back, invalidate, look, flush, onDisk, rowWithBlock, answer, readAs, writeThrough}
-use Rattle.paper.specs.Cache.{backRequest, writeBack, dropped, writeInvalidate, lookAs, flushed, serve, fresh, freed}
+use Rattle.paper.specs.Cache.{backRequest, writeBack, dropped, writeInvalidate, lookAs, flushed, reach, partly, serve, fresh, freed}
 use Rattle.paper.specs.KeyedLaws.{by-test, either, clash, or-left, or-right, or-both, eqb→≡, eqb-self, All, Distinct, has-without-other, has-without, has-without-self, lost-with}
 use Rattle.paper.specs.Machines.{someUnknown, OrphanLaw, plainNext}
-use Rattle.paper.specs.Orphans.{NoWaste, noWaste-step, known-cleaned, apart}
+use Rattle.paper.specs.Orphans.{NoWaste, noWaste-step, apart}
+use Rattle.paper.specs.Partly.{known-partly}
 
 module _ {F X : Type 0} (H : Hashing F X) where
   pub noWaste-readAs : (m : ℕ) (s : Box F X) (a : ℕ) (x : X) (o : Option (AddressRow F)) → Distinct eqb (λ r. r .address) (s .rows) → NoWaste H (s .rows) (s .used)
@@ -57,9 +58,9 @@ module _ {F X : Type 0} (H : Hashing F X) where
       (λ f h. has-without-other eqb (λ r. r .address) (H .same) (λ r. r .fingerprint) f a (s .rows) h)
       (λ f h. lost-with eqb (λ r. r .address) eqb→≡ eqb-self (H .same) (λ r. r .fingerprint) (H .same→≡) f a (s .rows) d h)
 
-  noWaste-flushed : (c : F → Bool) (rows : List (AddressRow F)) (used : List (BlockRow F)) → NoWaste H rows used → NoWaste H (cleaned H c rows) used
-  noWaste-flushed c rows used (inl l) = inl (λ f h. l f (sym (known-cleaned H c f rows) ∙ h))
-  noWaste-flushed c rows used (inr l) = inr (λ f h. known-cleaned H c f rows ∙ l f h)
+  noWaste-partly : (i : ℕ) (rows : List (AddressRow F)) (used : List (BlockRow F)) → NoWaste H rows used → NoWaste H (partly H i rows) used
+  noWaste-partly i rows used (inl l) = inl (λ f h. l f (sym (known-partly H i f rows) ∙ h))
+  noWaste-partly i rows used (inr l) = inr (λ f h. known-partly H i f rows ∙ l f h)
 
   pub noWaste-serve : (N : Numbers) (s : Box F X) (c : Call X) → Distinct eqb (λ r. r .address) (s .rows) → NoWaste H (s .rows) (s .used)
       → NoWaste H ((serve H N s c) .box .rows) ((serve H N s c) .box .used)
@@ -69,7 +70,7 @@ module _ {F X : Type 0} (H : Hashing F X) where
   noWaste-serve N s (through a b) d l = noWaste-step H (N .m) (onDisk H s a b) (record { address = a; fingerprint = H .hash b; block = b; dirty = false }) d l
   noWaste-serve N s (back a b) d l = noWaste-step H (N .m) s (backRequest H s a b) d l
   noWaste-serve N s (invalidate a b) d l = noWaste-invalidate s a b d l
-  noWaste-serve N s flush d l = noWaste-flushed (λ f. true) (s .rows) (s .used) l
+  noWaste-serve N s (flush k) d l = noWaste-partly (reach H k (s .rows)) (s .rows) (s .used) l
 
   -- the law as the document states it: never both
   pub uncached-not : (rows : List (AddressRow F)) (used : List (BlockRow F)) → ((r : AddressRow F) → known H (r .fingerprint) rows ≡ true → cached H (r .fingerprint) used ≡ true) → someUncached H rows used ≡ false

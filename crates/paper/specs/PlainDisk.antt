@@ -1,21 +1,23 @@
 -- After every call the tables have the fingerprints of the plain disk's blocks, and what it returns is the plain disk's.
 use mathlib.Core.Path.{_≡_, refl, sym, ap, ap₂, _∙_, subst}
-use mathlib.Core.Bool.{true, false, not, _&&_, cond, true≢false}
+use mathlib.Core.Bool.{true, false, not, _&&_, cond, true≢false, and-false}
 use mathlib.Core.List.{List, [], _∷_}
 use mathlib.Core.Logic.{_⊎_, inl, inr}
 use mathlib.Core.Option.{Option, none, some, Option·none-ne-some, Option·some-ne-none, Option·some-injective}
-use Prim.Native.Nat.{ℕ, _≤_, _<_}
+use Prim.Native.Nat.{ℕ, zero, suc, _≤_, _<_, _-_}
+use native.Mathlib.Omega.{arith}
 use lib.Dec.{eqb}
-use lib.ListN.{length, set, length-set}
+use lib.ListN.{length, set, take, length-set}
 use lib.Seq.{ext-getD}
 use borrow.Author.Tests.{not-false}
 use Rattle.paper.specs.Cache.{Numbers, Hashing, AddressRow, BlockRow, Box, BlockRows, held, rowOf, withoutAddress, known, cached, blockOf, copied, Call}
 use Rattle.paper.specs.Cache.{read, through, back, invalidate, look, flush, Within, onDisk, rowWithBlock, ifCached, answer, readAs, writeThrough}
-use Rattle.paper.specs.Cache.{dirtied, backRequest, writeBack, dropped, writeInvalidate, lookAs, flushed, serve, fresh, freed}
+use Rattle.paper.specs.Cache.{dirtied, backRequest, writeBack, dropped, writeInvalidate, lookAs, flushed, reach, partly, cleanTo, serve, fresh, freed}
 use Rattle.paper.specs.KeyedLaws.{by-test, either, clash, or-both, or-false-left, or-false-right, and-left, eqb→≡, eqb-swap, All, Distinct, all-left, all-right, all-map, all-without, all-both, find-some, find-none}
 use Rattle.paper.specs.Machines.{plainNext, plainBlock, writtenBy}
 use Rattle.paper.specs.Events.{Event}
-use Rattle.paper.specs.Sound.{Sound, DirtyCached, length-copied, all-cleaned, sound-onDisk, sound-fresh}
+use Rattle.paper.specs.Sound.{Sound, DirtyCached, sound-onDisk, sound-cleanTo, sound-fresh}
+use Rattle.paper.specs.Partly.{all-partly, all-take, left-dirty, dirty-few, none-dirty}
 use Rattle.paper.specs.Faithful.{at, at-set-same, at-set-other, any, dirtyAt, dirty-without, copied-good, CopyTrue, all-at, all-set, all-without-strict, RowTrue, BlockTrue, Faithful, FaithfulBut, row-block, faithful-step}
 
 module _ {F X : Type 0} (H : Hashing F X) where
@@ -50,6 +52,22 @@ module _ {F X : Type 0} (H : Hashing F X) where
       (λ c. rw c (λ e. absurd (Option·some-ne-none x e)))
       (λ c. rw c (λ e. inr (x, refl, c)))
 
+  -- an address that is not dirty in the first i rows, and not when these are clean
+  dirty-behind : (x i : ℕ) (rows : List (AddressRow F)) → dirtyAt any x (take i rows) ≡ false → dirtyAt any x (partly H i rows) ≡ false
+      → dirtyAt any x rows ≡ false
+  dirty-behind x zero rows y z = z
+  dirty-behind x (suc i) [] y z = refl
+  dirty-behind x (suc i) (r ∷ rs) y z =
+      let one = eqb x (r .address) && (r .dirty && true) in
+      or-both one (dirtyAt any x rs) (or-false-left one (dirtyAt any x (take i rs)) y)
+      (dirty-behind x i rs (or-false-right one (dirtyAt any x (take i rs)) y)
+      (or-false-right (eqb x (r .address) && ((r .dirty && false) && true)) (dirtyAt any x (partly H i rs)) z))
+
+  all-clean-at : (x : ℕ) (rows : List (AddressRow F)) → All (λ r. r .dirty ≡ false) rows → dirtyAt any x rows ≡ false
+  all-clean-at x [] c = refl
+  all-clean-at x (r ∷ rs) c =
+      or-both (eqb x (r .address) && (r .dirty && true)) (dirtyAt any x rs) (rw (c .0) (and-false (eqb x (r .address)))) (all-clean-at x rs (c .1))
+
   -- on a miss the disk is up to date at the address
   miss-clean : (N : Numbers) (s : Box F X) (a : ℕ) → Sound H N s → rowWithBlock H s a ≡ none → dirtyAt any a (s .rows) ≡ false
   miss-clean N s a h e =
@@ -74,6 +92,12 @@ module _ {F X : Type 0} (H : Hashing F X) (In : X → Type 0) where
         plainLength = f .plainLength;
         current = λ x n dy. f .current x dy;
       }
+
+  -- "the disk is the plain disk's whenever a call leaves no row dirty"
+  pub clean-is-plain : (N : Numbers) (plain : List X) (s : Box F X) → Sound H N s → Faithful H In (N .P) plain s
+      → All (λ r. r .dirty ≡ false) (s .rows) → s .disk ≡ plain
+  clean-is-plain N plain s h f c =
+      ext-getD (H .blank) (s .disk) plain (h .diskLength ∙ sym (f .plainLength)) (λ i k. f .current i (all-clean-at H i (s .rows) c))
 
   -- the plain disk's block a is replaced
   row-set : (a : ℕ) (b : X) (plain : List X) (r : AddressRow F) → eqb a (r .address) ≡ false → RowTrue H In plain r → RowTrue H In (set plain a b) r
@@ -158,27 +182,42 @@ module _ {F X : Type 0} (H : Hashing F X) (In : X → Type 0) (only : (b c : X) 
             at-set-other H (s .disk) a x b n′ ∙ f .current x (dirty-without H a x (s .rows) n dy) ∙ sym (at-set-other H plain a x b n′));
       }
 
-  flushed-at : (N : Numbers) (plain : List X) (s : Box F X) → Sound H N s → Faithful H In (N .P) plain s → (x : ℕ)
-      → at H (copied H any (s .rows) (s .used) (s .flash) (s .disk)) x ≡ at H plain x
-  flushed-at N plain s h f x =
-      copied-good H any (s .rows) (s .used) (s .flash) (s .disk) plain (N .P) x (h .diskLength)
+  -- the disk after the dirty ones among the first i rows are copied
+  copied-at : (N : Numbers) (plain : List X) (s : Box F X) → Sound H N s → Faithful H In (N .P) plain s → (i x : ℕ)
+      → dirtyAt any x (partly H i (s .rows)) ≡ false → at H (copied H any (take i (s .rows)) (s .used) (s .flash) (s .disk)) x ≡ at H plain x
+  copied-at N plain s h f i x y =
+      copied-good H any (take i (s .rows)) (s .used) (s .flash) (s .disk) plain (N .P) x (h .diskLength)
       (all-map (λ r. (RowTrue H In plain r × (r .address < N .P)) × DirtyCached H (s .used) r) (CopyTrue H any (N .P) (s .used) (s .flash) plain)
       (λ r y e. (
         row-block H In only (N .P) plain (s .used) (s .flash) r (f .plainIn) (f .plainLength) (y .0 .1) (f .blocksTrue) (y .0 .0)
             (y .1 (and-left (r .dirty) true e)),
         y .0 .1,
       ))
-      (s .rows) (all-both (λ r. RowTrue H In plain r × (r .address < N .P)) (DirtyCached H (s .used)) (s .rows)
-      (all-both (RowTrue H In plain) (λ r. r .address < N .P) (s .rows) (f .rowsTrue) (h .below)) (h .dirtyCached)))
-      (by-test (dirtyAt any x (s .rows)) (λ y. inr y) (λ y. inl (f .current x y)))
+      (take i (s .rows)) (all-take H (λ r. (RowTrue H In plain r × (r .address < N .P)) × DirtyCached H (s .used) r) i (s .rows)
+      (all-both (λ r. RowTrue H In plain r × (r .address < N .P)) (DirtyCached H (s .used)) (s .rows)
+      (all-both (RowTrue H In plain) (λ r. r .address < N .P) (s .rows) (f .rowsTrue) (h .below)) (h .dirtyCached))))
+      (by-test (dirtyAt any x (take i (s .rows))) (λ z. inr z) (λ z. inl (f .current x (dirty-behind H x i (s .rows) z y))))
 
-  -- after a flush the disk is the plain disk
-  pub flush-whole : (N : Numbers) (plain : List X) (s : Box F X) → Sound H N s → Faithful H In (N .P) plain s → (serve H N s flush) .box .disk ≡ plain
+  faithful-cleanTo : (N : Numbers) (plain : List X) (s : Box F X) (i : ℕ) → Sound H N s → Faithful H In (N .P) plain s
+      → Faithful H In (N .P) plain (cleanTo H i s)
+  faithful-cleanTo N plain s i h f =
+      record {
+        rowsTrue = all-partly H (RowTrue H In plain) (RowTrue H In plain) (λ r y. y) (λ r y. y) i (s .rows) (f .rowsTrue);
+        blocksTrue = f .blocksTrue;
+        plainIn = f .plainIn;
+        plainLength = f .plainLength;
+        current = λ x y. copied-at N plain s h f i x y;
+      }
+
+  -- after a full flush the disk is the plain disk
+  pub flush-whole : (N : Numbers) (plain : List X) (s : Box F X) → Sound H N s → Faithful H In (N .P) plain s
+      → (serve H N s (flush (N .m))) .box .disk ≡ plain
   unfolding serve flushed
   flush-whole N plain s h f =
-      let l = length-copied H any (s .rows) (s .used) (s .flash) (s .disk) in
-      ext-getD (H .blank) (copied H any (s .rows) (s .used) (s .flash) (s .disk)) plain (l ∙ h .diskLength ∙ sym (f .plainLength))
-      (λ i k. flushed-at N plain s h f i)
+      let i = reach H (N .m) (s .rows) in
+      let few = h .few in
+      clean-is-plain H In N plain (cleanTo H i s) (sound-cleanTo H N i s h) (faithful-cleanTo N plain s i h f)
+      (none-dirty H (partly H i (s .rows)) (left-dirty H (N .m) s ∙ omega (arith, dirty-few H (s .rows), few)))
 
   -- where a write back leaves the row clean, the disk has its block already
   still-clean : (N : Numbers) (plain : List X) (s : Box F X) (a : ℕ) (b : X) (o : Option (AddressRow F)) → rowOf a (s .rows) ≡ o → Sound H N s
@@ -224,16 +263,7 @@ module _ {F X : Type 0} (H : Hashing F X) (In : X → Type 0) (only : (b c : X) 
         refl,
       )
   faithful-serve N plain s (invalidate a b) h f m1 d1 w i = (faithful-invalidate N plain s a b h f (i .0) w, refl)
-  faithful-serve N plain s flush h f m1 d1 w i = (
-    record {
-      rowsTrue = all-cleaned H any (RowTrue H In plain) (RowTrue H In plain) (λ r y. y) (s .rows) (f .rowsTrue);
-      blocksTrue = f .blocksTrue;
-      plainIn = f .plainIn;
-      plainLength = f .plainLength;
-      current = λ x dy. flushed-at N plain s h f x;
-    },
-    refl,
-  )
+  faithful-serve N plain s (flush k) h f m1 d1 w i = (faithful-cleanTo N plain s (reach H k (s .rows)) h f, refl)
 
 -- an event whose call is served has an address of the disk's
 abbrev pub ServedWithin : {X : Type 0} → ℕ → Event X → Type 0

@@ -35,7 +35,7 @@ memory = record { n = 0; disk = filled 0; flash = filled 0; addresses = replicat
 
 -- a block filled with 1 is written back, read, and flushed
 abbrev asked : List Asking
-asked = one (Ask.back 0 (filled 1)) ∷ one (Ask.read 0 (filled 0)) ∷ one Ask.flush ∷ []
+asked = one (Ask.back 0 (filled 1)) ∷ one (Ask.read 0 (filled 0)) ∷ one (Ask.flush 1) ∷ []
 
 pub opens : refusal numbers memory opening ≡ 0
 unfolding refusal Lent.unfit Lent.wrongBuffers Unsound.elem
@@ -72,7 +72,8 @@ unfolding written Lent.callOf
 written-is =
     let t₁ = (call numbers (opened numbers memory) (Ask.back 0 (filled 1))) .lent in
     let t₂ = (call numbers t₁ (Ask.read 0 (filled 0))) .lent in
-    rw first-served (ap {B = List (Fixed 64)} (λ l. block 1 ∷ l) (unwritten t₁ (Ask.read 0 (filled 0)) (one Ask.flush ∷ []) refl ∙ unwritten t₂ Ask.flush [] refl))
+    rw first-served (ap {B = List (Fixed 64)} (λ l. block 1 ∷ l)
+    (unwritten t₁ (Ask.read 0 (filled 0)) (one (Ask.flush 1) ∷ []) refl ∙ unwritten t₂ (Ask.flush 1) [] refl))
 
 blocks-are : split 64 1 ((opened numbers memory) .disk) ++ written numbers (opened numbers memory) asked ≡ block 0 ∷ block 1 ∷ []
 unfolding split fresh

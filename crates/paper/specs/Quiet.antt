@@ -5,16 +5,17 @@ use mathlib.Core.List.{List, [], _∷_}
 use mathlib.Core.Option.{Option, none, some, Option·map, Option·some-ne-none}
 use mathlib.Core.Logic.{inl}
 use Prim.Native.Nat.{ℕ, _≤_, _<_}
-use lib.ListN.{length}
+use lib.ListN.{length, take}
 use Rattle.paper.specs.Cache.{Numbers, Hashing, AddressRow, Box, Call, read, through, back, invalidate, look, flush, about, before, Below, Within, serve}
 use Rattle.paper.specs.Cache.{fresh}
-use Rattle.paper.specs.Cache.{lookAs, flushed, rowWithBlock}
+use Rattle.paper.specs.Cache.{lookAs, flushed, reach, rowWithBlock}
 use Rattle.paper.specs.KeyedLaws.{All, by-test}
 use Rattle.paper.specs.Machines.{contentOf, NoWrite, Read, Compared, ifRead, seenIn, printedTrace}
 use Rattle.paper.specs.Events.{Event, cacheTrace}
 use Rattle.paper.specs.Sound.{Sound, sound-serve, sound-fresh}
 use Rattle.paper.specs.PlainDisk.{ServedWithin}
-use Rattle.paper.specs.Printed.{ReadInv, read-printed, printed-law, cleaned-clean, copied-clean}
+use Rattle.paper.specs.Printed.{ReadInv, read-printed, printed-law, copied-clean}
+use Rattle.paper.specs.Partly.{partly-clean, all-take}
 
 abbrev pub readsOf : {X : Type 0} → List (Event X) → List Read
 readsOf [] = []
@@ -37,11 +38,12 @@ module _ {F X : Type 0} (H : Hashing F X) where
       go (some r) = refl
       go none = refl
 
-  flush-same : (N : Numbers) (disk : List X) (s : Box F X) → ReadInv H (contentOf H disk) disk s → (serve H N s flush) .box ≡ s
+  flush-same : (N : Numbers) (k : ℕ) (disk : List X) (s : Box F X) → ReadInv H (contentOf H disk) disk s → (serve H N s (flush k)) .box ≡ s
   unfolding serve flushed
-  flush-same N disk s v =
-      let r = cleaned-clean H (λ f. true) (s .rows) (v .clean) in
-      let d = copied-clean H (λ f. true) (s .rows) (s .used) (s .flash) (s .disk) (v .clean) in
+  flush-same N k disk s v =
+      let n = reach H k (s .rows) in
+      let r = partly-clean H n (s .rows) (v .clean) in
+      let d = copied-clean H (λ f. true) (take n (s .rows)) (s .used) (s .flash) (s .disk) (all-take H (λ r. r .dirty ≡ false) n (s .rows) (v .clean)) in
       λ i. record { rows = r i; free = s .free; used = s .used; flash = s .flash; disk = d i }
 
   module _ (disk : List X) (N : Numbers) (m1 : 1 ≤ N .m) (d1 : 1 ≤ N .d) where
@@ -61,8 +63,9 @@ module _ {F X : Type 0} (H : Hashing F X) where
         (ih ((serve H N s (read a)) .box) (sound-serve H N s (read a) h m1 d1 (w e)) ((read-printed H disk N s a h v m1 d1) .2))))
     quiet-call (look a) r es s n w h v ih
         = by-test r (λ e. rw e (ih s h v)) (λ e. rw e (subst (λ x. traceOf H N x es ≡ cacheTrace H N s (readsOf es)) (sym (look-same N s a)) (ih s h v)))
-    quiet-call flush r es s n w h v ih
-        = by-test r (λ e. rw e (ih s h v)) (λ e. rw e (subst (λ x. traceOf H N x es ≡ cacheTrace H N s (readsOf es)) (sym (flush-same N disk s v)) (ih s h v)))
+    quiet-call (flush k) r es s n w h v ih
+        = by-test r (λ e. rw e (ih s h v))
+        (λ e. rw e (subst (λ x. traceOf H N x es ≡ cacheTrace H N s (readsOf es)) (sym (flush-same N k disk s v)) (ih s h v)))
     quiet-call (through a b) r es s n w h v ih = absurd (Option·some-ne-none b n)
     quiet-call (back a b) r es s n w h v ih = absurd (Option·some-ne-none b n)
     quiet-call (invalidate a b) r es s n w h v ih = absurd (Option·some-ne-none b n)

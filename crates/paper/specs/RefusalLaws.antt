@@ -133,8 +133,8 @@ module _ (N : Numbers) (t : Lent) (q : Ask) where
       }
 
 -- "Flush has no 3, look no 9"
-pub flush-no-3 : (N : Numbers) (t : Lent) → refusal N t (calling Ask.flush) ≢ 3
-flush-no-3 N t e = false≢true ((exactly N t Ask.flush .gives-3 .0 e) .1)
+pub flush-no-3 : (N : Numbers) (t : Lent) (k : ℕ) → refusal N t (calling (Ask.flush k)) ≢ 3
+flush-no-3 N t k e = false≢true ((exactly N t (Ask.flush k) .gives-3 .0 e) .1)
 
 pub look-no-9 : (N : Numbers) (t : Lent) (a : ℕ) → refusal N t (calling (Ask.look a)) ≢ 9
 look-no-9 N t a e = false≢true ((exactly N t (Ask.look a) .gives-9 .0 e) .1)

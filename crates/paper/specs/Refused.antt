@@ -109,7 +109,7 @@ abbrev looking : ℕ → Asked
 looking a = calling (Ask.look a)
 
 abbrev flushing : ℕ → Asked
-flushing a = calling Ask.flush
+flushing a = calling (Ask.flush a)
 
 abbrev starting : ℕ → Asked
 starting a = opening
@@ -341,7 +341,7 @@ keptCalls =
     ∷ keeps small (held 1 (addressRow 1 two 1 ∷ [])) (Ask.back 1 (filled 5)) 8 (some (filled 5))
     ∷ keeps (numbers 32 2 2 2) sound (Ask.invalidate 1 (filled 5)) 1 (some (filled 5))
     ∷ keeps small (blockByte (paddingByte 0 2) 1) (Ask.look 1) 7 none
-    ∷ keeps small (memory 3 rows blocks noCounts) Ask.flush 6 none
+    ∷ keeps small (memory 3 rows blocks noCounts) (Ask.flush 3) 6 none
     ∷ []
 
 -- Calls that are served and hash nothing
@@ -358,7 +358,7 @@ servedCalls =
     -- a read hit: the answer is in the lent block, the row stays dirty
     ∷ serves (counting (2 ^ 63) (2 ^ 63) 0 0) (Ask.read 1 (filled 5)) (answered hit 0 0) (counting (2 ^ 63 + 1) (2 ^ 63 + 1) 0 0) (some (filled 8)) []
     -- a flush: disk 1 has the block, the row is clean
-    ∷ serves sound Ask.flush (answered done 0 1)
+    ∷ serves sound (Ask.flush 1) (answered done 0 1)
     (record {
       n = 1;
       disk = filled 6 ++ filled 8;

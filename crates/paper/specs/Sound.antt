@@ -7,15 +7,16 @@ use mathlib.Core.Option.{Option, none, some, Option·none-ne-some, Option·some-
 use Prim.Native.Nat.{ℕ, suc, zero, _≤_, _<_}
 use native.Mathlib.Omega.{arith}
 use lib.Dec.{eqb}
-use lib.ListN.{length, set, getD, length-set, length-append}
+use lib.ListN.{length, set, getD, take, length-set, length-append}
 use borrow.Author.Tests.{not-true, eqb-false}
 use Rattle.tables.specs.Records.{slotsFrom}
 use Rattle.paper.specs.Keyed.{has, without}
 use Rattle.paper.specs.Cache.{Numbers, Hashing, AddressRow, BlockRow, Box, RowOut, BlockRows, Request, newest, blockRow, held, rowOf, withoutAddress}
 use Rattle.paper.specs.Cache.{known, cached, withoutBlock, slotOf, blockOf, cleaned, copied, isLost, step, step1, step3, step4, freed, oldestUnknown}
 use Rattle.paper.specs.Cache.{stored, Call, read, through, back, invalidate, look, flush, Within, onDisk, rowWithBlock, answer, readAs, writeThrough}
-use Rattle.paper.specs.Cache.{backRequest, writeBack, dropped, writeInvalidate, lookAs, flushed, serve, fresh}
+use Rattle.paper.specs.Cache.{backRequest, writeBack, dropped, writeInvalidate, lookAs, flushed, reach, cleanTo, serve, fresh}
 use Rattle.paper.specs.KeyedLaws.{by-test, either, clash, or-left, or-right, or-false-right, and-left, and-right, eqb→≡, eqb-self, All, Distinct, all-append, all-map, all-without, all-both, has-without-other, has-without, has-without-self, without-absent, distinct-without, distinct-snoc}
+use Rattle.paper.specs.Partly.{distinct-partly, length-partly, all-partly}
 use Rattle.paper.specs.Cases.{by-step1, by-step3, by-step4, Chosen}
 use Rattle.paper.specs.Orphans.{apart, cached-in, cached-add, cached-self, oldestUnknown-some}
 
@@ -338,29 +339,30 @@ module _ {F X : Type 0} (H : Hashing F X) where
         diskLength = length-set (s .disk) a b ∙ h .diskLength;
       }
 
-  sound-flushed : (N : Numbers) (s : Box F X) → Sound H N s → Sound H N ((flushed H s) .box)
-  unfolding flushed
-  sound-flushed N s h =
+  -- the first rows made clean
+  pub sound-cleanTo : (N : Numbers) (i : ℕ) (s : Box F X) → Sound H N s → Sound H N (cleanTo H i s)
+  sound-cleanTo N i s h =
       record {
-        addresses = distinct-cleaned H (λ f. true) (s .rows) (h .addresses);
-        below = all-cleaned H (λ f. true) (λ r. r .address < N .P) (λ r. r .address < N .P) (λ r y. y) (s .rows) (h .below);
-        few = rw (length-cleaned H (λ f. true) (s .rows)) (h .few);
+        addresses = distinct-partly H i (s .rows) (h .addresses);
+        below = all-partly H (λ r. r .address < N .P) (λ r. r .address < N .P) (λ r y. y) (λ r y. y) i (s .rows) (h .below);
+        few = rw (length-partly H i (s .rows)) (h .few);
         fingerprints = h .fingerprints;
         slots = h .slots;
-        dirtyCached = all-cleaned H (λ f. true) (DirtyCached H (s .used)) (DirtyCached H (s .used)) (λ r y e. y (and-left (r .dirty) false e)) (s .rows) (h .dirtyCached);
+        dirtyCached = all-partly H (DirtyCached H (s .used)) (DirtyCached H (s .used)) (λ r y e. y (and-left (r .dirty) false e)) (λ r y. y)
+            i (s .rows) (h .dirtyCached);
         flashLength = h .flashLength;
-        diskLength = length-copied H (λ f. true) (s .rows) (s .used) (s .flash) (s .disk) ∙ h .diskLength;
+        diskLength = length-copied H (λ f. true) (take i (s .rows)) (s .used) (s .flash) (s .disk) ∙ h .diskLength;
       }
 
   pub sound-serve : (N : Numbers) (s : Box F X) (c : Call X) → Sound H N s → 1 ≤ N .m → 1 ≤ N .d → Within (N .P) c → Sound H N ((serve H N s c) .box)
-  unfolding serve writeThrough writeBack answer
+  unfolding serve writeThrough writeBack answer flushed
   sound-serve N s (read a) h m1 d1 w = sound-readAs N s a (getD (s .disk) a (H .blank)) (rowWithBlock H s a) h m1 d1 w
   sound-serve N s (through a b) h m1 d1 w
       = sound-step N (onDisk H s a b) (record { address = a; fingerprint = H .hash b; block = b; dirty = false }) (sound-onDisk N s a b h) m1 d1 w
   sound-serve N s (back a b) h m1 d1 w = sound-step N s (backRequest H s a b) h m1 d1 w
   sound-serve N s (invalidate a b) h m1 d1 w = sound-invalidate N s a b h
   sound-serve N s (look a) h m1 d1 w = sound-lookAs N s a (rowWithBlock H s a) h
-  sound-serve N s flush h m1 d1 w = sound-flushed N s h
+  sound-serve N s (flush k) h m1 d1 w = sound-cleanTo N (reach H k (s .rows)) s h
 
   pub sound-fresh : (N : Numbers) (flash disk : List X) → length flash ≡ N .d → length disk ≡ N .P → Sound H N (fresh (N .d) flash disk)
   sound-fresh N flash disk fl dl =

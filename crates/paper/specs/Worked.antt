@@ -106,7 +106,7 @@ replay =
     ∷ says (read 3) hit 0 0
     ∷ says (read 4) miss 1 0
     ∷ says (read 2) miss 1 1
-    ∷ says flush done 0 0
+    ∷ says (flush 3) done 0 0
     ∷ says (look 3) fromDisk 0 0
     ∷ []
 
@@ -247,13 +247,43 @@ more =
     })
     -- A flush copies both dirty rows and makes them clean; the second copies nothing. No order changes.
     ∷ example 2 2 (record {
-      said = says (back 0 9) newBlock 1 0 ∷ says (back 1 8) newBlock 1 0 ∷ says flush done 0 2 ∷ says flush done 0 0 ∷ [];
+      said = says (back 0 9) newBlock 1 0 ∷ says (back 1 8) newBlock 1 0 ∷ says (flush 2) done 0 2 ∷ says (flush 2) done 0 0 ∷ [];
       returned = [];
       rows = clean 0 9 ∷ clean 1 8 ∷ [];
       blocks = blockIn 9 0 ∷ blockIn 8 1 ∷ [];
       flash = 9 ∷ 8 ∷ [];
       disk = 9 ∷ 8 ∷ 2 ∷ 3 ∷ 4 ∷ 5 ∷ 6 ∷ 7 ∷ [];
       counters = counters 0 0 2 2;
+    })
+    -- Two dirty rows behind a clean one. A flush of at most 0 copies none, one of at most 1 the older; "No order changes."
+    ∷ example 3 3 (record {
+      said = says (read 4) miss 1 0 ∷ says (back 0 9) newBlock 1 0 ∷ says (back 1 8) newBlock 1 0 ∷ says (flush 0) done 0 0 ∷ says (flush 1) done 0 1 ∷ [];
+      returned = 4 ∷ [];
+      rows = clean 4 4 ∷ clean 0 9 ∷ dirty 1 8 ∷ [];
+      blocks = blockIn 4 0 ∷ blockIn 9 1 ∷ blockIn 8 2 ∷ [];
+      flash = 4 ∷ 9 ∷ 8 ∷ [];
+      disk = 9 ∷ 1 ∷ 2 ∷ 3 ∷ 4 ∷ 5 ∷ 6 ∷ 7 ∷ [];
+      counters = counters 1 0 3 1;
+    })
+    -- A flush of at most 2 of three dirty rows leaves the newest dirty; one of more than there are copies that one.
+    ∷ example 3 3 (record {
+      said = says (back 0 9) newBlock 1 0 ∷ says (back 1 8) newBlock 1 0 ∷ says (back 2 7) newBlock 1 0 ∷ says (flush 2) done 0 2 ∷ [];
+      returned = [];
+      rows = clean 0 9 ∷ clean 1 8 ∷ dirty 2 7 ∷ [];
+      blocks = blockIn 9 0 ∷ blockIn 8 1 ∷ blockIn 7 2 ∷ [];
+      flash = 9 ∷ 8 ∷ 7 ∷ [];
+      disk = 9 ∷ 8 ∷ 2 ∷ 3 ∷ 4 ∷ 5 ∷ 6 ∷ 7 ∷ [];
+      counters = counters 0 0 3 2;
+    })
+    ∷ example 3 3 (record {
+      said = says (back 0 9) newBlock 1 0 ∷ says (back 1 8) newBlock 1 0 ∷ says (back 2 7) newBlock 1 0
+          ∷ says (flush 2) done 0 2 ∷ says (flush 9) done 0 1 ∷ [];
+      returned = [];
+      rows = clean 0 9 ∷ clean 1 8 ∷ clean 2 7 ∷ [];
+      blocks = blockIn 9 0 ∷ blockIn 8 1 ∷ blockIn 7 2 ∷ [];
+      flash = 9 ∷ 8 ∷ 7 ∷ [];
+      disk = 9 ∷ 8 ∷ 7 ∷ 3 ∷ 4 ∷ 5 ∷ 6 ∷ 7 ∷ [];
+      counters = counters 0 0 3 3;
     })
     -- Write invalidate frees slot 0, which comes in front of the free slot 2.
     ∷ example 3 3 (record {
@@ -395,7 +425,7 @@ pub data Printed : Type 0 where
 abbrev letter : Call ℕ → Letter
 letter (read a) = R
 letter (look a) = L
-letter flush = F
+letter (flush k) = F
 letter (through a b) = T
 letter (back a b) = B
 letter (invalidate a b) = I
@@ -407,7 +437,7 @@ prints i (x ∷ xs) k = line i (letter (x .call)) (about (x .call) .address) (x 
 abbrev output : State → List Printed
 output t = prints 1 (t .said) (t .counters)
 
-pub replay-prints : output (plays (boxOf 3 2) (start (boxOf 3 2)) noCounts (read 1 ∷ read 2 ∷ back 3 1 ∷ read 3 ∷ read 4 ∷ read 2 ∷ flush ∷ look 3 ∷ []))
+pub replay-prints : output (plays (boxOf 3 2) (start (boxOf 3 2)) noCounts (read 1 ∷ read 2 ∷ back 3 1 ∷ read 3 ∷ read 4 ∷ read 2 ∷ flush 3 ∷ look 3 ∷ []))
     ≡ line 1 R (some 1) miss 1 0
     ∷ line 2 R (some 2) miss 1 0
     ∷ line 3 B (some 3) sameBlock 0 0

@@ -8,7 +8,7 @@ ghost use mathlib.Core.Path.{_≡_};
 ghost use mathlib.Core.Bool.{true};
 ghost use Prim.Native.Nat.{_<_, _≤_};
 ghost use lib.ListN.{length, getD};
-ghost use Rattle.paper.specs.Cache.{Box, slotOf};
+ghost use Rattle.paper.specs.Cache.{Box, slotOf, reach};
 ghost use Rattle.paper.specs.Engine.{Fixed, engine};
 ghost use Rattle.parts.specs.Rep.{Sized, Rep, Lent, LentWith, noRow, copiedRow, copiedRows};
 ghost use Rattle.parts.specs.Asked.{slotIn};
@@ -107,9 +107,10 @@ pub fn clean_row(
     copy_row(b, i, disk, flash, addrs, blocks, slot)
 }
 
-// The same of every held row, oldest first.
+// The same of held rows, oldest first, until `k` of them were dirty.
 pub fn flush_rows(
     b: BoxRecord,
+    k: usize,
     disk: &mut [u8],
     flash: &[u8],
     addrs: &mut [u8],
@@ -121,11 +122,14 @@ pub fn flush_rows(
     requires { ⌜ Indexed (b .slots) (now blocks) (now heads) ⌝ }
     ensures { λ r. ⌜ r ≤ b .held ⌝ }
     ensures { λ r. ⌜ ((s : Box (Fixed 32) (Fixed (b .size))) → Rep b (now (disk .entry)) (now (flash .entry)) (now (addrs .entry)) (now (blocks .entry)) s
-        → record { count = r; disk = now (disk .exit); addrs = now (addrs .exit) } ≡ copiedRows b (λ f. true) s (b .held)) ⌝ }
+        → record { count = r; disk = now (disk .exit); addrs = now (addrs .exit) } ≡ copiedRows b (λ f. true) s (reach (engine (b .size)) k (s .rows))) ⌝ }
 {
     let mut count = 0;
     let mut i = 0;
     while i < b.held {
+        if k <= count {
+            return count;
+        }
         count += flush_row(b, i, disk, flash, addrs, blocks, heads);
         i += 1;
     }

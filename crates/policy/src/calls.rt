@@ -136,6 +136,28 @@ pub fn write(
     answered(b, write_word(s.yes), s, c, 0, 0)
 }
 
+// Flush of at most `k`: so many dirty rows, oldest first, are copied to the disk and made clean.
+pub fn flush_some(
+    b: BoxRecord,
+    k: usize,
+    disk: &mut [u8],
+    flash: &[u8],
+    addresses: &mut [u8],
+    blocks: &[u8],
+    c: Counters,
+) -> Outcome
+    ensures { λ r. ⌜ told r (now (disk .exit)) (now (flash .entry)) (now (addresses .exit)) (now (blocks .entry)) Option.none
+        ≡ called b (lent b (now (disk .entry)) (now (flash .entry)) (now (addresses .entry)) (now (blocks .entry)) (countersOf c)) (Ask.flush k) ⌝ }
+{
+    let mut heads = [0u16; index::ENTRIES];
+    let number = refusals::of_flush(b, disk, flash, addresses, blocks, c, &mut heads);
+    if number != 0 {
+        return refused(number, b, c);
+    }
+    let s = serve::serve_flush(b, k, disk, flash, addresses, blocks, &heads);
+    answered(b, Word::Done, s, c, 0, 0)
+}
+
 // Flush: each dirty row is copied to the disk and made clean.
 pub fn flush(
     b: BoxRecord,
@@ -146,13 +168,7 @@ pub fn flush(
     c: Counters,
 ) -> Outcome
     ensures { λ r. ⌜ told r (now (disk .exit)) (now (flash .entry)) (now (addresses .exit)) (now (blocks .entry)) Option.none
-        ≡ called b (lent b (now (disk .entry)) (now (flash .entry)) (now (addresses .entry)) (now (blocks .entry)) (countersOf c)) Ask.flush ⌝ }
+        ≡ called b (lent b (now (disk .entry)) (now (flash .entry)) (now (addresses .entry)) (now (blocks .entry)) (countersOf c)) (Ask.flush (b .rows)) ⌝ }
 {
-    let mut heads = [0u16; index::ENTRIES];
-    let number = refusals::of_flush(b, disk, flash, addresses, blocks, c, &mut heads);
-    if number != 0 {
-        return refused(number, b, c);
-    }
-    let s = serve::serve_flush(b, disk, flash, addresses, blocks, &heads);
-    answered(b, Word::Done, s, c, 0, 0)
+    flush_some(b, b.rows, disk, flash, addresses, blocks, c)
 }

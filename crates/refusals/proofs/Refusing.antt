@@ -88,9 +88,9 @@ module _ (b : BoxRecord) (disk flash addresses blocks : List ℕ) (k : Counters)
   unfolding refusal tablesRefusal
   look-rest a p = rw (o .fit, o .right, p) refl
 
-  pub flush-rest : stateRefusal b addresses blocks k ≡ refusal (numbersOf b) (lent b disk flash addresses blocks k) (calling Ask.flush)
+  pub flush-rest : (n : ℕ) → stateRefusal b addresses blocks k ≡ refusal (numbersOf b) (lent b disk flash addresses blocks k) (calling (Ask.flush n))
   unfolding refusal stateRefusal
-  flush-rest = rw (o .fit, o .right) refl
+  flush-rest n = rw (o .fit, o .right) refl
 
   -- 2 for the lent block, and 3
   pub access-2 : (a : ℕ) (l : List ℕ) → (length l ≡ b .size → ⊥) → 2 ≡ refusal (numbersOf b) (lent b disk flash addresses blocks k) (calling (Ask.read a l))

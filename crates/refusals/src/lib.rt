@@ -6,7 +6,7 @@ use parts::BoxRecord;
 use tables::SourceAddress;
 use tables::row;
 ghost use mathlib.Core.Path.{_≡_};
-ghost use Prim.Native.Nat.{_*_, _≤_};
+ghost use Prim.Native.Nat.{ℕ, _*_, _≤_};
 ghost use lib.Dec.{leb};
 ghost use lib.ListN.{length};
 ghost use Rattle.tables.specs.Unsound.{elem};
@@ -221,7 +221,7 @@ pub fn of_look(
     of_tables(b, addresses, blocks, &mut heads)
 }
 
-// The refusal of a flush. Where it is 0, `heads` is the index of the block rows.
+// The refusal of a flush, of however many rows. Where it is 0, `heads` is the index of the block rows.
 pub fn of_flush(
     b: BoxRecord,
     disk: &[u8],
@@ -232,8 +232,9 @@ pub fn of_flush(
     heads: &mut [u16],
 ) -> u32
     requires { ⌜ Blank (now heads) ⌝ }
-    ensures { λ r. ⌜ r ≡ refusal (numbersOf b) (lent b (now (disk .entry)) (now (flash .entry)) (now (addresses .entry)) (now (blocks .entry)) (countersOf c))
-        (calling Ask.flush) ⌝ }
+    ensures { λ r. ⌜ ((k : ℕ)
+        → r ≡ refusal (numbersOf b) (lent b (now (disk .entry)) (now (flash .entry)) (now (addresses .entry)) (now (blocks .entry)) (countersOf c))
+        (calling (Ask.flush k))) ⌝ }
     ensures { λ r. ⌜ (r ≡ 0 → Indexed (b .slots) (now (blocks .entry)) (now (heads .exit))) ⌝ }
 {
     let first = of_opening(b, disk, flash, addresses, blocks);

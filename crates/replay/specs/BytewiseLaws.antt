@@ -90,7 +90,7 @@ later : (p : List ℕ) (k : ℕ) (N : Numbers) (t : Lent) (l : List ℕ) → res
 unfolding rest byteIn endLine laterLine keep laterLines linesIn
 later p k N t [] = last p k N t
 later p k N t (x ∷ l) =
-    let o = doing N t (asked (N .B) (parsed p)) in
+    let o = doing N t (asked N (parsed p)) in
     by-test (eqb x 10)
     (λ e. rw (e, parsed-kept p, before-line p [] (linesIn l), append-nil p) (ap (λ y. answerText k (parsed p) (o .answer) ++ y) (later [] (next k) N (o .lent) l)))
     (λ e. rw (e, kept-more p x, ← before-more p x (linesIn l)) (later (p ++ (x ∷ [])) k N t l))

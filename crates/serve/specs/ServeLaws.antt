@@ -1,21 +1,22 @@
 -- The calls, from their steps. Assumes nothing.
-use mathlib.Core.Path.{_≡_, refl, sym, ap, ap₂, _∙_}
+use mathlib.Core.Path.{_≡_, refl, sym, ap, _∙_}
 use mathlib.Core.Bool.{Bool, true, false, not, cond}
-use mathlib.Core.List.{List, [], _++_, append-nil}
+use mathlib.Core.List.{List, []}
 use mathlib.Core.Option.{Option, none, some}
 use Prim.Native.Nat.{ℕ, _≤_, _<_, _+_, _*_}
 use native.Mathlib.Omega.{arith}
 use lib.Dec.{eqb, ltb}
-use lib.ListN.{length, getD, take, drop, drop-of-length-le, length-set}
-use lib.Seq.{take-all}
+use lib.ListN.{length, getD, length-set}
 use borrow.Author.Tests.{ltb-true, ltb-false}
 use Rattle.block.specs.Blocks.{splice}
 use Rattle.parts.specs.declared.BoxRecord.{BoxRecord}
 use Rattle.paper.specs.KeyedLaws.{by-test}
-use Rattle.paper.specs.Cache.{AddressRow, BlockRow, Box, Call, Word, sameBlock, newBlock, Stepped, answer, cached, serve, writeBack, writeThrough, writeInvalidate, flushed, dirtied, onDisk, withoutAddress, dropped, cleaned, copied, copies, step, hit, miss, readAs, rowWithBlock, rowOf, ifCached, blockOf}
-use Rattle.paper.specs.Sound.{length-cleaned}
+use Rattle.paper.specs.Cache.{AddressRow, BlockRow, Box, Call, Word, sameBlock, newBlock, Stepped, answer, cached, serve, writeBack, writeThrough}
+use Rattle.paper.specs.Cache.{writeInvalidate, flushed, reach, partly, dirtied, onDisk, withoutAddress, dropped, step, hit, miss, readAs, rowWithBlock}
+use Rattle.paper.specs.Cache.{rowOf, ifCached, blockOf}
+use Rattle.paper.specs.Partly.{length-partly}
 use Rattle.paper.specs.Engine.{Fixed, engine}
-use Rattle.paper.specs.Lent.{join, bit}
+use Rattle.paper.specs.Lent.{bit}
 use Rattle.paper.specs.Index.{indexWhere, has-yes, has-no, find-yes, find-no}
 use Rattle.parts.specs.Rep.{numbersOf, noRow, Rep, Copied, copiedRows, partBox}
 use Rattle.paper.specs.Layout.{Addrs, Blocks, addressesOf}
@@ -93,18 +94,28 @@ pub rep-onDisk : (b : BoxRecord) (disk flash addrs blocks : List ℕ) (s : Box (
 rep-onDisk b disk flash addrs blocks s h a l x disk′ e =
     record { rows-are = h .rows-are; blocks-are = h .blocks-are; flash-is = h .flash-is; disk-is = record { count = length-set (s .disk) a x ∙ h .disk-is .count; is = e ∙ put-block-is (b .size) (b .blocks) disk (s .disk) (h .disk-is) a l x } }
 
-pub flush-is : (b : BoxRecord) (lent disk flash addrs blocks : List ℕ) (s : Box (Fixed 32) (Fixed (b .size))) → Rep b disk flash addrs blocks s → (count : ℕ) (disk′ addrs′ : List ℕ) → _≡_ {A = Copied} (record { count = count; disk = disk′; addrs = addrs′ }) (copiedRows b (λ f. true) s (b .held))
-    → _≡_ {A = Leaves} (record { yes = true; held = b .held; left = (record { flashed = 0; primary = count; disk = disk′; flash = flash; addrs = addrs′; blocks = blocks }); block = lent }) (leaves b lent (serve (engine (b .size)) (numbersOf b) s Call.flush))
+-- a flush of at most k rows
+pub flush-is : (b : BoxRecord) (k : ℕ) (lent disk flash addrs blocks : List ℕ) (s : Box (Fixed 32) (Fixed (b .size))) → Rep b disk flash addrs blocks s
+    → (count : ℕ) (disk′ addrs′ : List ℕ)
+    → _≡_ {A = Copied} (record { count = count; disk = disk′; addrs = addrs′ }) (copiedRows b (λ f. true) s (reach (engine (b .size)) k (s .rows)))
+    → _≡_ {A = Leaves}
+    (record {
+      yes = true;
+      held = b .held;
+      left = (record { flashed = 0; primary = count; disk = disk′; flash = flash; addrs = addrs′; blocks = blocks });
+      block = lent;
+    })
+    (leaves b lent (serve (engine (b .size)) (numbersOf b) s (Call.flush k)))
 unfolding leaves serve flushed out4 copiedRows partBox
-flush-is b lent disk flash addrs blocks s h count disk′ addrs′ e =
-    let lr : length (s .rows) ≤ b .held = omega (arith, h .rows-are .count) in
-    let all : take (b .held) (s .rows) ≡ s .rows = take-all (b .held) (s .rows) lr in
-    let nil : drop (b .held) (s .rows) ≡ [] = drop-of-length-le (s .rows) lr in
-    let n : b .held ≡ length (cleaned (engine (b .size)) (λ f. true) (s .rows)) = sym (h .rows-are .count) ∙ sym (length-cleaned (engine (b .size)) (λ f. true) (s .rows)) in
-    let e1 : count ≡ copies (engine (b .size)) (λ f. true) (s .rows) = ap (λ (y : Copied). y .count) e ∙ ap (copies (engine (b .size)) (λ f. true)) all in
-    let e2 : disk′ ≡ join (copied (engine (b .size)) (λ f. true) (s .rows) (s .used) (s .flash) (s .disk)) = ap (λ (y : Copied). y .disk) e ∙ ap (λ (y : List (AddressRow (Fixed 32))). join (copied (engine (b .size)) (λ f. true) y (s .used) (s .flash) (s .disk))) all in
-    let e3 : addrs′ ≡ addressesOf (b .rows) (cleaned (engine (b .size)) (λ f. true) (s .rows)) = ap (λ (y : Copied). y .addrs) e ∙ ap₂ {C = List ℕ} (λ y z. addressesOf (b .rows) (cleaned (engine (b .size)) (λ f. true) y ++ z)) all nil ∙ ap (addressesOf (b .rows)) (append-nil (cleaned (engine (b .size)) (λ f. true) (s .rows))) in
-    λ j. record { yes = true; held = n j; left = (record { flashed = 0; primary = e1 j; disk = e2 j; flash = h .flash-is .is j; addrs = e3 j; blocks = h .blocks-are .is j }); block = lent }
+flush-is b k lent disk flash addrs blocks s h count disk′ addrs′ e =
+    let i = reach (engine (b .size)) k (s .rows) in
+    let n : b .held ≡ length (partly (engine (b .size)) i (s .rows)) = sym (h .rows-are .count) ∙ sym (length-partly (engine (b .size)) i (s .rows)) in
+    λ j. record {
+      yes = true;
+      held = n j;
+      left = (record { flashed = 0; primary = e j .count; disk = e j .disk; flash = h .flash-is .is j; addrs = e j .addrs; blocks = h .blocks-are .is j });
+      block = lent;
+    }
 
 -- invalidate
 pub invalidate-is : (b : BoxRecord) (lent disk flash addrs blocks : List ℕ) (s : Box (Fixed 32) (Fixed (b .size))) → Rep b disk flash addrs blocks s → (a : ℕ) → a < b .blocks → (x : Fixed (b .size)) (yes : Bool) (held : ℕ) (disk′ addrs′ blocks′ : List ℕ)

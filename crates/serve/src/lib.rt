@@ -87,9 +87,10 @@ fn serve_back(
     }
 }
 
-// Flush.
+// Flush of at most `k` dirty rows.
 pub fn serve_flush(
     b: BoxRecord,
+    k: usize,
     disk: &mut [u8],
     flash: &[u8],
     addrs: &mut [u8],
@@ -103,9 +104,9 @@ pub fn serve_flush(
     ensures { λ r. ⌜ ((s : Box (Fixed 32) (Fixed (b .size))) (lent : List ℕ)
         → Rep b (now (disk .entry)) (now (flash .entry)) (now (addrs .entry)) (now (blocks .entry)) s
         → left r (now (disk .exit)) (now (flash .entry)) (now (addrs .exit)) (now (blocks .entry)) lent
-        ≡ leaves b lent (serve (engine (b .size)) (numbersOf b) s Call.flush)) ⌝ }
+        ≡ leaves b lent (serve (engine (b .size)) (numbersOf b) s (Call.flush k))) ⌝ }
 {
-    let count = copy::flush_rows(b, disk, flash, addrs, blocks, heads);
+    let count = copy::flush_rows(b, k, disk, flash, addrs, blocks, heads);
     Served {
         yes: true,
         held: b.held,

@@ -93,7 +93,7 @@ Says N t y (Ask.read a x) l = Returns N t y (Ask.read a x) l
 Says N t y (Ask.through a x) l = Returns N t y (Ask.through a x) l
 Says N t y (Ask.back a x) l = Returns N t y (Ask.back a x) l
 Says N t y (Ask.invalidate a x) l = Returns N t y (Ask.invalidate a x) l
-Says N t y Ask.flush l = Returns N t y Ask.flush l
+Says N t y (Ask.flush n) l = Returns N t y (Ask.flush n) l
 
 -- the buffers after a call: a look keeps them
 abbrev pub keptBy : Kept → Ask → List ℕ → Kept
@@ -102,7 +102,7 @@ keptBy y (Ask.read a x) l = keptOf (leftBy y (Ask.read a x) l)
 keptBy y (Ask.through a x) l = keptOf (leftBy y (Ask.through a x) l)
 keptBy y (Ask.back a x) l = keptOf (leftBy y (Ask.back a x) l)
 keptBy y (Ask.invalidate a x) l = keptOf (leftBy y (Ask.invalidate a x) l)
-keptBy y Ask.flush l = keptOf (leftBy y Ask.flush l)
+keptBy y (Ask.flush n) l = keptOf (leftBy y (Ask.flush n) l)
 
 -- ---- a folder read
 
@@ -193,7 +193,7 @@ module _ (N : Numbers) where
   says t y (Ask.through a x) l k = returns t y (Ask.through a x) l k
   says t y (Ask.back a x) l k = returns t y (Ask.back a x) l k
   says t y (Ask.invalidate a x) l k = returns t y (Ask.invalidate a x) l k
-  says t y Ask.flush l k = returns t y Ask.flush l k
+  says t y (Ask.flush n) l k = returns t y (Ask.flush n) l k
 
   -- the bytes carry on what a call leaves
   carry : (t : Lent) (y : Kept) (q : Ask) (l : List ℕ) → CarriesIn y N t → In64 (t .counters) → eqb (length l) 24 ≡ true
@@ -210,7 +210,7 @@ module _ (N : Numbers) where
   carries-on t y (Ask.through a x) l k b w z = carry t y (Ask.through a x) l k b z
   carries-on t y (Ask.back a x) l k b w z = carry t y (Ask.back a x) l k b z
   carries-on t y (Ask.invalidate a x) l k b w z = carry t y (Ask.invalidate a x) l k b z
-  carries-on t y Ask.flush l k b w z = carry t y Ask.flush l k b z
+  carries-on t y (Ask.flush n) l k b w z = carry t y (Ask.flush n) l k b z
 
   -- a call with an answer of another length changes nothing
   unchanged : (t : Lent) (y : Kept) (q : Ask) (l : List ℕ) → CarriesIn y N t → eqb (length l) 24 ≡ false → keptOf (leftBy y q l) ≡ y
@@ -222,7 +222,7 @@ module _ (N : Numbers) where
   stays t y (Ask.through a x) l k z = unchanged t y (Ask.through a x) l k z
   stays t y (Ask.back a x) l k z = unchanged t y (Ask.back a x) l k z
   stays t y (Ask.invalidate a x) l k z = unchanged t y (Ask.invalidate a x) l k z
-  stays t y Ask.flush l k z = unchanged t y Ask.flush l k z
+  stays t y (Ask.flush n) l k z = unchanged t y (Ask.flush n) l k z
 
   -- the same of a folder read
   returns-many : (t : Lent) (y : Kept) (q f l : List ℕ) → CarriesIn y N t → ReturnsMany N t y q f l

@@ -246,6 +246,39 @@ pub extern "C" fn mindavehu_write_invalidate(
     )
 }
 
+// Copies the blocks of at most `most` dirty rows, oldest first, to the disk; the answer's primary writes say of how many.
+#[no_mangle]
+pub extern "C" fn mindavehu_flush_some(
+    state: &mut [u8],
+    most: usize,
+    disk: &mut [u8],
+    flash: &[u8],
+    addresses: &mut [u8],
+    blocks: &[u8],
+    answer: &mut [u8],
+) -> u32
+    ensures { λ r. ⌜ record {
+      number = r;
+      state = now (state .exit);
+      disk = now (disk .exit);
+      flash = now (flash .entry);
+      addresses = now (addresses .exit);
+      blocks = now (blocks .entry);
+      block = Option.none;
+      answer = now (answer .exit);
+    }
+        ≡ leaves (Ask.flush most) (now (state .entry)) (now (disk .entry)) (now (flash .entry)) (now (addresses .entry)) (now (blocks .entry))
+        (now (answer .entry)) ⌝ }
+{
+    if !fields::fit(24, state, answer) {
+        return 2;
+    }
+    let b = fields::record_in(state);
+    let c = fields::counters_in(state);
+    let o = policy::calls::flush_some(b, most, disk, flash, addresses, blocks, c);
+    fields::write_outcome(state, answer, o)
+}
+
 // Copies each block that is newer in the flash to the disk.
 #[no_mangle]
 pub extern "C" fn mindavehu_flush(
@@ -266,8 +299,8 @@ pub extern "C" fn mindavehu_flush(
       block = Option.none;
       answer = now (answer .exit);
     }
-        ≡ leaves Ask.flush (now (state .entry)) (now (disk .entry)) (now (flash .entry)) (now (addresses .entry)) (now (blocks .entry))
-        (now (answer .entry)) ⌝ }
+        ≡ leaves (Ask.flush (recordIn (now (state .entry)) .rows)) (now (state .entry)) (now (disk .entry)) (now (flash .entry)) (now (addresses .entry))
+        (now (blocks .entry)) (now (answer .entry)) ⌝ }
 {
     if !fields::fit(24, state, answer) {
         return 2;

@@ -40,7 +40,7 @@ firstLine s c =
 -- a later line
 unfoldable pub laterLine : State → Command → Printed
 laterLine s c =
-    let o = doing (s .numbers) (s .lent) (asked (s .numbers .B) c) in
+    let o = doing (s .numbers) (s .lent) (asked (s .numbers) c) in
     record {
       state = record { stage = 1; kept = []; number = next (s .number); numbers = s .numbers; lent = o .lent };
       text = answerText (s .number) c (o .answer);

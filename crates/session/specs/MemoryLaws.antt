@@ -150,9 +150,9 @@ first-small s c h =
 later-small : (s : State) (c : Command) → Fitted s → Small (laterLine s c)
 unfolding laterLine
 later-small s c h =
-    let o = doing (s .numbers) (s .lent) (asked (s .numbers .B) c) in
+    let o = doing (s .numbers) (s .lent) (asked (s .numbers) c) in
     record {
-      state = record { kept = omega arith; holds = h .holds; lengths = doing-lengths (s .numbers) (s .lent) (asked (s .numbers .B) c) (h .lengths) };
+      state = record { kept = omega arith; holds = h .holds; lengths = doing-lengths (s .numbers) (s .lent) (asked (s .numbers) c) (h .lengths) };
       text = answer-short (s .number) c (o .answer);
     }
 

@@ -67,11 +67,11 @@ fn call_box(
     requires { ⌜ Sized (now disk) (now flash) (now addresses) (now blocks) ⌝ }
     ensures { λ r. ⌜ numbersOf (r .box_record) ≡ numbersOf b ⌝ }
     ensures { λ r. ⌜ answerOf (r .answer) ≡ (doing (numbersOf b) (within b
-        (buffers (now (disk .entry)) (now (flash .entry)) (now (addresses .entry)) (now (blocks .entry))) (countersOf k)) (asked (b .size) c)) .answer ⌝ }
+        (buffers (now (disk .entry)) (now (flash .entry)) (now (addresses .entry)) (now (blocks .entry))) (countersOf k)) (asked (numbersOf b) c)) .answer ⌝ }
     ensures { λ r. ⌜ held (r .box_record .held) (countersOf (r .counters))
         (buffers (now (disk .exit)) (now (flash .exit)) (now (addresses .exit)) (now (blocks .exit)))
         ≡ over ((doing (numbersOf b) (within b (buffers (now (disk .entry)) (now (flash .entry)) (now (addresses .entry)) (now (blocks .entry)))
-        (countersOf k)) (asked (b .size) c)) .lent) (buffers (now (disk .entry)) (now (flash .entry)) (now (addresses .entry)) (now (blocks .entry))) ⌝ }
+        (countersOf k)) (asked (numbersOf b) c)) .lent) (buffers (now (disk .entry)) (now (flash .entry)) (now (addresses .entry)) (now (blocks .entry))) ⌝ }
 {
     let p = b.blocks * b.size;
     let f = b.slots * b.size;

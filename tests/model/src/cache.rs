@@ -142,7 +142,8 @@ impl Cache {
             Call::Through => self.write(address, block, false, true),
             Call::Back => self.write(address, block, true, false),
             Call::Invalidate => self.invalidate(address, block),
-            Call::Flush => self.flush(),
+            Call::Flush => self.flush(self.m),
+            Call::FlushSome(most) => self.flush(most),
             Call::Look => self.look(address),
         })
     }
@@ -234,15 +235,13 @@ impl Cache {
         self.counted(word, Writes { flash: 0, primary: 1 })
     }
 
-    fn flush(&mut self) -> Answer {
-        let mut writes = Writes::default();
-        for a in self.addresses.clone() {
-            if self.held[&a].dirty {
-                self.clean(a);
-                writes.primary += 1;
-            }
+    /// "one call cleans at most k dirty rows, oldest first, and says how many it cleaned" (document 02, U3)
+    fn flush(&mut self, most: usize) -> Answer {
+        let dirty: Vec<u32> = self.addresses.iter().copied().filter(|a| self.held[a].dirty).take(most).collect();
+        for a in &dirty {
+            self.clean(*a);
         }
-        self.counted(DONE, writes)
+        self.counted(DONE, Writes { flash: 0, primary: dirty.len() as u64 })
     }
 
     fn look(&self, a: u32) -> Answer {

@@ -41,10 +41,13 @@ pub enum Call {
     Back,
     Invalidate,
     Flush,
+    /// A flush of at most so many dirty rows (document 02, U3).
+    FlushSome(usize),
     Look,
 }
 
-pub const CALLS: [Call; 7] = [Call::Open, Call::Read, Call::Through, Call::Back, Call::Invalidate, Call::Flush, Call::Look];
+/// All calls. The flush in parts is of one row.
+pub const CALLS: [Call; 8] = [Call::Open, Call::Read, Call::Through, Call::Back, Call::Invalidate, Call::Flush, Call::Look, Call::FlushSome(1)];
 
 impl Call {
     pub fn is_write(self) -> bool {
@@ -64,7 +67,7 @@ impl Call {
     pub fn checks(self) -> &'static [u32] {
         match self {
             Call::Open => &[1, 2],
-            Call::Flush => &[1, 2, 6, 7, 8, 9],
+            Call::Flush | Call::FlushSome(_) => &[1, 2, 6, 7, 8, 9],
             Call::Look => &[1, 2, 3, 6, 7, 8],
             _ => &[1, 2, 3, 6, 7, 8, 9],
         }

@@ -26,7 +26,7 @@ fn lists_in_bytes() {
         assert_eq!(carry_out(Call::Open, 0, &mut lent), 0);
         assert_eq!(cache.difference(&lent), None, "seed {seed}");
         for _ in 0..100 {
-            let call = model::CALLS[1 + random.below(6)];
+            let call = model::CALLS[1 + random.below(7)];
             let address = random.below(p + 1) as u32;
             let length = if random.below(20) == 0 { b - 1 } else { b };
             let mut block = vec![random.below(contents) as u8; length];

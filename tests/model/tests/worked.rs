@@ -15,7 +15,7 @@ fn line(cache: &mut Cache, number: usize, text: &str) -> String {
     let call = match parts[0] {
         "R" => Call::Read,
         "L" => Call::Look,
-        "F" => Call::Flush,
+        "F" => parts.get(1).map_or(Call::Flush, |most| Call::FlushSome(most.parse().unwrap())),
         "T" => Call::Through,
         "B" => Call::Back,
         "I" => Call::Invalidate,
@@ -202,7 +202,24 @@ fn order_of_refusals() {
         }
         assert_eq!(model::refusal(call, 7, &served), 0, "{call:?}");
     }
-    println!("seven calls with one damage more each time: the first check of the document's order that applies");
+    println!("eight calls with one damage more each time: the first check of the document's order that applies");
+}
+
+/// Two dirty rows behind a clean one, and three dirty rows: the rows of `further-states` in crates/paper/specs/Worked.antt.
+#[test]
+fn a_flush_in_parts() {
+    let dirty = |cache: &Cache| cache.rows().iter().filter(|(_, row)| row.dirty).map(|(a, _)| *a).collect::<Vec<_>>();
+    let mut cache = fresh(8, 3, 3);
+    let said = lines(&mut cache, &["R 4", "B 0 09", "B 1 08", "F 0", "F 1"]);
+    assert_eq!(said[3..], ["4 F 0 done 0 0", "5 F 1 done 0 1"]);
+    is(&cache, "4:4 0:9 1:8", "4 9 8");
+    assert_eq!((dirty(&cache), cache.disk_block(0)[0], cache.disk_block(1)[0]), (vec![1], 9, 1));
+    let mut cache = fresh(8, 3, 3);
+    let said = lines(&mut cache, &["B 0 09", "B 1 08", "B 2 07", "F 2"]);
+    assert_eq!((said[3].as_str(), dirty(&cache)), ("4 F 2 done 0 2", vec![2]));
+    assert_eq!(line(&mut cache, 5, "F 9"), "5 F 9 done 0 1");
+    assert!(dirty(&cache).is_empty() && (0..3).all(|a| cache.disk_block(a)[0] == 9 - a as u8));
+    println!("flushes of 0, of 1 of two dirty rows, of 2 of three, and of more than there are");
 }
 
 #[test]

@@ -45,9 +45,18 @@ fn shown(line: &[u8]) -> String {
 
 /// The whole output of the program of the states, with `--full` or without.
 pub fn states(input: &[u8], full: bool) -> String {
+    written(input, full, false)
+}
+
+/// The same with `--parts`.
+pub fn in_parts(input: &[u8]) -> String {
+    written(input, false, true)
+}
+
+fn written(input: &[u8], full: bool, parts: bool) -> String {
     let mut output = String::new();
     let mut contents = None;
-    follow(input, |answer, asked, cache| {
+    follow(input, parts, |answer, asked, cache| {
         let Some(cache) = cache else { return output += &format!("{}\n", answer.unwrap()) };
         let contents = contents.get_or_insert_with(|| Contents::of(cache.b));
         match (answer, asked) {
@@ -81,7 +90,7 @@ pub fn option(asked: &[u32]) -> String {
 pub fn folder(input: &[u8], asked: &[u32]) -> String {
     let mut output = states(input, false);
     let (mut last, mut calls) = (None, 0);
-    follow(input, |_, line, cache| {
+    follow(input, false, |_, line, cache| {
         last = cache.cloned();
         calls += line.is_some() as usize;
     });

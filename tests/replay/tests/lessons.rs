@@ -50,6 +50,19 @@ fn in_order(page: &str, text: &str) -> bool {
     text.lines().all(|line| rest.any(|found| found == line))
 }
 
+/// The lesson of a flush in parts: its list, which no replay takes, stands in its page with what the program of the states prints for it.
+#[test]
+fn a_flush_in_parts() {
+    let page = std::fs::read_to_string(root().join("lessons/flush-in-parts.md")).unwrap();
+    let fences: Vec<&str> = page.split("```\n").skip(1).step_by(2).collect();
+    let [input, shown] = fences[..] else { panic!("the page has a list and its output") };
+    let written = String::from_utf8(Program::states(&PLAIN, &["--parts"]).run(input.as_bytes(), Writing::Whole)).unwrap();
+    assert_eq!(written, states::in_parts(input.as_bytes()));
+    assert_eq!(shown, written, "lessons/flush-in-parts.md does not tell its list as it is");
+    assert!(String::from_utf8(replay(input.as_bytes())).unwrap().contains(" refused 4\n"), "a replay takes the list");
+    println!("the lesson of a flush in parts, {} lines", written.lines().count());
+}
+
 /// What the pages show is what the programs print: README.md has the states of each list in one piece, the page of a lesson that has its own (week.md,
 /// folder.md) those of its list with the tale between them.
 #[test]

@@ -38,7 +38,8 @@ fn states_and_page() {
     assert_eq!(written(&["--states"], Some("week.txt")), states);
     assert_eq!(written(&["--page", "week.txt"], None), stored("docs/week.html"));
     assert!(written(&["--page"], Some("week.txt")).contains("<h1>A list of requests, line by line</h1>"));
-    println!("./replay --states and --page, of a file and of standard input");
+    assert_eq!(written(&["--parts", "week.txt"], None), states);
+    println!("./replay --states, --parts and --page, of a file and of standard input");
 }
 
 #[test]

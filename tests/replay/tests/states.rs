@@ -76,6 +76,27 @@ fn random_lists() {
     println!("{LISTS} random lists from the seed 64, with {marks} marks of dirty rows, in {:.0} s", progress.seconds());
 }
 
+/// Random lists in which some lines are flushes in parts, with `--parts`.
+#[test]
+fn flushes_in_parts() {
+    let mut random = Random(67);
+    let mut flushes = 0;
+    for _ in 0..LISTS / 4 {
+        let text = String::from_utf8(random_list(&mut random)).unwrap();
+        let mut input = String::new();
+        for (k, line) in text.lines().enumerate() {
+            input += &format!("{line}\n");
+            if k > 0 && random.below(3) == 0 {
+                input += &format!("F {}\n", [0, 1, 2, random.below(6), 1_024, 99_999][random.below(6)]);
+                flushes += 1;
+            }
+        }
+        assert_eq!(run(&PLAIN, &["--parts"], input.as_bytes()), states::in_parts(input.as_bytes()), "{input}");
+        compare(&PLAIN, false, input.as_bytes());
+    }
+    println!("{} random lists from the seed 67 with {flushes} flushes in parts", LISTS / 4);
+}
+
 /// Under the address and undefined-behaviour sanitizers where they link.
 #[test]
 fn malformed_inputs() {

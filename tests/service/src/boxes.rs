@@ -19,6 +19,14 @@ pub fn pick<T: Copy>(random: &mut Random, list: &[T]) -> T {
     list[random.below(list.len())]
 }
 
+/// How many rows a flush is to clean at most: none, few, as many as can be held, more, and the largest number.
+pub fn most(random: &mut Random, m: usize) -> usize {
+    let few = random.below(4);
+    let some = random.below(m + 1);
+    let one = random.below(8);
+    [0, few, few, some, m, m + 1 + few, usize::MAX, 1][one]
+}
+
 pub fn shuffle<T>(random: &mut Random, list: &mut [T]) {
     for k in (1..list.len()).rev() {
         list.swap(k, random.below(k + 1));

@@ -14,6 +14,7 @@ extern "C" {
     fn mindavehu_write_back(s: M, sl: usize, address: u32, d: M, dl: usize, f: M, fl: usize, a: M, al: usize, b: M, bl: usize, k: P, kl: usize, w: M, wl: usize) -> u32;
     fn mindavehu_write_invalidate(s: M, sl: usize, address: u32, d: M, dl: usize, f: P, fl: usize, a: M, al: usize, b: M, bl: usize, k: P, kl: usize, w: M, wl: usize) -> u32;
     fn mindavehu_flush(s: M, sl: usize, d: M, dl: usize, f: P, fl: usize, a: M, al: usize, b: P, bl: usize, w: M, wl: usize) -> u32;
+    fn mindavehu_flush_some(s: M, sl: usize, most: usize, d: M, dl: usize, f: P, fl: usize, a: M, al: usize, b: P, bl: usize, w: M, wl: usize) -> u32;
     fn mindavehu_look(s: P, sl: usize, address: u32, d: P, dl: usize, f: P, fl: usize, a: P, al: usize, b: P, bl: usize, w: M, wl: usize) -> u32;
 }
 
@@ -37,6 +38,7 @@ fn on_slices(call: Call, address: u32, [state, disk, flash, addresses, blocks, b
             Call::Back => mindavehu_write_back(s, sl, address, d, dl, f, fl, a, al, b, bl, k, kl, w, wl),
             Call::Invalidate => mindavehu_write_invalidate(s, sl, address, d, dl, f, fl, a, al, b, bl, k, kl, w, wl),
             Call::Flush => mindavehu_flush(s, sl, d, dl, f, fl, a, al, b, bl, w, wl),
+            Call::FlushSome(most) => mindavehu_flush_some(s, sl, most, d, dl, f, fl, a, al, b, bl, w, wl),
             Call::Look => mindavehu_look(s, sl, address, d, dl, f, fl, a, al, b, bl, w, wl),
         }
     }

@@ -69,6 +69,33 @@ unsafe extern "C" fn mindavehu_flush(s: M, sl: usize, d: M, dl: usize, f: P, fl:
 }
 
 #[no_mangle]
+unsafe extern "C" fn mindavehu_flush_some(
+    s: M,
+    sl: usize,
+    most: usize,
+    d: M,
+    dl: usize,
+    f: P,
+    fl: usize,
+    a: M,
+    al: usize,
+    b: P,
+    bl: usize,
+    w: M,
+    wl: usize,
+) -> u32 {
+    engines::maps::flush_some(
+        from_raw_parts_mut(s, sl),
+        most,
+        from_raw_parts_mut(d, dl),
+        from_raw_parts(f, fl),
+        from_raw_parts_mut(a, al),
+        from_raw_parts(b, bl),
+        from_raw_parts_mut(w, wl),
+    )
+}
+
+#[no_mangle]
 unsafe extern "C" fn mindavehu_look(s: P, sl: usize, address: u32, d: P, dl: usize, f: P, fl: usize, a: P, al: usize, b: P, bl: usize, w: M, wl: usize) -> u32 {
     engines::maps::look(from_raw_parts(s, sl), address, from_raw_parts(d, dl), from_raw_parts(f, fl), from_raw_parts(a, al), from_raw_parts(b, bl), from_raw_parts_mut(w, wl))
 }

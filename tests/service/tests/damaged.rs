@@ -94,7 +94,7 @@ fn in_large_tables() {
     for _ in 0..turns {
         for (kind, _) in DAMAGES {
             let (lent, address) = damaged(&mut random, &[kind], large);
-            let call = CALLS[random.below(7)];
+            let call = CALLS[random.below(8)];
             let mut lent = lent.clone();
             let number = compare(call, address, &mut lent, random.below(32), &|| format!("{kind:?}, seed {seed}"));
             assert_eq!(number, number_of(call, &[kind]), "{call:?} with {kind:?}, seed {seed}");
@@ -130,7 +130,7 @@ fn changed_bytes() {
             }
         }
         let address = random.below(shape.p + 1) as u32;
-        let call = CALLS[random.below(7)];
+        let call = CALLS[random.below(8)];
         let number = compare(call, address, &mut lent, random.below(32), &|| format!("turn {turn}, {shape:?}, seed {seed}"));
         numbers[number as usize] += 1;
         progress.at(turn);
@@ -147,7 +147,7 @@ fn any_bytes() {
     for turn in 0..total {
         let mut lent = noise(&mut random);
         let address = pick(&mut random, &[0, 0, 1, 2, u32::MAX]);
-        let call = CALLS[random.below(7)];
+        let call = CALLS[random.below(8)];
         let number = compare(call, address, &mut lent, random.below(32), &|| format!("turn {turn}, seed {seed}"));
         numbers[number as usize] += 1;
         progress.at(turn);

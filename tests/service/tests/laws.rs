@@ -1,9 +1,9 @@
-//! What the document says of a whole list of calls, asked of the running service: the plain disk, the orphan law and the printed D-LRU.
+//! What the documents say of a whole list of calls, asked of the running service: the plain disk, the orphan law, flushes in parts and the printed D-LRU.
 //! The model of the cache takes no part.
 use common::Random;
 use model::machines::{PlainDisk, PrintedDlru};
-use model::{fingerprint, read_tables, Answer, Call, Fingerprint, Folder, Lent, ManyAnswer, CACHE, CALLS, HIT};
-use service::boxes::{bytes, folder, folder_count, pick, unopened, Contents, Shape};
+use model::{fingerprint, read_tables, Answer, Call, Fingerprint, Folder, Lent, ManyAnswer, CACHE, CALLS, DONE, HIT};
+use service::boxes::{bytes, folder, folder_count, most, pick, unopened, Contents, Shape};
 use service::calls::{call, call_many};
 use service::progress::{count, seed, Progress};
 use std::collections::{HashMap, HashSet};
@@ -23,7 +23,13 @@ impl Fingerprints {
     }
 }
 
-/// The laws of a state: fingerprints on both sides are those of the blocks, and the two kinds of orphan never occur together.
+/// The addresses of the dirty rows, oldest first.
+fn dirty(lent: &Lent) -> Vec<u32> {
+    read_tables(lent).0[..lent.numbers().n as usize].iter().filter(|row| row.dirty == 1).map(|row| row.address).collect()
+}
+
+/// The laws of a state: fingerprints on both sides are those of the blocks, the two kinds of orphan never occur together, and the disk is the
+/// plain disk where no row is dirty.
 fn state_laws(lent: &Lent, plain: &PlainDisk, known: &mut Fingerprints, context: &str) {
     let (rows, blocks) = read_tables(lent);
     let (n, b) = (lent.numbers().n as usize, lent.numbers().b as usize);
@@ -38,6 +44,7 @@ fn state_laws(lent: &Lent, plain: &PlainDisk, known: &mut Fingerprints, context:
     let cached: HashSet<Fingerprint> = used.iter().map(|row| row.fingerprint).collect();
     let wanted: HashSet<Fingerprint> = rows[..n].iter().map(|row| row.fingerprint).collect();
     assert!(cached.is_subset(&wanted) || wanted.is_subset(&cached), "orphan law, {context}");
+    assert!(!dirty(lent).is_empty() || plain.is(&lent.disk), "disk where no row is dirty, {context}");
 }
 
 /// The single reads of a folder in turn, on a copy of the box before it: one call has left the same in every buffer, and answered their sums. A fetch is
@@ -128,12 +135,13 @@ fn beside_plain_disk(random: &mut Random, shape: Shape, length: usize, seed: u64
             state_laws(&lent, &plain, &mut known, &context);
             continue;
         }
-        let kind = match random.below(20) {
+        let kind = match random.below(22) {
             0..=6 => Call::Read,
             7..=9 => Call::Through,
             10..=13 => Call::Back,
             14 | 15 => Call::Invalidate,
             16 => Call::Flush,
+            17 | 18 => Call::FlushSome(most(random, shape.m)),
             _ => Call::Look,
         };
         let address = random.below(p + p / 16 + 1) as u32;
@@ -146,6 +154,7 @@ fn beside_plain_disk(random: &mut Random, shape: Shape, length: usize, seed: u64
         };
         lent.block.clone_from(&block);
         let context = format!("{shape:?}, call {turn}: {kind:?} {address}, seed {seed}");
+        let dirty_before = dirty(&lent);
         let number = call(kind, address, &mut lent);
         // In such a list no state is refused: only a length and an address can be.
         let expected = if kind.takes_block() && block.len() != b {
@@ -166,9 +175,19 @@ fn beside_plain_disk(random: &mut Random, shape: Shape, length: usize, seed: u64
             let part = if word == CACHE { &lent.flash[first..first + second] } else { &lent.disk[first..first + second] };
             assert_eq!(Some(part), expected, "look's part, {context}");
         }
+        let asked = match kind {
+            Call::Flush => Some(shape.m),
+            Call::FlushSome(most) => Some(most),
+            _ => None,
+        };
+        if let Some(most) = asked.filter(|_| number == 0) {
+            // The count is the smaller of k and the dirty rows before; the rows still dirty are the newest of these.
+            let count = most.min(dirty_before.len());
+            assert_eq!(Answer::from_bytes(&lent.answer), Answer { word: DONE, first: 0, second: count as u64 }, "answer of a flush, {context}");
+            assert_eq!(dirty(&lent), dirty_before[count..], "rows still dirty, {context}");
+        }
         if number == 0 && kind == Call::Flush {
             assert!(plain.is(&lent.disk), "disk after a flush, {context}");
-            assert!(read_tables(&lent).0.iter().all(|row| row.dirty == 0), "dirty row after a flush, {context}");
         }
         state_laws(&lent, &plain, &mut known, &context);
         beside.served += (number == 0) as usize;
@@ -197,7 +216,9 @@ fn plain_disk_and_orphan_law() {
     let Beside { served, folders, missed_repeats } = beside;
     assert!(folders > 0 && missed_repeats > 0);
     println!("{folders} folders, with {missed_repeats} repeats that miss, are as their single reads in turn");
-    println!("{calls} calls in {lists} lists, {served} served: blocks returned and the disk after each flush are the plain disk's; the orphan law and the fingerprints hold in every state (seed {seed}, {:.1} s)", progress.seconds());
+    println!("{calls} calls in {lists} lists, {served} served (seed {seed}, {:.1} s)", progress.seconds());
+    println!("  blocks returned, and the disk after each full flush and wherever no row is dirty, are the plain disk's");
+    println!("  a flush counts the smaller of k and the dirty rows and leaves the newest; the orphan law and the fingerprints hold in every state");
 }
 
 /// The tables have the addresses and the fingerprints of the printed lists, in their order.
@@ -247,6 +268,7 @@ fn beside_printed(random: &mut Random, shape: Shape, length: usize, seed: u64) -
         }
         let mut kind = match random.below(10) {
             0 => Call::Look,
+            1 if random.below(2) == 0 => Call::FlushSome(random.below(m + 2)),
             1 => Call::Flush,
             2 => CALLS[1 + random.below(4)],
             _ => Call::Read,
@@ -259,7 +281,7 @@ fn beside_printed(random: &mut Random, shape: Shape, length: usize, seed: u64) -
                 lent.block.pop();
             } else {
                 address = p as u32 + random.below(3) as u32;
-                if kind == Call::Flush {
+                if matches!(kind, Call::Flush | Call::FlushSome(_)) {
                     kind = Call::Read;
                 }
             }

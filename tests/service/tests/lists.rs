@@ -1,7 +1,7 @@
 //! Random lists of calls from fresh boxes: after each call every number and every byte is the model's.
 use common::Random;
 use model::{Answer, Cache, Call, Lent, ManyAnswer, BLOCK_SIZES, CALLS, MANY_ANSWER};
-use service::boxes::{bytes, folder, folder_count, pick, unopened, Contents, Shape};
+use service::boxes::{bytes, folder, folder_count, most, pick, unopened, Contents, Shape};
 use service::calls::{call, call_many};
 use service::progress::{count, seed, Progress};
 
@@ -23,6 +23,8 @@ struct Met {
     folders: Folders,
     flash_writes: u64,
     primary_writes: u64,
+    /// Flushes in parts that left a row dirty.
+    left_dirty: usize,
     /// Blocks copied to the disk by a read or a write back, which happens only where a dirty row or block has to go.
     written_back: u64,
     lists: usize,
@@ -41,6 +43,7 @@ impl Met {
             "  {hit} hits, {miss} misses, {same} same, {new} new, {cache} looks in flash, {disk} on disk, {done} flushes, {} refused with 2, {} with 3; {} flash writes, {} primary writes, {} of them by reads and writes back",
             self.refused[2], self.refused[3], self.flash_writes, self.primary_writes, self.written_back
         );
+        println!("  {} flushes in parts left a row dirty", self.left_dirty);
         let Folders { calls, reads, hits, fetches } = self.folders;
         let missed_repeats = reads - hits - fetches;
         let refused = self.refused[10];
@@ -58,7 +61,9 @@ fn choose(random: &mut Random, shape: Shape) -> (Call, u32) {
         55..=76 => Call::Back,
         77..=84 => Call::Invalidate,
         // Seldom where the tables are large: dirty rows shall come to be the oldest.
-        85..=87 if random.below(1 + shape.m / 32) == 0 => Call::Flush,
+        85 if random.below(1 + shape.m / 32) == 0 => Call::Flush,
+        86 | 87 if random.below(1 + shape.m / 32) == 0 => Call::FlushSome(most(random, shape.m)),
+        88 => Call::FlushSome(random.below(3)),
         85..=87 => Call::Back,
         _ => Call::Look,
     };
@@ -180,6 +185,9 @@ fn list(random: &mut Random, shape: Shape, length: usize, met: &mut Met) {
                 if kind == Call::Read || kind == Call::Back {
                     met.written_back += expected.second;
                 }
+                if matches!(kind, Call::FlushSome(_)) {
+                    met.left_dirty += cache.rows().iter().any(|(_, row)| row.dirty) as usize;
+                }
             }
         }
         assert!(lent.block == block, "lent block, {}", context());
@@ -265,7 +273,7 @@ fn largest_boxes() {
     };
     let mut cache = Cache::fresh(b, p, m, d, vec![0; p * b], vec![0; d * b]);
     assert_eq!(call(Call::Open, 0, &mut lent), 0);
-    for (turn, kind) in [1, 2, 6, 3, 6, 1, 5, 4, 6, 1].map(|k| CALLS[k]).into_iter().enumerate() {
+    for (turn, kind) in [1, 2, 6, 3, 7, 6, 3, 1, 5, 4, 6, 1].map(|k| CALLS[k]).into_iter().enumerate() {
         let mut block = vec![turn as u8 + 1; b];
         lent.block.clone_from(&block);
         assert_eq!(call(kind, 65_535, &mut lent), 0);

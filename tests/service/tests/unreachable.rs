@@ -1,7 +1,7 @@
 //! Sound boxes that no list of calls need reach, served: every byte is the model's, for a few calls from each.
 use common::Random;
 use model::{fingerprint, read_tables, Call, Lent, CALLS};
-use service::boxes::{damage, pick, sound, sound_at, Damage, Shape};
+use service::boxes::{damage, most, pick, sound, sound_at, Damage, Shape};
 use service::compare::compare;
 use service::progress::{count, seed, Progress};
 use std::collections::HashSet;
@@ -43,12 +43,13 @@ fn calls_on(random: &mut Random, shape: Shape, length: usize, had: &mut Had, see
 
 fn calls_from(random: &mut Random, shape: Shape, lent: &mut Lent, length: usize, seed: u64) -> usize {
     for turn in 0..length {
-        let call = match random.below(12) {
+        let call = match random.below(13) {
             0..=2 => Call::Read,
             3 | 4 => Call::Through,
             5..=7 => Call::Back,
             8 | 9 => Call::Invalidate,
             10 => Call::Flush,
+            11 => Call::FlushSome(most(random, shape.m)),
             _ => Call::Look,
         };
         let n = lent.numbers().n as usize;
@@ -123,7 +124,7 @@ fn every_byte_of_a_fingerprint() {
             // A dirty row whose fingerprint is nearly that of a block is refused still.
             let mut bad = lent.clone();
             if damage(&mut random, &mut bad, &mut 0, Damage::DirtyUncached) {
-                let call = CALLS[1 + random.below(6)];
+                let call = CALLS[1 + random.below(7)];
                 assert_eq!(compare(call, 0, &mut bad, 0, &|| format!("byte {place}, turn {turn}, {shape:?}, seed {seed}")), 8);
                 refused += 1;
             }

@@ -29,12 +29,12 @@ fn line(lent: &mut Lent, text: &str) -> String {
     let kind = match parts[0] {
         "R" => Call::Read,
         "L" => Call::Look,
-        "F" => Call::Flush,
+        "F" => parts.get(1).map_or(Call::Flush, |most| Call::FlushSome(most.parse().unwrap())),
         "T" => Call::Through,
         "B" => Call::Back,
         _ => Call::Invalidate,
     };
-    let address = parts.get(1).map_or(0, |part| part.parse().unwrap());
+    let address = parts.get(1).filter(|_| parts[0] != "F").map_or(0, |part| part.parse().unwrap());
     lent.block = vec![parts.get(2).map_or(0, |hh| u8::from_str_radix(hh, 16).unwrap()); B];
     assert_eq!(call(kind, address, lent), 0, "{text}");
     let answer = Answer::from_bytes(&lent.answer);
@@ -112,6 +112,29 @@ fn e1_to_e8() {
     println!("the worked states E1 to E8");
 }
 
+/// The rows of `further-states` in crates/paper/specs/Worked.antt, and the largest number.
+#[test]
+fn a_flush_in_parts() {
+    let dirty = |lent: &Lent| read_tables(lent).0.iter().filter(|row| row.dirty == 1).map(|row| row.address).collect::<Vec<_>>();
+    let mut lent = fresh(8, 3, 3);
+    lines(&mut lent, &["R 4", "B 0 09", "B 1 08"]);
+    assert_eq!(line(&mut lent, "F 0"), "F 0 done 0 0");
+    assert_eq!(dirty(&lent), [0, 1]);
+    assert_eq!(line(&mut lent, "F 1"), "F 1 done 0 1");
+    is(&lent, "4:4 0:9 1:8", "4 9 8");
+    assert_eq!((dirty(&lent), lent.disk[0], lent.disk[B]), (vec![1], 9, 1));
+    for all in ["F 9", "F 18446744073709551615", "F"] {
+        let mut lent = fresh(8, 3, 3);
+        lines(&mut lent, &["B 0 09", "B 1 08", "B 2 07"]);
+        assert_eq!(line(&mut lent, "F 2"), "F 2 done 0 2");
+        assert_eq!(dirty(&lent), [2]);
+        assert_eq!(line(&mut lent, all), format!("{all} done 0 1"));
+        assert!(dirty(&lent).is_empty() && (0..3).all(|k| lent.disk[k * B..(k + 1) * B] == [9 - k as u8; B]));
+        assert_eq!(lent.numbers().counters, [0, 0, 3, 3]);
+    }
+    println!("flushes of 0, of 1 of two dirty rows, of 2 of three, and of more than there are");
+}
+
 #[test]
 fn edges() {
     for (b, number) in [(64, 0), (4_096, 0), (32, 1), (96, 1), (8_192, 1)] {
@@ -147,7 +170,7 @@ fn largest_counters() {
         assert_eq!(call(Call::Read, 1, &mut lent), 0);
         let place = (5 + counter) * 8;
         lent.state[place..place + 8].copy_from_slice(&(1u64 << 63).to_le_bytes());
-        for kind in [Call::Look, Call::Flush] {
+        for kind in [Call::Look, Call::Flush, Call::FlushSome(0)] {
             assert_eq!(call(kind, 1, &mut lent), 0);
         }
         assert_eq!(lent.numbers().counters[counter], 1 << 63);
@@ -155,7 +178,7 @@ fn largest_counters() {
         assert_eq!(call(counts, 1, &mut lent), 0);
         assert_eq!(lent.numbers().counters[counter], (1 << 63) + 1, "counter {counter}");
         let kept = lent.clone();
-        for kind in [Call::Read, Call::Through, Call::Back, Call::Invalidate, Call::Flush] {
+        for kind in [Call::Read, Call::Through, Call::Back, Call::Invalidate, Call::Flush, Call::FlushSome(3)] {
             assert_eq!(call(kind, 1, &mut lent), 9, "{kind:?}, counter {counter}");
         }
         assert_eq!(lent.difference(&kept), None);

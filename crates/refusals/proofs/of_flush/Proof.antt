@@ -22,7 +22,8 @@ returns : tie.Need-returns
 returns c =
     let a = c .before .before .before .before .before .before .before .args in
     let e = c .before .of-opening .ensures (countersOf (a .c)) in
-    (e ∙ refused-first (numbersOf (a .b)) (lent (a .b) (a .disk .now) (a .flash .now) (a .addresses .now) (a .blocks .now) (countersOf (a .c))) Ask.flush (λ z. c .if1 .taken (e ∙ z)), λ z. absurd (c .if1 .taken z))
+    let t = lent (a .b) (a .disk .now) (a .flash .now) (a .addresses .now) (a .blocks .now) (countersOf (a .c)) in
+    ((λ k. e ∙ refused-first (numbersOf (a .b)) t (Ask.flush k) (λ z. c .if1 .taken (e ∙ z))), λ z. absurd (c .if1 .taken z))
 
 of-state-requires : tie.Need-of-state-requires
 of-state-requires c κs =
@@ -33,8 +34,10 @@ returns-2 : tie.Need-returns-2
 returns-2 c =
     let t = c .before .before in
     let e = t .before .before in
-    let a = start e .args in
-    (t .of-state .ensures .0 ∙ flush-rest (a .b) (a .disk .now) (a .flash .now) (a .addresses .now) (a .blocks .now) (countersOf (a .c)) (opens e), t .of-state .ensures .1 .0)
+    let a = start e .args in (
+      (λ k. t .of-state .ensures .0 ∙ flush-rest (a .b) (a .disk .now) (a .flash .now) (a .addresses .now) (a .blocks .now) (countersOf (a .c)) (opens e) k),
+      t .of-state .ensures .1 .0,
+    )
 
 pub of-flush-spec : {M : Type 1} → statement M
 of-flush-spec = tie.close (tie.spec (λ c κs. search needs) returns of-state-requires (λ c. search needs) returns-2)

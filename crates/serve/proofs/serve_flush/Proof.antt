@@ -10,8 +10,10 @@ returns c =
     let at-flush-rows = c .before .before .before .before in
     let start = at-flush-rows .before .before .before .before .before .before .before .before in
     let a = start .args in
-    let f = at-flush-rows .flush-rows in
-    ((omega arith, omega (arith, f .ensures .0, start .pre .0 .2 .0)), λ s lent h. flush-is (a .b) lent (a .disk .now) (a .flash .now) (a .addrs .now) (a .blocks .now) s h (f .result) _ _ (f .ensures .1 s h))
+    let f = at-flush-rows .flush-rows in (
+      (omega arith, omega (arith, f .ensures .0, start .pre .0 .2 .0)),
+      λ s lent h. flush-is (a .b) (a .k) lent (a .disk .now) (a .flash .now) (a .addrs .now) (a .blocks .now) s h (f .result) _ _ (f .ensures .1 s h),
+    )
 
 pub serve-flush-spec : {M : Type 1} → statement M
 serve-flush-spec = tie.close (tie.spec (λ c κs. search needs) (λ c. search needs) (λ c. search needs) returns)

@@ -1,10 +1,13 @@
 -- A wrong length: `unchanged`. Else the record and the counters are read, the cache's call is done, and its outcome is written: `changed`. Assumes nothing.
-use mathlib.Core.Path.{_≡_, refl, sym, _∙_}
+use mathlib.Core.Path.{_≡_, refl, sym, ap, _∙_}
 use mathlib.Core.Bool.{true}
 use borrow.Author.Needs.{needs}
 use borrow.Author.Tests.{not-true, not-false}
 use Rattle.paper.specs.Lent.{Ask}
-use Rattle.fields.specs.Fields.{fitting}
+use Rattle.parts.specs.declared.BoxRecord.{BoxRecord}
+use Rattle.refusals.specs.Given.{countersOf, lent}
+use Rattle.policy.specs.Contract.{called}
+use Rattle.fields.specs.Fields.{recordIn, fitting}
 use Rattle.service.proofs.Noting.{lengths, unchanged, changed}
 use Rattle.service.proofs.mindavehu_flush.Statement.{statement}
 use Rattle.service.proofs.mindavehu_flush.Tie as tie
@@ -18,7 +21,8 @@ fits c = sym (c .before .fit .ensures) ∙ not-false _ (c .if1 .left)
 returns : tie.Need-returns
 returns c =
     let a = start (c .before) .args in
-    unchanged Ask.flush (a .state .now) (a .disk .now) (a .flash .now) (a .addresses .now) (a .blocks .now) (a .answer .now) (sym (c .before .fit .ensures) ∙ not-true _ (c .if1 .taken)) _ refl
+    unchanged (Ask.flush (recordIn (a .state .now) .rows)) (a .state .now) (a .disk .now) (a .flash .now) (a .addresses .now) (a .blocks .now) (a .answer .now)
+    (sym (c .before .fit .ensures) ∙ not-true _ (c .if1 .taken)) _ refl
 
 record-in-requires : tie.Need-record-in-requires
 record-in-requires c κs = lengths _ _ _ (fits (c .before)) .0
@@ -44,8 +48,13 @@ returns-2 c =
     let b = k .before .before in
     let e = b .before .before in
     let a = start (e .before) .args in
-    changed Ask.flush (a .state .now) (a .disk .now) (a .flash .now) (a .addresses .now) (a .blocks .now) (a .answer .now) (fits e)
-    (b .record-in .result) (k .counters-in .result) (b .record-in .ensures) (k .counters-in .ensures) (r .flush .result) _ _ _ _ _ (r .flush .ensures) _ _ _ (w .write-outcome .ensures)
+    let box = b .record-in .result in
+    let t = lent box (a .disk .now) (a .flash .now) (a .addresses .now) (a .blocks .now) (countersOf (k .counters-in .result)) in
+    -- m is the state's
+    let m = ap (λ (x : BoxRecord). called box t (Ask.flush (x .rows))) (b .record-in .ensures) in
+    changed (Ask.flush (recordIn (a .state .now) .rows)) (a .state .now) (a .disk .now) (a .flash .now) (a .addresses .now) (a .blocks .now) (a .answer .now)
+    (fits e) box (k .counters-in .result) (b .record-in .ensures) (k .counters-in .ensures) (r .flush .result) _ _ _ _ _ (r .flush .ensures ∙ m) _ _ _
+    (w .write-outcome .ensures)
 
 pub mindavehu-flush-spec : {M : Type 1} → statement M
 mindavehu-flush-spec =

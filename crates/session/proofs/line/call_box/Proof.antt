@@ -16,7 +16,7 @@ returns c =
     let d = r .last .1 .1 in
     let k = r .kept .1 .1 in
     let w = within-is (a .b) (countersOf (a .k)) (a .disk .now) (a .flash .now) (a .addresses .now) (a .blocks .now) in
-    let e = r .ensures .1 ∙ ap (λ l. doing (numbersOf (a .b)) l (asked (a .b .size) (a .c))) w in (
+    let e = r .ensures .1 ∙ ap (λ l. doing (numbersOf (a .b)) l (asked (numbersOf (a .b)) (a .c))) w in (
       r .ensures .0,
       (
         ap (λ (x : Done). x .answer) e,

@@ -23,7 +23,8 @@ returns c =
     let p = c .before .before .before .before .before .answer .ensures in (
       omega (arith, p .0),
       λ line. (let M = memory (a .s) line (a .disk .now) (a .flash .now) (a .addresses .now) (a .blocks .now) (a .out .now) in
-          let D = doing (numbersOf (a .s .box_record)) (within (a .s .box_record) (M .buffers) (countersOf (a .s .counters))) (asked (a .s .box_record .size) (a .c)) in
+          let N = numbersOf (a .s .box_record) in
+          let D = doing N (within (a .s .box_record) (M .buffers) (countersOf (a .s .counters))) (asked N (a .c)) in
           line-done M 1 (w .result) (o .result .box_record) (o .result .counters) (numbersOf (a .s .box_record)) (D .lent) (answerText (a .s .number) (a .c) (answerOf (o .result .answer))) _ _ _ (o .ensures .0) (o .ensures .1 .1) (p .1)
           ∙ ap₂ (λ k x. stored M (record { state = record { stage = 1; kept = []; number = k; numbers = numbersOf (a .s .box_record); lent = D .lent }; text = answerText (a .s .number) (a .c) x })) (w .ensures) (o .ensures .1 .0)),
     )
