@@ -35,7 +35,7 @@
  *     6, 7 or 8, and sound tables of another history are served as what they say.
  * Blocks are told apart by SHA-256 alone: two blocks with one fingerprint are taken for the same block.
  *
- * The header is C99, and C++ takes it too. A call needs at most MINDAVEHU_STACK bytes of stack, beside the lent buffers.
+ * The header is C99. A call needs at most MINDAVEHU_STACK bytes of stack, beside the lent buffers.
  *
  * Every function below takes each buffer with its length. `struct mindavehu_box` and the functions over it (mindavehu_box_read and so on) pass them for the
  * caller. A complete program:

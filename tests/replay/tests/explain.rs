@@ -106,7 +106,9 @@ type Case = (&'static [&'static str], &'static str, &'static [&'static str]);
 const SERVED: [Case; 24] = [
     (&["box 64 8 3 2"], "R 1", &["R 1: address 1 is not held: its block, content 1, comes from the disk", "content 1 is stored in flash"]),
     (&["box 64 8 3 2", "R 1"], "R 1", &["R 1: address 1 is held and its block, content 1, is in flash"]),
-    (&["box 64 8 3 2", "I 7 03", "R 3"], "R 7", &["R 7: address 7 is not held: its block, content 3, comes from the disk; it is in flash already and is not stored again"]),
+    (&["box 64 8 3 2", "I 7 03", "R 3"], "R 7", &[
+        "R 7: address 7 is not held: its block, content 3, comes from the disk; it is in flash already and is not stored again",
+    ]),
     (&["box 64 8 3 1", "R 1", "R 2"], "R 1", &[
         "R 1: address 1 is held, but its block, content 1, is not in flash: it comes from the disk",
         "flash is full and each of its blocks has an address: content 2, the oldest, leaves",

@@ -46,7 +46,8 @@ fn wrong_answers() {
     let third = "    the key       3 B 2 same 0 0\n    why           B 2 09: content 9 is in flash already; address 2 becomes dirty\n    \
                  state before  1:9*; blocks - 9\n    state after   1:9* 2:9*; blocks - 9\n";
     let first = |answer: &str| format!("The first difference is at line 4 of the list\n    the answer    {answer}\n{third}");
-    let sums = "    the key       reads 3 hits 1 flash 4 primary 4\n    why           each call's numbers add up to these; refused calls and looks count nothing\n";
+    let sums =
+        "    the key       reads 3 hits 1 flash 4 primary 4\n    why           each call's numbers add up to these; refused calls and looks count nothing\n";
     let cases = [
         (week.replace("3 B 2 same 0 0", "3 B 2 new 1 0"), first("3 B 2 new 1 0") + "12 of 13 lines are right\n"),
         (week.replace("3 B 2 same 0 0", "3 B 2 same 0"), first("3 B 2 same 0") + "12 of 13 lines are right\n"),
@@ -56,17 +57,29 @@ fn wrong_answers() {
         // A line left out, one twice, one put in: the lines behind it stay right.
         (without(2), first("(none)") + "12 of 13 lines are right\n"),
         (with(2, lines[1]), first(lines[1]) + "13 of 13 lines are right, and 1 line is too many\n"),
-        (with(13, "14 R 1 hit 0 0"), "The first difference is after the key's end\n    the answer    14 R 1 hit 0 0\n13 of 13 lines are right, and 1 line is too many\n".into()),
-        (week.replace("hits 1", "hits 2"), format!("The first difference is in the sums\n    the answer    reads 3 hits 2 flash 4 primary 4\n{sums}12 of 13 lines are right\n")),
+        (
+            with(13, "14 R 1 hit 0 0"),
+            "The first difference is after the key's end\n    the answer    14 R 1 hit 0 0\n13 of 13 lines are right, and 1 line is too many\n".into(),
+        ),
+        (
+            week.replace("hits 1", "hits 2"),
+            format!("The first difference is in the sums\n    the answer    reads 3 hits 2 flash 4 primary 4\n{sums}12 of 13 lines are right\n"),
+        ),
         (without(12), format!("The first difference is in the sums\n    the answer    (none)\n{sums}12 of 13 lines are right\n")),
         // Only the first difference is told; all are counted.
-        (week.replace("3 B 2 same", "3 B 2 new").replace("9 R 2 miss", "9 R 2 hit").replace("12 F", "12 L"), first("3 B 2 new 0 0") + "10 of 13 lines are right\n"),
+        (
+            week.replace("3 B 2 same", "3 B 2 new").replace("9 R 2 miss", "9 R 2 hit").replace("12 F", "12 L"),
+            first("3 B 2 new 0 0") + "10 of 13 lines are right\n",
+        ),
     ];
     for (answers, expected) in &cases {
         assert_eq!(marked("mark-wrong", answers.as_bytes(), "week.txt"), (Some(1), expected.clone()), "{answers}");
     }
     let (status, written) = marked("mark-wrong", b"", "week.txt");
-    assert!(status == Some(1) && written.starts_with("The first difference is at line 2 of the list\n    the answer    (none)\n    the key       1 B 1 new 1 0\n"), "{written}");
+    assert!(
+        status == Some(1) && written.starts_with("The first difference is at line 2 of the list\n    the answer    (none)\n    the key       1 B 1 new 1 0\n"),
+        "{written}"
+    );
     assert!(written.contains("    state before  the box is fresh\n") && written.ends_with("\n0 of 13 lines are right\n"), "{written}");
     println!("{} wrong sheets of answers, and an empty one", cases.len());
 }
@@ -74,7 +87,9 @@ fn wrong_answers() {
 /// The reasons of refusals, of line 1 too, and of more than one reason.
 #[test]
 fn reasons() {
-    let told = |lesson: &str, old: &str, new: &str| marked("mark-reasons", key(&format!("{lesson}.expected")).replace(old, new).as_bytes(), &format!("{lesson}.txt")).1;
+    let told = |lesson: &str, old: &str, new: &str| {
+        marked("mark-reasons", key(&format!("{lesson}.expected")).replace(old, new).as_bytes(), &format!("{lesson}.txt")).1
+    };
     let refused = told("refused-4", "10 refused 4", "10 T 1 new 1 1");
     assert!(refused.contains("    why           T 1 0a: a content is two upper-case hexadecimal digits\n    state before  1:1; blocks - 1\n"), "{refused}");
     let first = told("refused-box-5", "refused 5", "refused 1");
@@ -84,8 +99,9 @@ fn reasons() {
          why           box 64 257 3 2: P is 257: a replay takes 256 at most\n0 of 1 lines are right\n"
     );
     let several = told("week", "7 B 5 new 1 1", "7 B 5 new 1 0");
-    let why = "    why           B 5 0A: content 10 is not in flash yet; address 5 becomes dirty\n                  flash is full and each of its blocks has an address: \
-               content 9, the oldest, leaves; address 2 is dirty, so content 9 is copied to the disk first\n                  content 10 is stored in flash\n    state before  ";
+    let why = "    why           B 5 0A: content 10 is not in flash yet; address 5 becomes dirty\n                  \
+               flash is full and each of its blocks has an address: content 9, the oldest, leaves; address 2 is dirty, so content 9 is copied to the disk first\n\
+               \x20                 content 10 is stored in flash\n    state before  ";
     assert!(several.contains(why), "{several}");
     println!("reasons of a refused line, of line 1, and three of one line");
 }

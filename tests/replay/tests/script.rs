@@ -113,7 +113,9 @@ fn through_a_symbolic_link() {
     symlink(root().join("replay"), place.join("first")).unwrap();
     symlink("first", place.join("second")).unwrap();
     std::fs::copy(root().join("lessons/week.txt"), place.join("own list.txt")).unwrap();
-    for (words, expected) in [(vec!["own list.txt"], stored("lessons/week.expected")), (vec!["--states", "own list.txt"], written(&["--states", "week.txt"], None))] {
+    for (words, expected) in
+        [(vec!["own list.txt"], stored("lessons/week.expected")), (vec!["--states", "own list.txt"], written(&["--states", "week.txt"], None))]
+    {
         let done = Command::new("./second").args(&words).current_dir(&place).output().unwrap();
         assert_eq!(String::from_utf8_lossy(&done.stdout), expected, "{words:?}: {}", String::from_utf8_lossy(&done.stderr));
     }
@@ -189,7 +191,13 @@ fn an_unbuilt_checkout() {
     std::fs::write(place.join("target"), "").unwrap();
     for words in [&[][..], &["--states"]] {
         let (status, written, said) = run(words);
-        assert!(status == Some(1) && written.is_empty() && said.contains("is not built yet, and ") && said.contains("/target, where it is built, cannot be written to"), "{said}");
+        assert!(
+            status == Some(1)
+                && written.is_empty()
+                && said.contains("is not built yet, and ")
+                && said.contains("/target, where it is built, cannot be written to"),
+            "{said}"
+        );
         assert!(!said.contains("started"), "{said}");
     }
     std::fs::remove_file(place.join("target")).unwrap();
@@ -208,7 +216,10 @@ fn built_at_once() {
     put_rt(&path);
     let done = with_commands(&place.join("replay"), &path, &["--build"]);
     let said = String::from_utf8_lossy(&done.stderr);
-    assert!(done.status.success() && done.stdout.is_empty() && said.contains("started check replay_cli") && said.contains("started staticlib service"), "{said}");
+    assert!(
+        done.status.success() && done.stdout.is_empty() && said.contains("started check replay_cli") && said.contains("started staticlib service"),
+        "{said}"
+    );
     std::fs::remove_file(path.join("rt")).unwrap();
     let list = root().join("lessons/week.txt");
     for words in [&[][..], &["--states"], &["--explain"]] {
