@@ -180,7 +180,7 @@ def said(step):
     words = step.answer.split(" ")
     if words[1] == "refused":
         after = "the run ends" if words[0] == "0" else "nothing changes"
-        return f'<span class="refused">Refused with {words[2]}: {REFUSALS.get(words[2], "see document 01")}; {after}.</span>'
+        return f'<span class="refused">Refused with {words[2]}: {REFUSALS.get(words[2], "see docs/FORMATS.md")}; {after}.</span>'
     if words[0] == "reads":
         return f'{plural(words[1], "read")}, {plural(words[3], "hit")}, {plural(words[5], "flash write")}, {plural(words[7], "primary write")}'
     _, letter, address, word, flash_writes, primary_writes = words

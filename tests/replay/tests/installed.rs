@@ -77,7 +77,17 @@ fn what_is_there() {
             "{lesson}"
         );
     }
-    println!("{} files", found.len());
+    // What a page refers to is there, but for what is on the net.
+    let mut links = 0;
+    for name in found.iter().filter(|name| name.ends_with(".md")) {
+        let page = std::fs::read_to_string(tree().join(name)).unwrap();
+        for link in page.split("](").skip(1).map(|rest| rest.split(')').next().unwrap()) {
+            assert!(tree().join(name).parent().unwrap().join(link).exists(), "{name} refers to {link}");
+            links += 1;
+        }
+    }
+    assert!(links > 20, "{links} links");
+    println!("{} files, {links} links between them", found.len());
 }
 
 #[test]

@@ -127,3 +127,13 @@ fn long_lines_and_any_bytes() {
     assert!(status == Some(1) && written.ends_with("\n0 of 257 lines are right\n") && written.is_ascii(), "{}", written.len());
     println!("long states, and answers of any bytes");
 }
+
+/// The example of lessons/README.md.
+#[test]
+fn as_the_page_tells_it() {
+    let page = key("README.md");
+    let shown = page.split("```\n").find(|piece| piece.starts_with("The first difference")).unwrap();
+    let answers = key("week.expected").replace("3 B 2 same 0 0", "3 B 2 new 1 0");
+    assert_eq!(marked("mark-page", answers.as_bytes(), "week.txt"), (Some(1), shown.to_string()));
+    println!("the example of lessons/README.md");
+}
