@@ -416,14 +416,12 @@ static void explain_steps(const struct seen *before, const struct seen *after, u
 
 static void explain_flush(const struct seen *before, const struct seen *after)
 {
-    size_t copied = 0, left = 0;
-    for (size_t k = 0; k < before->held; k++) {
-        left += after->dirty[k] != 0;
+    size_t copied = 0;
+    for (size_t k = 0; k < before->held; k++)
         if (before->dirty[k] && !after->dirty[k])
             printf("%saddress %u is dirty, so content %u is copied to the disk\n", copied++ ? "    " : "", before->address[k], before->content[k]);
-    }
     if (copied == 0)
-        printf(left ? "a flush of 0 addresses copies nothing\n" : "no address is dirty: nothing is copied\n");
+        printf("no address is dirty: nothing is copied\n");
 }
 
 static void explain_call(const struct seen *before, const struct call *call)
@@ -526,12 +524,10 @@ static const char *form_rule(const struct line *line, int first)
     if (words[0].length != 1 || !strchr("RLFTBI", words[0].text[0]))
         return "a request begins with one of the letters R, L, F, T, B and I, and a space behind it where more follows";
     char letter = words[0].text[0];
-    if (letter == 'F' && !parts)
+    if (letter == 'F')
         return "F stands alone";
     if (strchr("RL", letter) && count != 2)
         return "R and L have one address behind them, and nothing more";
-    if (letter == 'F' && count != 2)
-        return "F has at most one number behind it";
     if (strchr("TBI", letter) && count != 3)
         return "T, B and I have an address and a content behind them, and nothing more";
     rule = number_rule(&words[1]);
