@@ -1,7 +1,7 @@
 /* Mindavehu: a deduplicating flash cache with D-LRU replacement, in memory that the caller lends.
  *
- * Link with libservice.a (`rt staticlib service`). The library keeps nothing between calls, allocates nothing and reads no clock:
- * whatever a call needs and leaves is in the buffers below. Each call is proved to do what documents 01 and 02 say, on any bytes.
+ * Link with libservice.a (`rt staticlib service`), which an installed tree has as libmindavehu.a. The library keeps nothing between calls, allocates
+ * nothing and reads no clock: whatever a call needs and leaves is in the buffers below. Each call is proved to do what documents 01 and 02 say, on any bytes.
  *
  * The box: B bytes a block (64, 128, 256, 512, 1024, 2048 or 4096), P disk blocks (1 to 65536), at most m addresses held (1 to 1024),
  * d cached blocks (1 to 256). n is the number of addresses held now.
@@ -35,14 +35,50 @@
  *     6, 7 or 8, and sound tables of another history are served as what they say.
  * Blocks are told apart by SHA-256 alone: two blocks with one fingerprint are taken for the same block.
  *
- * A complete program:
+ * The header is C99. A call needs at most MINDAVEHU_STACK bytes of stack, beside the lent buffers.
+ *
+ * Every function below takes each buffer with its length. `struct mindavehu_box` and the functions over it (mindavehu_box_read and so on) pass them for the
+ * caller. A complete program:
  *
  *     #include <stdio.h>
  *     #include <string.h>
  *     #include "mindavehu.h"
  *
- *     static uint8_t state[MINDAVEHU_STATE], answer[MINDAVEHU_ANSWER];
- *     static uint8_t disk[8 * 64], flash[2 * 64], addresses[3 * MINDAVEHU_ROW], blocks[2 * MINDAVEHU_ROW], block[64];
+ *     enum { B = 64, P = 8, M = 3, D = 2 };
+ *     static uint8_t disk[MINDAVEHU_DISK_LENGTH(B, P)], flash[MINDAVEHU_FLASH_LENGTH(B, D)], block[MINDAVEHU_BLOCK_LENGTH(B)];
+ *     static uint8_t addresses[MINDAVEHU_ADDRESSES_LENGTH(M)], blocks[MINDAVEHU_BLOCKS_LENGTH(D)];
+ *
+ *     int main(void)
+ *     {
+ *         struct mindavehu_box box;
+ *         mindavehu_box_lend(&box, disk, sizeof disk, flash, sizeof flash, addresses, sizeof addresses, blocks, sizeof blocks);
+ *         if (mindavehu_box_open(&box, B, P, M, D) != MINDAVEHU_SERVED)
+ *             return 1;
+ *         memset(block, 7, sizeof block);
+ *         if (mindavehu_box_write_back(&box, 5, block, sizeof block) != MINDAVEHU_SERVED)
+ *             return 1;
+ *         memset(block, 0, sizeof block);
+ *         if (mindavehu_box_read(&box, 5, block, sizeof block) != MINDAVEHU_SERVED)
+ *             return 1;
+ *         printf("%s, byte %d\n", mindavehu_word_name(mindavehu_get(box.answer, MINDAVEHU_WORD)), block[0]);
+ *         printf("%s\n", mindavehu_refusal_text(mindavehu_box_read(&box, P, block, sizeof block)));
+ *         return mindavehu_box_flush(&box) != MINDAVEHU_SERVED;
+ *     }
+ *
+ * It prints
+ *
+ *     hit, byte 7
+ *     the address is P or more
+ *
+ * The same box without the struct, and a folder of three pages, one of them twice, opened with one call:
+ *
+ *     #include <stdio.h>
+ *     #include <string.h>
+ *     #include "mindavehu.h"
+ *
+ *     static uint8_t state[MINDAVEHU_STATE], answer[MINDAVEHU_ANSWER], many[MINDAVEHU_MANY_ANSWER];
+ *     static uint8_t disk[8 * 64], flash[2 * 64], addresses[3 * MINDAVEHU_ROW], blocks[2 * MINDAVEHU_ROW], block[64], buffer[4 * 64];
+ *     static const uint32_t asked[4] = {5, 2, 6, 2};
  *
  *     int main(void)
  *     {
@@ -57,28 +93,18 @@
  *         if (mindavehu_write_back(state, sizeof state, 5, disk, sizeof disk, flash, sizeof flash, addresses, sizeof addresses,
  *                                  blocks, sizeof blocks, block, sizeof block, answer, sizeof answer) != MINDAVEHU_SERVED)
  *             return 1;
- *         memset(block, 0, sizeof block);
- *         if (mindavehu_read(state, sizeof state, 5, disk, sizeof disk, flash, sizeof flash, addresses, sizeof addresses,
- *                            blocks, sizeof blocks, block, sizeof block, answer, sizeof answer) != MINDAVEHU_SERVED)
- *             return 1;
- *         printf("hit %d, byte %d\n", mindavehu_get(answer, MINDAVEHU_WORD) == MINDAVEHU_HIT, block[0]);
- *         return mindavehu_flush(state, sizeof state, disk, sizeof disk, flash, sizeof flash, addresses, sizeof addresses,
- *                                blocks, sizeof blocks, answer, sizeof answer) != MINDAVEHU_SERVED;
- *     }
- *
- * It prints `hit 1, byte 7`.
- *
- * A folder of three pages, one of them twice, opened with one call; in the program above it can stand before the flush:
- *
- *         static const uint32_t asked[4] = {5, 2, 6, 2};
- *         static uint8_t buffer[4 * 64], many[MINDAVEHU_MANY_ANSWER];
  *         if (mindavehu_read_many(state, sizeof state, asked, 4, disk, sizeof disk, flash, sizeof flash, addresses, sizeof addresses,
  *                                 blocks, sizeof blocks, buffer, sizeof buffer, many, sizeof many) != MINDAVEHU_SERVED)
  *             return 1;
  *         printf("hits %d, fetches %d, byte %d\n", (int)mindavehu_get(many, MINDAVEHU_MANY_HITS),
  *                (int)mindavehu_get(many, MINDAVEHU_FETCHES), buffer[0]);
+ *         return mindavehu_flush(state, sizeof state, disk, sizeof disk, flash, sizeof flash, addresses, sizeof addresses,
+ *                                blocks, sizeof blocks, answer, sizeof answer) != MINDAVEHU_SERVED;
+ *     }
  *
- * It prints `hits 2, fetches 2, byte 7`.
+ * It prints
+ *
+ *     hits 2, fetches 2, byte 7
  */
 #ifndef MINDAVEHU_H
 #define MINDAVEHU_H
@@ -90,11 +116,28 @@
 extern "C" {
 #endif
 
+/* The version of this header and of the library that belongs to it. */
+#define MINDAVEHU_VERSION "1.0.0"
+#define MINDAVEHU_VERSION_MAJOR 1
+#define MINDAVEHU_VERSION_MINOR 0
+#define MINDAVEHU_VERSION_PATCH 0
+
+/* The most bytes of stack that a call needs. */
+#define MINDAVEHU_STACK 24576
+
 /* Lengths in bytes: of the state, of an answer, of the answer of the call for a list, and of a row of either table. */
 #define MINDAVEHU_STATE 72
 #define MINDAVEHU_ANSWER 24
 #define MINDAVEHU_MANY_ANSWER 32
 #define MINDAVEHU_ROW 40
+
+/* The length in bytes of each other buffer, by the box's numbers and the number of addresses in a list. */
+#define MINDAVEHU_DISK_LENGTH(B, P) ((size_t)(P) * (size_t)(B))
+#define MINDAVEHU_FLASH_LENGTH(B, d) ((size_t)(d) * (size_t)(B))
+#define MINDAVEHU_ADDRESSES_LENGTH(m) ((size_t)(m) * MINDAVEHU_ROW)
+#define MINDAVEHU_BLOCKS_LENGTH(d) ((size_t)(d) * MINDAVEHU_ROW)
+#define MINDAVEHU_BLOCK_LENGTH(B) ((size_t)(B))
+#define MINDAVEHU_BUFFER_LENGTH(B, count) ((size_t)(count) * (size_t)(B))
 
 /* The most addresses in a list. */
 #define MINDAVEHU_MANY_MOST 64
@@ -153,6 +196,39 @@ static inline void mindavehu_put(uint8_t *bytes, size_t field, uint64_t value)
 {
     for (size_t i = 0; i < 8; i++, value >>= 8)
         bytes[field + i] = (uint8_t)value;
+}
+
+/* What a refusal means, in words, and the word of an answer as a replay prints it. Of another number: that it is none. */
+static inline const char *mindavehu_refusal_text(uint32_t refusal)
+{
+    switch (refusal) {
+    case MINDAVEHU_SERVED: return "served";
+    case MINDAVEHU_OUTSIDE: return "B, P, m or d is outside its set";
+    case MINDAVEHU_WRONG_LENGTH: return "a length is not right";
+    case MINDAVEHU_NO_ADDRESS: return "the address is P or more";
+    case 4: return "the line is not of the form";
+    case 5: return "the box is more than a replay takes";
+    case MINDAVEHU_BAD_ADDRESSES: return "the address table is unsound";
+    case MINDAVEHU_BAD_BLOCKS: return "the block table is unsound";
+    case MINDAVEHU_DIRTY_UNCACHED: return "a dirty address is without its block";
+    case MINDAVEHU_COUNTER_FULL: return "a counter is above 2 to the power 63";
+    case MINDAVEHU_BAD_COUNT: return "the list has no address, or more than 64";
+    default: return "no refusal has this number";
+    }
+}
+
+static inline const char *mindavehu_word_name(uint64_t word)
+{
+    switch (word) {
+    case MINDAVEHU_HIT: return "hit";
+    case MINDAVEHU_MISS: return "miss";
+    case MINDAVEHU_SAME: return "same";
+    case MINDAVEHU_NEW: return "new";
+    case MINDAVEHU_CACHE: return "cache";
+    case MINDAVEHU_DISK: return "disk";
+    case MINDAVEHU_DONE: return "done";
+    default: return "no word has this number";
+    }
 }
 
 /* Opens a box of the B, P, m and d in the state. Both tables become fresh, n and the counters 0; disk and flash keep their bytes.
@@ -242,6 +318,86 @@ uint32_t mindavehu_look(const uint8_t *state, size_t state_length, uint32_t addr
                         const uint8_t *addresses, size_t addresses_length,
                         const uint8_t *blocks, size_t blocks_length,
                         uint8_t *answer, size_t answer_length);
+
+/* The buffers of a box in one struct: those that the caller lends, and the state and the answers, which the struct has itself. */
+struct mindavehu_box {
+    uint8_t *disk, *flash, *addresses, *blocks;
+    size_t disk_length, flash_length, addresses_length, blocks_length;
+    uint8_t state[MINDAVEHU_STATE], answer[MINDAVEHU_ANSWER], many[MINDAVEHU_MANY_ANSWER];
+};
+
+/* Names the lent buffers. The state and the answers become 0. */
+static inline void mindavehu_box_lend(struct mindavehu_box *box, uint8_t *disk, size_t disk_length, uint8_t *flash, size_t flash_length,
+                                      uint8_t *addresses, size_t addresses_length, uint8_t *blocks, size_t blocks_length)
+{
+    size_t k;
+    box->disk = disk, box->flash = flash, box->addresses = addresses, box->blocks = blocks;
+    box->disk_length = disk_length, box->flash_length = flash_length, box->addresses_length = addresses_length, box->blocks_length = blocks_length;
+    for (k = 0; k < sizeof box->state; k++)
+        box->state[k] = 0;
+    for (k = 0; k < sizeof box->answer; k++)
+        box->answer[k] = 0;
+    for (k = 0; k < sizeof box->many; k++)
+        box->many[k] = 0;
+}
+
+/* Each of these is the function of its name above on the buffers of the box. The answer is in box->answer, that of a list in box->many. */
+#define MINDAVEHU_BOX_STATE box->state, sizeof box->state
+#define MINDAVEHU_BOX_MEMORY box->disk, box->disk_length, box->flash, box->flash_length, box->addresses, box->addresses_length, box->blocks, box->blocks_length
+#define MINDAVEHU_BOX_ANSWER box->answer, sizeof box->answer
+
+static inline uint32_t mindavehu_box_open(struct mindavehu_box *box, uint64_t B, uint64_t P, uint64_t m, uint64_t d)
+{
+    mindavehu_put(box->state, MINDAVEHU_B, B);
+    mindavehu_put(box->state, MINDAVEHU_P, P);
+    mindavehu_put(box->state, MINDAVEHU_M, m);
+    mindavehu_put(box->state, MINDAVEHU_D, d);
+    return mindavehu_open(MINDAVEHU_BOX_STATE, MINDAVEHU_BOX_MEMORY);
+}
+
+static inline uint32_t mindavehu_box_read(struct mindavehu_box *box, uint32_t address, uint8_t *block, size_t block_length)
+{
+    return mindavehu_read(MINDAVEHU_BOX_STATE, address, MINDAVEHU_BOX_MEMORY, block, block_length, MINDAVEHU_BOX_ANSWER);
+}
+
+static inline uint32_t mindavehu_box_read_many(struct mindavehu_box *box, const uint32_t *asked, size_t count, uint8_t *buffer, size_t buffer_length)
+{
+    return mindavehu_read_many(MINDAVEHU_BOX_STATE, asked, count, MINDAVEHU_BOX_MEMORY, buffer, buffer_length, box->many, sizeof box->many);
+}
+
+static inline uint32_t mindavehu_box_write_through(struct mindavehu_box *box, uint32_t address, const uint8_t *block, size_t block_length)
+{
+    return mindavehu_write_through(MINDAVEHU_BOX_STATE, address, MINDAVEHU_BOX_MEMORY, block, block_length, MINDAVEHU_BOX_ANSWER);
+}
+
+static inline uint32_t mindavehu_box_write_back(struct mindavehu_box *box, uint32_t address, const uint8_t *block, size_t block_length)
+{
+    return mindavehu_write_back(MINDAVEHU_BOX_STATE, address, MINDAVEHU_BOX_MEMORY, block, block_length, MINDAVEHU_BOX_ANSWER);
+}
+
+static inline uint32_t mindavehu_box_write_invalidate(struct mindavehu_box *box, uint32_t address, const uint8_t *block, size_t block_length)
+{
+    return mindavehu_write_invalidate(MINDAVEHU_BOX_STATE, address, MINDAVEHU_BOX_MEMORY, block, block_length, MINDAVEHU_BOX_ANSWER);
+}
+
+static inline uint32_t mindavehu_box_flush(struct mindavehu_box *box)
+{
+    return mindavehu_flush(MINDAVEHU_BOX_STATE, MINDAVEHU_BOX_MEMORY, MINDAVEHU_BOX_ANSWER);
+}
+
+static inline uint32_t mindavehu_box_flush_some(struct mindavehu_box *box, size_t most)
+{
+    return mindavehu_flush_some(MINDAVEHU_BOX_STATE, most, MINDAVEHU_BOX_MEMORY, MINDAVEHU_BOX_ANSWER);
+}
+
+static inline uint32_t mindavehu_box_look(struct mindavehu_box *box, uint32_t address)
+{
+    return mindavehu_look(MINDAVEHU_BOX_STATE, address, MINDAVEHU_BOX_MEMORY, MINDAVEHU_BOX_ANSWER);
+}
+
+#undef MINDAVEHU_BOX_STATE
+#undef MINDAVEHU_BOX_MEMORY
+#undef MINDAVEHU_BOX_ANSWER
 
 #ifdef __cplusplus
 }

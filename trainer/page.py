@@ -1,8 +1,11 @@
 #!/usr/bin/env python3
 """Makes one HTML page of a list: for each line a picture of both tables, flash and disk. Reads the output of `states --full` from standard input and
-writes the page to standard output. The page has no script and needs no other file. An argument gives the page's title."""
+writes the page to standard output. The page has no script and needs no other file. An argument gives the page's title.
+A page has at most 5,000,000 bytes: of a longer list it shows the first lines and the sums, and says so, on standard error too."""
 import html
 import sys
+
+MOST_BYTES = 5_000_000
 
 HEAD = """<!DOCTYPE html>
 <html lang="en">
@@ -177,7 +180,7 @@ def said(step):
     words = step.answer.split(" ")
     if words[1] == "refused":
         after = "the run ends" if words[0] == "0" else "nothing changes"
-        return f'<span class="refused">Refused with {words[2]}: {REFUSALS.get(words[2], "see document 01")}; {after}.</span>'
+        return f'<span class="refused">Refused with {words[2]}: {REFUSALS.get(words[2], "see docs/FORMATS.md")}; {after}.</span>'
     if words[0] == "reads":
         return f'{plural(words[1], "read")}, {plural(words[3], "hit")}, {plural(words[5], "flash write")}, {plural(words[7], "primary write")}'
     _, letter, address, word, flash_writes, primary_writes = words
@@ -207,11 +210,25 @@ def main():
         sys.exit("page.py: standard input is empty; it takes the output of `states --full`")
     title = html.escape(sys.argv[1] if len(sys.argv) > 1 else "A list of requests, line by line")
     numbers = "The box line is refused." if box is None else "Blocks of {} bytes, {} disk blocks, at most {} addresses held, {} cached blocks.".format(*box)
+    m = int(box[2]) if box else 0
     out = [HEAD.format(title=title, box=numbers)]
-    before = steps[0].state
-    for step in steps:
-        out.append(section(step, before, int(box[2]) if box else 0))
-        before = step.state
+    # What comes after the last picture has room in any case: the sums, and how many lines are left out.
+    last = steps[-1]
+    room = MOST_BYTES - len(out[0].encode()) - len(section(last, last.state, m).encode()) - 1_000
+    before, shown = steps[0].state, 0
+    for step in steps[:-1]:
+        text = section(step, before, m)
+        room -= len(text.encode())
+        if room < 0:
+            break
+        out.append(text)
+        before, shown = step.state, shown + 1
+    left = len(steps) - 1 - shown
+    if left:
+        what = f"a page has at most {MOST_BYTES:,} bytes, so the last {left} lines of the list are left out"
+        out.append(f'<section><p class="said refused">{what.capitalize()}.</p></section>\n')
+        print(f"page.py: {what}", file=sys.stderr)
+    out.append(section(last, before, m))
     out.append("</body>\n</html>\n")
     sys.stdout.write("".join(out))
 

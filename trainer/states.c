@@ -15,6 +15,15 @@
  *     flash   the first byte of each slot
  *     disk    the first byte of each disk block
  *
+ * With --explain, lines stand between each answer and its state that say what the cache did and why, the first after the line's text; of a refused line, the
+ * rule that it breaks:
+ *
+ *     6 R 2 miss 1 1
+ *         R 2: address 2 is held, but its block, content 2, is not in flash: it comes from the disk
+ *         flash is full and each of its blocks has an address: content 1, the oldest, leaves; address 3 is dirty, so content 1 is copied to the disk first
+ *         content 2 is stored in flash
+ *         3:1 4:4 2:2; blocks 4 2
+ *
  * With --parts, a line `F k` is a flush of at most k dirty addresses, oldest use first; k is printed where the others have their address. A replay
  * knows no such line: without --parts it is refused with 4.
  *
@@ -57,7 +66,7 @@ static uint8_t state[MINDAVEHU_STATE], answer[MINDAVEHU_ANSWER];
 static uint8_t disk[MOST_BYTES], flash[MOST_BYTES], block[MOST_B];
 static uint8_t addresses[MOST_M * MINDAVEHU_ROW], blocks[MOST_D * MINDAVEHU_ROW];
 static size_t B, P, m, d;
-static int full, parts;
+static int full, parts, explains;
 
 /* The folder that is opened after the list, where one is asked for; the blocks read of it, and the answer of the one call. */
 static int has_folder, differs;
@@ -265,19 +274,317 @@ static void print_state(void)
 }
 
 /* The text of a line of the list, as far as there is room for it; a byte that isn't a printed character is shown as `?`. */
+static void print_text(const struct line *line)
+{
+    for (size_t k = 0; k < line->length && k < MOST_LINE; k++)
+        putchar(line->bytes[k] >= ' ' && line->bytes[k] <= '~' ? line->bytes[k] : '?');
+    if (line->length > MOST_LINE)
+        printf("...");
+}
+
+/* The same before what is said of the line; of an empty line there is no text. */
+static void print_said(const struct line *line)
+{
+    printf("    ");
+    print_text(line);
+    if (line->length)
+        printf(": ");
+}
+
 static void print_asked(const struct line *line)
 {
     printf("    asked ");
-    for (size_t k = 0; k < line->length && k < MOST_LINE; k++)
-        putchar(line->bytes[k] >= ' ' && line->bytes[k] <= '~' ? line->bytes[k] : '?');
-    printf("%s\n", line->length > MOST_LINE ? "..." : "");
+    print_text(line);
+    printf("\n");
+}
+
+/* ---- Why: what the tables had before a call, and what the call did. A block is filled with one byte, so a content stands for its fingerprint. */
+
+struct seen {
+    size_t held, used;
+    uint32_t address[MOST_M];
+    unsigned content[MOST_M], cached[MOST_D];
+    int dirty[MOST_M], in_flash[256];
+};
+
+static void see(struct seen *seen)
+{
+    memset(seen, 0, sizeof *seen);
+    seen->held = mindavehu_get(state, MINDAVEHU_N);
+    for (size_t k = 0; k < seen->held; k++) {
+        const uint8_t *row = addresses + k * MINDAVEHU_ROW;
+        seen->address[k] = number_at(row);
+        seen->content[k] = content_of(row);
+        seen->dirty[k] = row[4 + FINGERPRINT];
+    }
+    for (size_t k = 0; k < d; k++)
+        if (is_used(block_row(k))) {
+            seen->cached[seen->used] = flash[slot_of(block_row(k)) * B];
+            seen->in_flash[seen->cached[seen->used++]] = 1;
+        }
+}
+
+/* The row of an address, or the number of rows where it is not held. */
+static size_t row_with(const struct seen *seen, uint32_t address)
+{
+    size_t k = 0;
+    while (k < seen->held && seen->address[k] != address)
+        k++;
+    return k;
+}
+
+static int has_address(const struct seen *seen, unsigned content)
+{
+    for (size_t k = 0; k < seen->held; k++)
+        if (seen->content[k] == content)
+            return 1;
+    return 0;
+}
+
+/* What is read or written: where the word of the answer comes from. */
+static void explain_request(const struct seen *before, const struct seen *after, const struct call *call, unsigned content)
+{
+    size_t row = row_with(before, call->address);
+    int held = row < before->held, cached = before->in_flash[content];
+    const char *found = cached ? "is in flash already" : "is not in flash yet";
+    switch (call->letter) {
+    case 'R':
+        if (held && cached)
+            printf("address %u is held and its block, content %u, is in flash\n", call->address, content);
+        else if (held)
+            printf("address %u is held, but its block, content %u, is not in flash: it comes from the disk\n", call->address, content);
+        else
+            printf("address %u is not held: its block, content %u, comes from the disk%s\n", call->address, content,
+                   cached ? "; it is in flash already and is not stored again" : "");
+        break;
+    case 'L':
+        content = held ? before->content[row] : disk[call->address * B];
+        if (held && before->in_flash[content])
+            printf("address %u is held and its block, content %u, is in flash\n", call->address, content);
+        else
+            printf("address %u is %s\n", call->address, held ? "held, but its block is not in flash: it is on the disk" : "not held: its block is on the disk");
+        break;
+    case 'T':
+        printf("content %u %s; it goes to the disk at once\n", content, found);
+        break;
+    case 'I':
+        printf("content %u %s; it goes to the disk only, and address %u %s\n", content, found, call->address, held ? "leaves the cache" : "is not held");
+        break;
+    default:
+        printf("content %u %s; address %u %s\n", content, found, call->address,
+               !after->dirty[after->held - 1] ? "was held, clean, with the same content: it stays clean"
+               : held && before->dirty[row]   ? "stays dirty"
+                                              : "becomes dirty");
+    }
+}
+
+/* Steps 1, 3 and 4 of a request of address `a` whose content is `content`. */
+static void explain_steps(const struct seen *before, const struct seen *after, uint32_t a, unsigned content)
+{
+    size_t row = row_with(before, a);
+    int leaves = row == before->held && before->held == m, freed = 0;
+    if (leaves) {
+        row = 0;
+        printf("    the address table is full: address %u, the oldest, leaves", before->address[0]);
+        printf(before->dirty[0] ? "; it is dirty, so content %u is copied to the disk\n" : "\n", before->content[0]);
+    }
+    /* Step 3: the block of the row that was taken out, where no address has it now and another address is without its block. */
+    if (row < before->held && before->in_flash[before->content[row]] && !has_address(after, before->content[row]))
+        for (size_t k = 0; k < after->held && !freed; k++)
+            if (after->address[k] != a && !before->in_flash[after->content[k]]) {
+                freed = 1;
+                printf("    no address has content %u now, and address %u is without its block: the row of content %u becomes free\n", before->content[row],
+                       after->address[k], before->content[row]);
+            }
+    if (before->in_flash[content])
+        return;
+    /* Step 4: a free row, or that of the block that leaves. */
+    for (size_t k = 0; k < before->used && before->used == d && !freed; k++) {
+        unsigned victim = before->cached[k];
+        if (after->in_flash[victim])
+            continue;
+        printf(has_address(after, victim) ? "    flash is full and each of its blocks has an address: content %u, the oldest, leaves"
+                                          : "    flash is full: content %u, the oldest that no address has, leaves",
+               victim);
+        for (size_t i = 0; i < before->held; i++)
+            if (before->content[i] == victim && before->dirty[i] && before->address[i] != a && !(leaves && i == 0))
+                printf("; address %u is dirty, so content %u is copied to the disk first", before->address[i], victim);
+        printf("\n");
+    }
+    printf("    content %u is stored in flash\n", content);
+}
+
+static void explain_flush(const struct seen *before, const struct seen *after)
+{
+    size_t copied = 0;
+    for (size_t k = 0; k < before->held; k++)
+        if (before->dirty[k] && !after->dirty[k])
+            printf("%saddress %u is dirty, so content %u is copied to the disk\n", copied++ ? "    " : "", before->address[k], before->content[k]);
+    if (copied == 0)
+        printf("no address is dirty: nothing is copied\n");
+}
+
+static void explain_call(const struct seen *before, const struct call *call)
+{
+    static struct seen after;
+    unsigned content = call->letter == 'R' ? block[0] : call->content;
+    size_t row = row_with(before, call->address);
+    see(&after);
+    if (call->letter == 'F') {
+        explain_flush(before, &after);
+        return;
+    }
+    explain_request(before, &after, call, content);
+    if (strchr("RTB", call->letter))
+        explain_steps(before, &after, call->address, content);
+    else if (call->letter == 'I' && row < before->held && before->in_flash[before->content[row]] && !has_address(&after, before->content[row]))
+        printf("    no address has content %u now: its row becomes free\n", before->content[row]);
+}
+
+/* ---- Why a line is refused. */
+
+/* A word of a line in which the words have single spaces between them. */
+struct word {
+    const char *text;
+    size_t length;
+};
+
+#define MOST_WORDS (MOST_LINE / 2 + 1)
+
+static size_t words_of(const struct line *line, struct word words[MOST_WORDS])
+{
+    size_t count = 0, start = 0;
+    for (size_t k = 0; k <= line->length; k++)
+        if (k == line->length || line->bytes[k] == ' ') {
+            words[count++] = (struct word){(const char *)line->bytes + start, k - start};
+            start = k + 1;
+        }
+    return count;
+}
+
+static int is_word(const struct word *word, const char *text) { return word->length == strlen(text) && memcmp(word->text, text, word->length) == 0; }
+
+/* The rule that a number of a line breaks, or NULL. */
+static const char *number_rule(const struct word *word)
+{
+    for (size_t k = 0; k < word->length; k++)
+        if (word->text[k] < '0' || word->text[k] > '9')
+            return "a number has decimal digits only";
+    if (word->length > 1 && word->text[0] == '0')
+        return "a number has no zero before its first digit";
+    return word->length > 5 ? "a number has five digits at most" : NULL;
+}
+
+/* The rule that the bytes of a line break, or NULL where they are printed characters with single spaces between words. */
+static const char *bytes_rule(const struct line *line, int first)
+{
+    size_t known = line->length < MOST_LINE ? line->length : MOST_LINE;
+    if (known >= 3 && memcmp(line->bytes, "\xEF\xBB\xBF", 3) == 0)
+        return "a byte order mark: save the file without one";
+    if (memchr(line->bytes, '\r', known))
+        return "a carriage return: save the file with line ends of one byte";
+    if (line->length > MOST_LINE)
+        return "32 bytes at most";
+    if (line->length == 0)
+        return first ? "line 1 is box B P m d, and this one is empty" : "an empty line is no request";
+    if (memchr(line->bytes, '\t', known))
+        return "a tab: words have single spaces between them";
+    for (size_t k = 0; k < known; k++)
+        if (line->bytes[k] < ' ' || line->bytes[k] > '~')
+            return "a byte that is no letter, digit or space";
+    if (line->bytes[0] == ' ' || line->bytes[known - 1] == ' ')
+        return "no space before the first word, and none after the last";
+    for (size_t k = 1; k < known; k++)
+        if (line->bytes[k] == ' ' && line->bytes[k - 1] == ' ')
+            return "single spaces between words";
+    return NULL;
+}
+
+/* The rule of the form that a line breaks, which is not of the form. */
+static const char *form_rule(const struct line *line, int first)
+{
+    struct word words[MOST_WORDS];
+    const char *rule = bytes_rule(line, first);
+    if (rule)
+        return rule;
+    size_t count = words_of(line, words);
+    if (first) {
+        if (!is_word(&words[0], "box"))
+            return "line 1 begins with the word box, in lower case";
+        if (count != 5)
+            return "line 1 has four numbers after the word box: B, P, m and d";
+        for (size_t k = 1; k < 5 && !rule; k++)
+            rule = number_rule(&words[k]);
+        return rule;
+    }
+    if (is_word(&words[0], "box"))
+        return "a box line is line 1 only";
+    if (words[0].length == 1 && strchr("rlftbi", words[0].text[0]))
+        return "the letter of a request is in upper case";
+    if (words[0].length != 1 || !strchr("RLFTBI", words[0].text[0]))
+        return "a request begins with one of the letters R, L, F, T, B and I, and a space behind it where more follows";
+    char letter = words[0].text[0];
+    if (letter == 'F')
+        return "F stands alone";
+    if (strchr("RL", letter) && count != 2)
+        return "R and L have one address behind them, and nothing more";
+    if (strchr("TBI", letter) && count != 3)
+        return "T, B and I have an address and a content behind them, and nothing more";
+    rule = number_rule(&words[1]);
+    return rule ? rule : "a content is two upper-case hexadecimal digits";
+}
+
+/* Of numbers that are outside their sets, or more than a replay takes: the first that is. */
+static void explain_numbers(const uint32_t numbers[4], uint32_t refusal)
+{
+    static const char *const names[4] = {"B", "P", "m", "d"};
+    static const uint32_t most[4] = {MOST_B, 65536, MOST_M, MOST_D};
+    uint32_t b = numbers[0];
+    if (refusal == TOO_LARGE) {
+        if (numbers[1] > MOST_P)
+            printf("P is %u: a replay takes %d at most\n", numbers[1], MOST_P);
+        else if (numbers[1] * b > MOST_BYTES)
+            printf("P x B is %u: a replay takes %d at most\n", numbers[1] * b, MOST_BYTES);
+        else
+            printf("d x B is %u: a replay takes %d at most\n", numbers[3] * b, MOST_BYTES);
+    } else if (b < 64 || b > MOST_B || (b & (b - 1))) {
+        printf("B is %u: it is 64, 128, 256, 512, 1024, 2048 or 4096\n", b);
+    } else {
+        for (int k = 1; k < 4; k++)
+            if (numbers[k] < 1 || numbers[k] > most[k]) {
+                printf("%s is %u: it is 1 to %u\n", names[k], numbers[k], most[k]);
+                return;
+            }
+    }
+}
+
+/* What is said of line 1, which was refused. */
+static void explain_box(const struct line *line, const uint32_t numbers[4], uint32_t refusal)
+{
+    print_said(line);
+    if (refusal == NOT_THE_FORM)
+        printf("%s\n", form_rule(line, 1));
+    else
+        explain_numbers(numbers, refusal);
+}
+
+static void explain_line(const struct seen *before, const struct line *line, const struct call *call, uint32_t refusal)
+{
+    print_said(line);
+    if (refusal == NOT_THE_FORM)
+        printf("%s\n", form_rule(line, 0));
+    else if (refusal == MINDAVEHU_NO_ADDRESS)
+        printf("address %u: the disk has %zu block%s, 0 to %zu\n", call->address, P, P == 1 ? "" : "s", P - 1);
+    else if (refusal)
+        printf("%s\n", mindavehu_refusal_text(refusal));
+    else
+        explain_call(before, call);
 }
 
 /* ---- The output of the replay. */
 
 static void print_answer(uint64_t number, const struct call *call)
 {
-    static const char *const words[] = {"", "hit", "miss", "same", "new", "cache", "disk", "done"};
     uint64_t flash_writes = mindavehu_get(answer, MINDAVEHU_ANSWER_FLASH), primary_writes = mindavehu_get(answer, MINDAVEHU_ANSWER_PRIMARY);
     if (call->letter == 'L')
         flash_writes = primary_writes = 0;
@@ -286,7 +593,7 @@ static void print_answer(uint64_t number, const struct call *call)
         printf("%u", call->address);
     else
         printf("-");
-    printf(" %s %llu %llu\n", words[mindavehu_get(answer, MINDAVEHU_WORD)], (unsigned long long)flash_writes, (unsigned long long)primary_writes);
+    printf(" %s %llu %llu\n", mindavehu_word_name(mindavehu_get(answer, MINDAVEHU_WORD)), (unsigned long long)flash_writes, (unsigned long long)primary_writes);
 }
 
 static void print_counters(void)
@@ -394,6 +701,7 @@ static void open_folder(uint64_t number)
 
 static void replay(void)
 {
+    static struct seen before;
     struct line line;
     struct call call;
     uint32_t numbers[4];
@@ -403,6 +711,8 @@ static void replay(void)
     uint32_t refusal = is_box(&line, numbers) ? open_box(numbers) : NOT_THE_FORM;
     if (refusal) {
         printf("0 refused %u\n", refusal);
+        if (explains)
+            explain_box(&line, numbers, refusal);
         return;
     }
     if (full) {
@@ -412,11 +722,15 @@ static void replay(void)
     for (; next_line(&line); number++) {
         if (full)
             print_asked(&line);
+        if (explains)
+            see(&before);
         refusal = is_call(&line, &call) ? carry_out(&call) : NOT_THE_FORM;
         if (refusal)
             printf("%llu refused %u\n", (unsigned long long)number, refusal);
         else
             print_answer(number, &call);
+        if (explains)
+            explain_line(&before, &line, &call, refusal);
         print_state();
     }
     if (ferror(stdin))
@@ -449,13 +763,14 @@ int main(int count, char **words)
 {
     full = count == 2 && strcmp(words[1], "--full") == 0;
     parts = count == 2 && strcmp(words[1], "--parts") == 0;
+    explains = count == 2 && strcmp(words[1], "--explain") == 0;
     if (count == 3 && strcmp(words[1], "--folder") == 0) {
         if (!take_folder(words[2])) {
             fprintf(stderr, "states: --folder takes at most %d addresses with commas between them, such as 2,5,2: %s\n", MOST_FOLDER, words[2]);
             return 2;
         }
-    } else if (count > 1 && !full && !parts) {
-        fprintf(stderr, "states: unknown option %s; there are --full, --parts and --folder ADDRESSES\n", words[1]);
+    } else if (count > 1 && !full && !parts && !explains) {
+        fprintf(stderr, "states: unknown option %s; there are --full, --parts, --explain and --folder ADDRESSES\n", words[1]);
         return 2;
     }
     replay();

@@ -83,6 +83,28 @@ fn write(mut stdin: impl Write, input: &[u8], writing: Writing) {
     }
 }
 
+/// A fresh folder target/tests/NAME, empty.
+pub fn folder(name: &str) -> PathBuf {
+    let path = root().join("target/tests").join(name);
+    let _ = std::fs::remove_dir_all(&path);
+    std::fs::create_dir_all(&path).unwrap();
+    path
+}
+
+/// A folder for PATH that has these commands of the machine and no other.
+pub fn commands(name: &str, names: &[&str]) -> PathBuf {
+    let path = folder(name);
+    let places: Vec<PathBuf> = std::env::split_paths(&std::env::var_os("PATH").unwrap()).collect();
+    for name in names {
+        let found = places.iter().map(|place| place.join(name)).find(|file| file.exists()).unwrap_or_else(|| panic!("{name} is not installed"));
+        std::os::unix::fs::symlink(found.canonicalize().unwrap(), path.join(name)).unwrap();
+    }
+    path
+}
+
+/// What the script ./replay and an installed tree need beside the C library.
+pub const PLAIN_COMMANDS: [&str; 4] = ["bash", "env", "readlink", "sed"];
+
 /// A build of trainer/states.c, made once in each test program.
 pub struct Build {
     name: &'static str,

@@ -1,6 +1,8 @@
 //! The script ./replay, on programs that are built.
-use replay::programs::root;
+use replay::programs::{commands, folder, root, PLAIN_COMMANDS};
 use std::fs::File;
+use std::os::unix::fs::{symlink, PermissionsExt};
+use std::path::Path;
 use std::process::{Command, Output, Stdio};
 
 /// Runs ./replay with these words in the folder lessons/, with a file of it on standard input or nothing.
@@ -54,7 +56,7 @@ fn a_folder() {
 /// Nothing on standard output, the words on standard error, and the status.
 #[test]
 fn what_cannot_be_done() {
-    let cases: [(&[&str], i32, &str); 8] = [
+    let cases: [(&[&str], i32, &str); 20] = [
         (&["no-such-list.txt"], 1, "there is no file no-such-list.txt"),
         (&["--states", "no-such-list.txt"], 1, "there is no file no-such-list.txt"),
         (&["."], 1, ". is a folder, not a list of requests"),
@@ -63,6 +65,18 @@ fn what_cannot_be_done() {
         (&["--folder"], 2, "--folder wants the addresses of the folder"),
         (&["--folder", "folder.txt"], 2, "this is no such list: folder.txt"),
         (&["--folder", "1, 2", "folder.txt"], 2, "with commas between them and no spaces"),
+        (&["week.txt", "--stats"], 2, "unknown option --stats"),
+        (&["week.txt", "--states", "--page"], 2, "--states and --page contradict each other"),
+        (&["--folder", "1", "week.txt", "--states"], 2, "--folder and --states contradict each other"),
+        (&["--folder", "1", "--folder", "2", "week.txt"], 2, "--folder is given twice"),
+        (&["--states", "--states", "week.txt"], 2, "--states is given twice"),
+        (&["--build", "week.txt"], 2, "--build takes no list"),
+        (&["--mark"], 2, "--mark wants the file with the answers"),
+        (&["--mark", "no-such-answers.txt", "week.txt"], 1, "there is no file no-such-answers.txt"),
+        (&["--mark", ".", "week.txt"], 1, ". is a folder, not a file with answers"),
+        (&["--mark", "week.expected", "no-such-list.txt"], 1, "there is no file no-such-list.txt"),
+        (&["--mark", "-"], 2, "cannot both be standard input"),
+        (&["--", "--states"], 1, "there is no file --states"),
     ];
     for (words, status, message) in cases {
         let done = script(words, None);
@@ -71,4 +85,186 @@ fn what_cannot_be_done() {
     }
     assert!(written(&["--help"], None).contains("./replay --page FILE"));
     println!("{} ways of asking for what cannot be done, and --help", cases.len());
+}
+
+#[test]
+fn in_either_order() {
+    let states = written(&["--states", "week.txt"], None);
+    assert_eq!(written(&["week.txt", "--states"], None), states);
+    assert_eq!(written(&["folder.txt", "--folder", "1,4,1"], None), written(&["--folder", "1,4,1", "folder.txt"], None));
+    assert_eq!(written(&["week.txt", "--mark", "week.expected"], None), written(&["--mark", "week.expected", "week.txt"], None));
+    assert_eq!(written(&["--states", "--", "week.txt"], None), states);
+    println!("a file before its option, and behind it");
+}
+
+#[test]
+fn standard_input_by_its_name() {
+    let expected = stored("lessons/week.expected");
+    assert_eq!(written(&["-"], Some("week.txt")), expected);
+    assert_eq!(written(&["-", "--states"], Some("week.txt")), written(&["--states", "week.txt"], None));
+    assert_eq!(written(&["--mark", "-", "week.txt"], Some("week.expected")), "13 of 13 lines are right\n");
+    println!("- is standard input");
+}
+
+/// A link to a link, called from another folder, with a list of that folder.
+#[test]
+fn through_a_symbolic_link() {
+    let place = folder("linked");
+    symlink(root().join("replay"), place.join("first")).unwrap();
+    symlink("first", place.join("second")).unwrap();
+    std::fs::copy(root().join("lessons/week.txt"), place.join("own list.txt")).unwrap();
+    for (words, expected) in
+        [(vec!["own list.txt"], stored("lessons/week.expected")), (vec!["--states", "own list.txt"], written(&["--states", "week.txt"], None))]
+    {
+        let done = Command::new("./second").args(&words).current_dir(&place).output().unwrap();
+        assert_eq!(String::from_utf8_lossy(&done.stdout), expected, "{words:?}: {}", String::from_utf8_lossy(&done.stderr));
+    }
+    let copy = place.join("copied");
+    std::fs::copy(root().join("replay"), &copy).unwrap();
+    let done = Command::new(&copy).arg("own list.txt").current_dir(&place).output().unwrap();
+    let said = String::from_utf8_lossy(&done.stderr);
+    assert!(done.status.code() == Some(1) && said.contains("neither in a checkout nor in bin/ of an installed tree"), "{said}");
+    println!("./replay through symbolic links, from another folder; a copy of it that stands alone says so");
+}
+
+/// A file that can be run.
+fn write_command(path: &Path, text: &str) {
+    std::fs::write(path, text).unwrap();
+    std::fs::set_permissions(path, std::fs::Permissions::from_mode(0o755)).unwrap();
+}
+
+/// Runs a script with the commands of one folder alone.
+fn with_commands(script: &Path, path: &Path, words: &[&str]) -> Output {
+    Command::new(script).args(words).env_clear().env("PATH", path).stdin(Stdio::null()).output().unwrap()
+}
+
+#[test]
+fn the_version() {
+    let header = stored("include/mindavehu.h");
+    let number = |name: &str| header.lines().find_map(|line| line.strip_prefix(&format!("#define MINDAVEHU_VERSION{name} "))).unwrap().to_string();
+    let version = number("");
+    assert_eq!(version, format!("\"{}.{}.{}\"", number("_MAJOR"), number("_MINOR"), number("_PATCH")));
+    let place = commands("without-rt", &PLAIN_COMMANDS);
+    let said = |place: &Path| String::from_utf8(with_commands(&root().join("replay"), place, &["--version"]).stdout).unwrap();
+    let first = format!("mindavehu {}\n", version.trim_matches('"'));
+    assert_eq!(said(&place), format!("{first}toolchain: not installed\n"));
+    write_command(&place.join("rt"), "#!/usr/bin/env bash\necho \"kit 7 of $1\"\n");
+    assert_eq!(said(&place), format!("{first}toolchain: kit 7 of --version\n"));
+    println!("{}, with a toolchain and without", first.trim_end());
+}
+
+/// A checkout in which nothing is built: the script, what it compiles, and the crates by their names.
+fn unbuilt(name: &str) -> std::path::PathBuf {
+    let place = folder(name);
+    for file in ["replay", "crates.txt", "include/mindavehu.h", "trainer/states.c", "trainer/mark.c"] {
+        std::fs::create_dir_all(place.join(file).parent().unwrap()).unwrap();
+        std::fs::copy(root().join(file), place.join(file)).unwrap();
+    }
+    for line in stored("crates.txt").lines() {
+        if let Some((name, _)) = line.split('#').next().unwrap().split_once(':') {
+            std::fs::create_dir_all(place.join("crates").join(name)).unwrap();
+        }
+    }
+    place
+}
+
+/// A stand-in for the toolchain: it says that it has started, and brings what it is asked for.
+fn put_rt(path: &Path) {
+    let bring = |from: &str| format!("mkdir -p target/{from}; cp {}/* target/{from}/", root().join("target").join(from).display());
+    let text = format!("#!/usr/bin/env bash\necho \"rt: started $*\"\ncase $1 in\ncheck) {} ;;\nstaticlib) {} ;;\nesac\n", bring("bin"), bring("staticlib"));
+    write_command(&path.join("rt"), &text);
+}
+
+const BUILDING: [&str; 17] = ["bash", "env", "readlink", "sed", "find", "tr", "tee", "tail", "cut", "mkdir", "touch", "mv", "cp", "cat", "gcc", "as", "ld"];
+
+#[test]
+fn an_unbuilt_checkout() {
+    let (place, path) = (unbuilt("unbuilt"), commands("building", &BUILDING));
+    let list = root().join("lessons/week.txt");
+    let run = |words: &[&str]| {
+        let done = with_commands(&place.join("replay"), &path, &[words, &[list.to_str().unwrap()]].concat());
+        (done.status.code(), String::from_utf8(done.stdout).unwrap(), String::from_utf8(done.stderr).unwrap())
+    };
+    let (status, _, said) = run(&[]);
+    assert!(status == Some(1) && said.contains("the Rattle toolchain (the command rt), which proves and builds it, is not installed"), "{said}");
+    put_rt(&path);
+    std::fs::write(place.join("target"), "").unwrap();
+    for words in [&[][..], &["--states"]] {
+        let (status, written, said) = run(words);
+        assert!(
+            status == Some(1)
+                && written.is_empty()
+                && said.contains("is not built yet, and ")
+                && said.contains("/target, where it is built, cannot be written to"),
+            "{said}"
+        );
+        assert!(!said.contains("started"), "{said}");
+    }
+    std::fs::remove_file(place.join("target")).unwrap();
+    // What takes minutes is said before it starts.
+    let (status, written, said) = run(&["--states"]);
+    let at = |text: &str| said.find(text).unwrap_or_else(|| panic!("{text:?} is not said: {said}"));
+    let start = at("proving and building the engine as a library, which all but plain answers need (rt staticlib service)");
+    assert!(start < at("started staticlib service") && said.contains("from nothing this takes some minutes") && status == Some(0), "{said}");
+    assert_eq!(written, replay::states::states(&std::fs::read(&list).unwrap(), false));
+    println!("an unbuilt checkout: no toolchain, no place to write, and built at the first --states");
+}
+
+#[test]
+fn built_at_once() {
+    let (place, path) = (unbuilt("unbuilt-both"), commands("building-both", &BUILDING));
+    put_rt(&path);
+    let done = with_commands(&place.join("replay"), &path, &["--build"]);
+    let said = String::from_utf8_lossy(&done.stderr);
+    assert!(
+        done.status.success() && done.stdout.is_empty() && said.contains("started check replay_cli") && said.contains("started staticlib service"),
+        "{said}"
+    );
+    std::fs::remove_file(path.join("rt")).unwrap();
+    let list = root().join("lessons/week.txt");
+    for words in [&[][..], &["--states"], &["--explain"]] {
+        let done = with_commands(&place.join("replay"), &path, &[words, &[list.to_str().unwrap()]].concat());
+        assert!(done.status.success() && done.stderr.is_empty() && !done.stdout.is_empty(), "{words:?}: {}", String::from_utf8_lossy(&done.stderr));
+    }
+    println!("--build, and nothing is left to prove then");
+}
+
+#[test]
+fn a_text_without_a_heading() {
+    let place = folder("headings");
+    std::fs::copy(root().join("lessons/week.txt"), place.join("own.txt")).unwrap();
+    let page = |text: &str| {
+        std::fs::write(place.join("own.md"), text).unwrap();
+        let done = Command::new(root().join("replay")).args(["--page", "own.txt"]).current_dir(&place).stdin(Stdio::null()).output().unwrap();
+        assert!(done.status.success());
+        (String::from_utf8(done.stdout).unwrap(), String::from_utf8(done.stderr).unwrap())
+    };
+    for text in ["", "\n# Late\n", "words\n", "#\n"] {
+        let (page, said) = page(text);
+        assert!(page.contains("<h1>own.txt</h1>") && said.contains("the first line of own.md is no heading"), "{text:?}: {said}");
+    }
+    let (page, said) = page("# Of my own\n");
+    assert!(page.contains("<h1>Of my own</h1>") && said.is_empty(), "{said}");
+    println!("a page whose text has no heading is named after its list, and that is said");
+}
+
+/// A list whose page would be longer ends with a picture fewer, and the sums.
+#[test]
+fn a_page_of_five_megabytes() {
+    let place = folder("long-page");
+    let list = |lines: usize| {
+        let text: String = std::iter::once("box 64 256 1024 256\n".to_string()).chain((0..lines).map(|k| format!("R {}\n", k % 256))).collect();
+        std::fs::write(place.join("long.txt"), text).unwrap();
+        let done = Command::new(root().join("replay")).args(["--page", "long.txt"]).current_dir(&place).stdin(Stdio::null()).output().unwrap();
+        assert!(done.status.success());
+        (String::from_utf8(done.stdout).unwrap(), String::from_utf8(done.stderr).unwrap())
+    };
+    let (page, said) = list(20);
+    assert!(said.is_empty() && page.matches("<section>").count() == 22, "{said}");
+    let (page, said) = list(400);
+    let pictures = page.matches("<section><h2>").count() - 2;
+    assert!(page.len() <= 5_000_000 && page.len() > 4_800_000 && page.contains("<h2>The sums</h2>") && page.ends_with("</html>\n"), "{} bytes", page.len());
+    let message = format!("a page has at most 5,000,000 bytes, so the last {} lines of the list are left out", 400 - pictures);
+    assert!(said.contains(&message) && page.contains(&message[1..]), "{pictures} pictures: {said}");
+    println!("a page of {} bytes with {pictures} of 400 lines", page.len());
 }

@@ -1,0 +1,161 @@
+/* The struct of the header beside the functions with all parameters: the same calls on two boxes leave the same bytes, answers and results. Then the lengths
+ * by the macros, and the texts of refusals and words.
+ * Prints what it checked, or the line that failed. */
+#include <stdio.h>
+#include <stdlib.h>
+#include <string.h>
+#include "mindavehu.h"
+
+enum { B = 128, P = 16, M = 5, D = 3, COUNT = 4, CALLS = 4000 };
+
+static unsigned checks;
+
+static void expect_at(int line, const char *what, int holds)
+{
+    checks++;
+    if (!holds) {
+        printf("box: line %d fails: %s\n", line, what);
+        exit(1);
+    }
+}
+#define EXPECT(fact) expect_at(__LINE__, #fact, (fact))
+
+/* The memory of a box, the bytes behind the state and the answers included. */
+struct memory {
+    uint8_t disk[MINDAVEHU_DISK_LENGTH(B, P)], flash[MINDAVEHU_FLASH_LENGTH(B, D)], addresses[MINDAVEHU_ADDRESSES_LENGTH(M)];
+    uint8_t blocks[MINDAVEHU_BLOCKS_LENGTH(D)], block[MINDAVEHU_BLOCK_LENGTH(B)], buffer[MINDAVEHU_BUFFER_LENGTH(B, COUNT)];
+    uint8_t state[MINDAVEHU_STATE], answer[MINDAVEHU_ANSWER], many[MINDAVEHU_MANY_ANSWER];
+};
+
+static struct memory one, other;
+static struct mindavehu_box box;
+
+#define STATE other.state, sizeof other.state
+#define MEMORY other.disk, sizeof other.disk, other.flash, sizeof other.flash, other.addresses, sizeof other.addresses, other.blocks, sizeof other.blocks
+#define BLOCK other.block, length
+#define ANSWER other.answer, sizeof other.answer
+
+static unsigned random_below(unsigned bound)
+{
+    static uint32_t seed = 20;
+    seed = seed * 1664525 + 1013904223;
+    return (seed >> 12) % bound;
+}
+
+static void expect_same(void)
+{
+    memcpy(one.state, box.state, sizeof one.state);
+    memcpy(one.answer, box.answer, sizeof one.answer);
+    memcpy(one.many, box.many, sizeof one.many);
+    EXPECT(memcmp(&one, &other, sizeof one) == 0);
+}
+
+/* One call both ways. Gives its result. Now and then an address or a length is not right. */
+static uint32_t call(unsigned kind)
+{
+    uint32_t a = random_below(P + 1), asked[COUNT], first, second;
+    size_t length = B - (random_below(20) == 0), most = random_below(3);
+    memset(one.block, (int)random_below(6), B);
+    memcpy(other.block, one.block, B);
+    for (int k = 0; k < COUNT; k++)
+        asked[k] = random_below(P);
+    switch (kind) {
+    case 0:
+        first = mindavehu_box_read(&box, a, one.block, length), second = mindavehu_read(STATE, a, MEMORY, BLOCK, ANSWER);
+        break;
+    case 1:
+        first = mindavehu_box_write_through(&box, a, one.block, length), second = mindavehu_write_through(STATE, a, MEMORY, BLOCK, ANSWER);
+        break;
+    case 2:
+        first = mindavehu_box_write_back(&box, a, one.block, length), second = mindavehu_write_back(STATE, a, MEMORY, BLOCK, ANSWER);
+        break;
+    case 3:
+        first = mindavehu_box_write_invalidate(&box, a, one.block, length), second = mindavehu_write_invalidate(STATE, a, MEMORY, BLOCK, ANSWER);
+        break;
+    case 4:
+        first = mindavehu_box_look(&box, a), second = mindavehu_look(STATE, a, MEMORY, ANSWER);
+        break;
+    case 5:
+        first = mindavehu_box_flush_some(&box, most), second = mindavehu_flush_some(STATE, most, MEMORY, ANSWER);
+        break;
+    case 6:
+        first = mindavehu_box_flush(&box), second = mindavehu_flush(STATE, MEMORY, ANSWER);
+        break;
+    default:
+        first = mindavehu_box_read_many(&box, asked, COUNT, one.buffer, sizeof one.buffer);
+        second = mindavehu_read_many(STATE, asked, COUNT, MEMORY, other.buffer, sizeof other.buffer, other.many, sizeof other.many);
+    }
+    EXPECT(first == second);
+    expect_same();
+    return first;
+}
+
+static void the_same_calls(void)
+{
+    static const unsigned numbers[] = {B, P, M, D};
+    unsigned served[8] = {0}, refused = 0;
+    for (size_t k = 0; k < P; k++)
+        memset(one.disk + k * B, (int)k % 6, B);
+    memcpy(other.disk, one.disk, sizeof other.disk);
+    mindavehu_box_lend(&box, one.disk, sizeof one.disk, one.flash, sizeof one.flash, one.addresses, sizeof one.addresses, one.blocks, sizeof one.blocks);
+    for (size_t k = 0; k < 4; k++)
+        mindavehu_put(other.state, 8 * k, numbers[k]);
+    EXPECT(mindavehu_box_open(&box, B, P, M, D) == MINDAVEHU_SERVED);
+    EXPECT(mindavehu_open(STATE, MEMORY) == MINDAVEHU_SERVED);
+    expect_same();
+    for (int k = 0; k < CALLS; k++) {
+        unsigned kind = random_below(8);
+        if (call(kind) == MINDAVEHU_SERVED)
+            served[kind]++;
+        else
+            refused++;
+    }
+    for (unsigned kind = 0; kind < 8; kind++)
+        EXPECT(served[kind] > CALLS / 20);
+    EXPECT(refused > CALLS / 40);
+}
+
+/* A box opens with the lengths of the macros, and with no other. */
+static void the_lengths(void)
+{
+    static const struct { size_t B, P, m, d; } boxes[] = {{64, 1, 1, 1}, {64, 9, 4, 3}, {1024, 40, 30, 20}, {4096, 16, 1024, 256}};
+    static uint8_t bytes[4][4096 * 256 + 1];
+    for (size_t k = 0; k < sizeof boxes / sizeof *boxes; k++) {
+        size_t lengths[4] = {MINDAVEHU_DISK_LENGTH(boxes[k].B, boxes[k].P), MINDAVEHU_FLASH_LENGTH(boxes[k].B, boxes[k].d),
+                             MINDAVEHU_ADDRESSES_LENGTH(boxes[k].m), MINDAVEHU_BLOCKS_LENGTH(boxes[k].d)};
+        /* 4: all are right. */
+        for (int wrong = 0; wrong <= 4; wrong++)
+            for (int more = 0; more < 2; more++) {
+                size_t given[4];
+                for (int i = 0; i < 4; i++)
+                    given[i] = lengths[i] + (i == wrong ? (more ? (size_t)1 : (size_t)-1) : 0);
+                mindavehu_box_lend(&box, bytes[0], given[0], bytes[1], given[1], bytes[2], given[2], bytes[3], given[3]);
+                uint32_t refusal = mindavehu_box_open(&box, boxes[k].B, boxes[k].P, boxes[k].m, boxes[k].d);
+                EXPECT(refusal == (wrong == 4 ? MINDAVEHU_SERVED : MINDAVEHU_WRONG_LENGTH));
+            }
+    }
+    EXPECT(MINDAVEHU_DISK_LENGTH(4096, 65536) == (size_t)4096 * 65536);
+}
+
+static void the_texts(void)
+{
+    static const char *const words[] = {"hit", "miss", "same", "new", "cache", "disk", "done"};
+    for (unsigned k = 0; k < 7; k++)
+        EXPECT(strcmp(mindavehu_word_name(k + 1), words[k]) == 0);
+    EXPECT(strcmp(mindavehu_word_name(0), "no word has this number") == 0 && strcmp(mindavehu_word_name(8), "no word has this number") == 0);
+    for (uint32_t k = 0; k <= 10; k++)
+        for (uint32_t i = 0; i <= 11; i++)
+            EXPECT((strcmp(mindavehu_refusal_text(k), mindavehu_refusal_text(i)) == 0) == (k == i));
+    EXPECT(strcmp(mindavehu_refusal_text(MINDAVEHU_SERVED), "served") == 0);
+    EXPECT(strcmp(mindavehu_refusal_text(MINDAVEHU_NO_ADDRESS), "the address is P or more") == 0);
+    EXPECT(strcmp(mindavehu_refusal_text(11), "no refusal has this number") == 0);
+}
+
+int main(void)
+{
+    the_same_calls();
+    the_lengths();
+    the_texts();
+    printf("box: %d calls by the struct and by all parameters the same, lengths and texts: %u checks\n", CALLS, checks);
+    return 0;
+}

@@ -1,0 +1,78 @@
+//! docs/FORMATS.md: its example, its refusals, its record and its rows against the model, the header and the proved program.
+use model::{Cache, Call, Lent};
+use replay::programs::{root, Program, Writing};
+
+fn read(name: &str) -> String {
+    std::fs::read_to_string(root().join(name)).unwrap()
+}
+
+fn fences() -> Vec<String> {
+    read("docs/FORMATS.md").split("```\n").skip(1).step_by(2).map(str::to_string).collect()
+}
+
+#[test]
+fn the_example() {
+    let fences = fences();
+    let (list, answers) = (&fences[0], &fences[1]);
+    assert_eq!(String::from_utf8(Program::replay().run(list.as_bytes(), Writing::Whole)).unwrap(), *answers);
+    assert_eq!(String::from_utf8(replay::replay(list.as_bytes())).unwrap(), *answers);
+    println!("the example of docs/FORMATS.md, {} lines", answers.lines().count());
+}
+
+/// A write back of content 7 to address 5 of a box of 64, 8, 3 and 2: the first address row, then both block rows.
+#[test]
+fn the_rows() {
+    let mut cache = Cache::fresh(64, 8, 3, 2, (0..8).flat_map(|k| vec![k; 64]).collect(), vec![0; 128]);
+    cache.call(Call::Back, 5, &mut vec![7; 64]).unwrap();
+    let mut lent = Lent { state: vec![], disk: vec![], flash: vec![], addresses: vec![], blocks: vec![], block: vec![], answer: vec![] };
+    cache.store(&mut lent);
+    let bytes = |text: &str| text.split_whitespace().map(|byte| u8::from_str_radix(byte, 16).unwrap()).collect::<Vec<u8>>();
+    let fences = fences();
+    assert_eq!(bytes(&fences[2]), lent.addresses[..40]);
+    assert_eq!(bytes(&fences[3]), lent.blocks);
+    println!("three rows of docs/FORMATS.md, byte for byte");
+}
+
+/// The header's numbers of refusals, words and fields, as the page tells them.
+#[test]
+fn the_numbers() {
+    let (page, header) = (read("docs/FORMATS.md"), read("include/mindavehu.h"));
+    let number = |name: &str| {
+        let line = header.lines().find_map(|line| line.strip_prefix(&format!("#define MINDAVEHU_{name} "))).unwrap_or_else(|| panic!("{name} is not defined"));
+        line.split_whitespace().next().unwrap().parse::<u64>().unwrap()
+    };
+    let refusals = ["OUTSIDE", "WRONG_LENGTH", "NO_ADDRESS", "BAD_ADDRESSES", "BAD_BLOCKS", "DIRTY_UNCACHED", "COUNTER_FULL", "BAD_COUNT"];
+    let mut told: Vec<u64> = page
+        .split("## Refusals")
+        .nth(1)
+        .unwrap()
+        .split("\n## ")
+        .next()
+        .unwrap()
+        .lines()
+        .filter_map(|line| line.strip_prefix("| ")?.split(' ').next()?.parse().ok())
+        .collect();
+    told.retain(|number| ![4, 5].contains(number));
+    assert_eq!(told, refusals.map(number), "the refusals");
+    let words = ["HIT", "MISS", "SAME", "NEW", "CACHE", "DISK", "DONE"].map(|name| format!("{} {}", number(name), name.to_lowercase())).join(", ");
+    assert!(page.replace('\n', " ").contains(&format!("the word ({words})")), "{words}");
+    let fields = [
+        ("B", "B"),
+        ("P", "P"),
+        ("M", "m"),
+        ("D", "d"),
+        ("N", "n"),
+        ("READS", "reads"),
+        ("HITS", "hits"),
+        ("FLASH_WRITES", "flash writes"),
+        ("PRIMARY_WRITES", "primary writes"),
+    ];
+    let row = |first: &str, cells: Vec<String>| format!("| {first} | {} |\n", cells.join(" | "));
+    let bytes = row("byte", fields.iter().map(|(name, _)| number(name).to_string()).collect());
+    let names = row("number", fields.iter().map(|(_, name)| name.to_string()).collect());
+    assert!(page.contains(&bytes) && page.contains(&names), "{bytes}{names}");
+    for length in ["STATE", "ANSWER", "MANY_ANSWER", "ROW"] {
+        assert!(page.contains(&format!(" {} bytes", number(length))), "{length}");
+    }
+    println!("{} refusals, 7 words, {} fields and 4 lengths", told.len(), fields.len());
+}
