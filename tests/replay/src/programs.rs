@@ -103,7 +103,7 @@ pub fn commands(name: &str, names: &[&str]) -> PathBuf {
 }
 
 /// What the script ./replay and an installed tree need beside the C library.
-pub const PLAIN_COMMANDS: [&str; 4] = ["bash", "env", "readlink", "sed"];
+pub const PLAIN_COMMANDS: [&str; 5] = ["bash", "cat", "env", "readlink", "sed"];
 
 /// A build of trainer/states.c, made once in each test program.
 pub struct Build {

@@ -1,6 +1,6 @@
 //! `--explain`: the rule that each refused line breaks, and what the cache did in each other line and why.
 use common::Random;
-use replay::programs::{Build, Program, Writing, PLAIN, SANITIZED};
+use replay::programs::{root, Build, Program, Writing, PLAIN, SANITIZED};
 use replay::{cases::cases, list, lists::random_list, malformed::KINDS, states};
 
 const LISTS: usize = 300;
@@ -224,4 +224,18 @@ fn random_lists() {
     }
     assert!(stored > 1_000 && copied > 500 && freed > 100, "{stored} stored, {copied} copied, {freed} freed");
     println!("{} lists, {how}: {stored} blocks said to be stored, {copied} copied, {freed} rows freed", inputs.len());
+}
+
+/// The example of lessons/README.md.
+#[test]
+fn as_the_page_tells_it() {
+    let read = |name: &str| std::fs::read_to_string(root().join("lessons").join(name)).unwrap();
+    let page = read("README.md");
+    let section = page.split("## How to see why\n").nth(1).unwrap();
+    let shown = section.split("```\n").nth(1).unwrap();
+    let output = explained(&PLAIN, read("week.txt").as_bytes());
+    assert!(shown.lines().count() == 5 && output.contains(&format!("\n{shown}")), "{output}");
+    let refused = section.split('`').find(|piece| piece.starts_with("R 01: ")).unwrap();
+    assert!(explained(&PLAIN, read("refused-4.txt").as_bytes()).contains(&format!("    {refused}\n")), "{refused}");
+    println!("the example of lessons/README.md");
 }

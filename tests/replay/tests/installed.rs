@@ -105,6 +105,7 @@ fn the_week_without_a_toolchain() {
     assert_eq!(written(&["--mark", "week.expected", "week.txt"]), "13 of 13 lines are right\n");
     assert!(written(&["--explain", "week.txt"]).contains("    content 9 is stored in flash\n"));
     assert_eq!(written(&["--build"]), "");
+    assert!(written(&["--help"]).contains("./replay --mark ANSWERS FILE"));
     let version = written(&["--version"]);
     let toolchain = std::fs::read_to_string(tree().join("libexec/mindavehu/toolchain")).unwrap();
     assert!(version.starts_with("mindavehu ") && version.ends_with(&format!("\ntoolchain: {toolchain}")) && !toolchain.trim().is_empty(), "{version}");
