@@ -10,7 +10,8 @@ use Rattle.answers.specs.Replay.{Done}
 
 -- what a call of the code answers, and what is lent after it
 abbrev pub doneOf : Outcome → (disk flash addresses blocks : List ℕ) → Done
-doneOf r disk flash addresses blocks = record { answer = answerOf (r .answer); lent = lent (r .box_record) disk flash addresses blocks (countersOf (r .counters)) }
+doneOf r disk flash addresses blocks
+    = record { answer = answerOf (r .answer); lent = lent (r .box_record) disk flash addresses blocks (countersOf (r .counters)) }
 
 -- the box record of a box's numbers and its n
 abbrev pub recordOf : Numbers → ℕ → BoxRecord

@@ -12,20 +12,10 @@ pub fn box_of(c: Command) -> BoxRecord
     ensures { λ r. ⌜ r ≡ recordOf (boxNumbers c) 0 ⌝ }
 {
     match c {
-        Command::Box(b, p, m, d) => BoxRecord {
-            size: b as usize,
-            blocks: p as usize,
-            rows: m as usize,
-            slots: d as usize,
-            held: 0,
-        },
-        _ => BoxRecord {
-            size: 0,
-            blocks: 0,
-            rows: 0,
-            slots: 0,
-            held: 0,
-        },
+        Command::Box(b, p, m, d) => {
+            parts::empty_box(b as usize, p as usize, m as usize, d as usize)
+        }
+        _ => parts::empty_box(0, 0, 0, 0),
     }
 }
 
@@ -53,13 +43,7 @@ pub fn box_refusal(c: Command) -> u32
     let Command::Box(b, p, m, d) = c else {
         return 4;
     };
-    let x = BoxRecord {
-        size: b as usize,
-        blocks: p as usize,
-        rows: m as usize,
-        slots: d as usize,
-        held: 0,
-    };
+    let x = parts::empty_box(b as usize, p as usize, m as usize, d as usize);
     if refusals::numbers_unfit(x) {
         return 1;
     }

@@ -6,10 +6,10 @@ ghost use mathlib.Core.Path.{_≡_};
 ghost use mathlib.Core.Bool.{true, cond};
 ghost use Prim.Native.Nat.{ℕ, suc, _+_, _<_, _≤_};
 ghost use lib.ListN.{length, drop};
-ghost use Rattle.tables.specs.Rows.{tableBytes, rows, rowAt};
+ghost use Rattle.tables.specs.Rows.{tableBytes, HasRows, IsPrint, rows, rowAt};
 ghost use Rattle.tables.specs.Records.{readBlock};
 ghost use Rattle.tables.specs.Find.{every, findFrom, caches, absent, isUsed};
-ghost use Rattle.tables.specs.Index.{headsLength, Blank, bucket, choice, In, Goes, onward, Linked, Indexed, unique};
+ghost use Rattle.tables.specs.Index.{headsLength, BlockTable, Blank, bucket, choice, In, Goes, onward, Linked, Indexed, unique};
 
 // The entries of an index: of 4,096 buckets, of 256 rows, and which bytes of a fingerprint give its bucket.
 pub const ENTRIES: usize = 4353;
@@ -23,7 +23,7 @@ pub(crate) fn wide(x: u16) -> usize
 
 // The bucket of the fingerprint `g`, by its bytes `c` and `c + 1`.
 pub(crate) fn bucket_of(g: &[u8], c: usize) -> usize
-    requires { ⌜ (length (now g) ≡ 32) × (c + 2 ≤ 32) ⌝ }
+    requires { ⌜ IsPrint (now g) × (c + 2 ≤ 32) ⌝ }
     ensures { λ r. ⌜ (r ≡ bucket c (now (g .entry))) × (r < 4096) ⌝ }
 {
     ((row::byte_at(g, c) + 256 * row::byte_at(g, c + 1)) % 4096) as usize
@@ -31,7 +31,7 @@ pub(crate) fn bucket_of(g: &[u8], c: usize) -> usize
 
 // The index of the first of `d` block rows from row `from` on, a row of the bucket of `g`, that is used and has the fingerprint `g`.
 pub(crate) fn walk(t: &[u8], d: usize, heads: &[u16], from: usize, g: &[u8]) -> Found
-    requires { ⌜ (tableBytes d ≤ length (now t)) × (d ≤ 256) × (length (now g) ≡ 32) × (length (now heads) ≡ headsLength) ⌝ }
+    requires { ⌜ BlockTable d (now t) × IsPrint (now g) × (length (now heads) ≡ headsLength) ⌝ }
     requires { ⌜ (from < length (rows d (now t)) → In (choice (now heads)) (rows d (now t)) (bucket (choice (now heads)) (now g)) from) ⌝ }
     requires { ⌜ ((r x : ℕ) → from ≤ r → r < length (rows d (now t)) → In (choice (now heads)) (rows d (now t)) x r
         → Goes (choice (now heads)) (rows d (now t)) x r (onward (now heads) r)) ⌝ }
@@ -49,7 +49,7 @@ pub(crate) fn walk(t: &[u8], d: usize, heads: &[u16], from: usize, g: &[u8]) -> 
 
 // The index of the first of `d` block rows that is used and has the fingerprint `g`.
 pub fn find(t: &[u8], d: usize, heads: &[u16], g: &[u8]) -> Found
-    requires { ⌜ (tableBytes d ≤ length (now t)) × (d ≤ 256) × (length (now g) ≡ 32) ⌝ }
+    requires { ⌜ BlockTable d (now t) × IsPrint (now g) ⌝ }
     requires { ⌜ Indexed d (now t) (now heads) ⌝ }
     ensures { λ r. ⌜ r ≡ findFrom (caches (now (g .entry))) 0 (rows d (now (t .entry))) ⌝ }
 {
@@ -97,7 +97,7 @@ pub(crate) fn put_row(t: &[u8], d: usize, heads: &mut [u16], k: usize) -> bool
 
 // `c` where at most eight of the first `d` rows that are used are of one bucket by the bytes `c` and `c + 1`, else `c + 2`.
 pub(crate) fn less_crowded(t: &[u8], d: usize, c: u16) -> u16
-    requires { ⌜ (tableBytes d ≤ length (now t)) × (c + 2 ≤ 32) ⌝ }
+    requires { ⌜ HasRows (now t) d × (c + 2 ≤ 32) ⌝ }
     ensures { λ r. ⌜ (c ≤ r) × (r ≤ c + 2) ⌝ }
 {
     let mut counts = [0u8; 4096];
@@ -119,7 +119,7 @@ pub(crate) fn less_crowded(t: &[u8], d: usize, c: u16) -> u16
 // Which bytes are to give the buckets of `d` rows: the first two, or others where too many rows would be of one bucket by them.
 // Every choice is right, and decides only how long the searches take.
 pub(crate) fn choose(t: &[u8], d: usize) -> u16
-    requires { ⌜ tableBytes d ≤ length (now t) ⌝ }
+    requires { ⌜ HasRows (now t) d ⌝ }
     ensures { λ r. ⌜ r + 2 ≤ 32 ⌝ }
 {
     if d <= 16 {

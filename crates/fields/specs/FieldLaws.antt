@@ -41,7 +41,8 @@ module _ (at : ℕ) (x d : List ℕ) (h : at + length x ≤ length d) where
 
 -- ---- the eight bytes of a number
 
-half : (a r0 q1 r1 q2 r2 q3 r3 q4 : ℕ) → 256 * q1 + r0 ≡ a → 256 * q2 + r1 ≡ q1 → 256 * q3 + r2 ≡ q2 → 256 * q4 + r3 ≡ q3 → r0 + 256 * r1 + 65536 * r2 + 16777216 * r3 + 4294967296 * q4 ≡ a
+half : (a r0 q1 r1 q2 r2 q3 r3 q4 : ℕ) → 256 * q1 + r0 ≡ a → 256 * q2 + r1 ≡ q1 → 256 * q3 + r2 ≡ q2 → 256 * q4 + r3 ≡ q3
+    → r0 + 256 * r1 + 65536 * r2 + 16777216 * r3 + 4294967296 * q4 ≡ a
 half a r0 q1 r1 q2 r2 q3 r3 q4 e0 e1 e2 e3 = omega arith
 
 halves : (a x q r4 r5 r6 r7 z : ℕ) → x + 4294967296 * q ≡ a → r4 + 256 * r5 + 65536 * r6 + 16777216 * r7 + 4294967296 * z ≡ q → a < 18446744073709551616
@@ -89,7 +90,8 @@ module _ (at v : ℕ) (s : List ℕ) (h : at + 8 ≤ length s) where
   -- what is written is read
   pub get8-put8 : v < 2 ^ 64 → get8 (put8 at v s) at ≡ v
   unfolding get8 put8
-  get8-put8 l = same-read (splice at (lowBytes 8 v) s) (lowBytes 8 v) at 0 (λ j k. in-splice at (lowBytes 8 v) s h j k ∙ zero-plus (lowBytes 8 v) j) ∙ low-read v l
+  get8-put8 l = same-read (splice at (lowBytes 8 v) s) (lowBytes 8 v) at 0 (λ j k. in-splice at (lowBytes 8 v) s h j k ∙ zero-plus (lowBytes 8 v) j)
+      ∙ low-read v l
 
   -- the numbers before it and after it stay
   pub get8-before : (i : ℕ) → i + 8 ≤ at → get8 (put8 at v s) i ≡ get8 s i
@@ -156,7 +158,13 @@ module _ (n : ℕ) (k : Counters) (s : List ℕ) (h : length s ≡ 72) where
 
   -- the next call reads the box record with the n that this one wrote
   pub record-back : n < 2 ^ 64 → recordIn (putState n k s) ≡ record { size = get8 s 0; blocks = get8 s 8; rows = get8 s 16; slots = get8 s 24; held = n }
-  record-back b = λ i. record { size = kept 0 (omega arith) i; blocks = kept 8 (omega arith) i; rows = kept 16 (omega arith) i; slots = kept 24 (omega arith) i; held = held-read b i }
+  record-back b = λ i. record {
+    size = kept 0 (omega arith) i;
+    blocks = kept 8 (omega arith) i;
+    rows = kept 16 (omega arith) i;
+    slots = kept 24 (omega arith) i;
+    held = held-read b i;
+  }
 
   reads-read : k .reads < 2 ^ 64 → get8 (putState n k s) 40 ≡ k .reads
   unfolding putState
@@ -202,7 +210,8 @@ module _ (word second third : ℕ) (l : List ℕ) (h : length l ≡ 24) where
 
   pub word-read : word < 2 ^ 64 → get8 (putAnswer word second third l) 0 ≡ word
   unfolding putAnswer
-  word-read b = get8-before 16 third m₂ (omega (arith, k₂)) 0 (omega arith) ∙ get8-before 8 second m₁ (omega (arith, k₁)) 0 (omega arith) ∙ get8-put8 0 word l (omega arith) b
+  word-read b = get8-before 16 third m₂ (omega (arith, k₂)) 0 (omega arith) ∙ get8-before 8 second m₁ (omega (arith, k₁)) 0 (omega arith)
+      ∙ get8-put8 0 word l (omega arith) b
 
   pub second-read : second < 2 ^ 64 → get8 (putAnswer word second third l) 8 ≡ second
   unfolding putAnswer

@@ -14,7 +14,7 @@ pub extern "C" fn hash_probe_sha256(message: &[u8], digest: &mut [u8; 32])
 
 // Whether n is the length of a block.
 fn is_size(n: usize) -> bool
-    ensures { λ r. ⌜ (r ≡ true → Size n) ⌝ }
+    ensures { λ r. ⌜ (r ≡ true → Size n) × (Size n → r ≡ true) ⌝ }
 {
     match n {
         64 | 128 | 256 | 512 | 1024 | 2048 | 4096 => true,

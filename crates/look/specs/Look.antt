@@ -19,7 +19,8 @@ placeIn B used (some r) = Flash (record { 0 = slotOf (engine B) (r .fingerprint)
 -- the place of the block of a, or the number of the refusal
 unfoldable pub whereIs : Numbers → Lent → ℕ → Place
 whereIs N t a =
-    cond (eqb (refusal N t (calling (Ask.look a))) 0) (placeIn (N .B) (boxIn N t .used) (rowWithBlock (engine (N .B)) (boxIn N t) a)) (Refused (refusal N t (calling (Ask.look a))))
+    cond (eqb (refusal N t (calling (Ask.look a))) 0) (placeIn (N .B) (boxIn N t .used) (rowWithBlock (engine (N .B)) (boxIn N t) a))
+    (Refused (refusal N t (calling (Ask.look a))))
 
 -- what a look answers and returns there
 unfoldable pub answerAt : Place → Answer

@@ -27,7 +27,8 @@ use Rattle.serve.specs.ServeLaws.{hit-row, found-hit, found-miss}
 use Rattle.policy.specs.CallLaws.{rep, address-fits}
 
 -- a look that is not refused
-module _ (b : BoxRecord) (disk flash addrs blocks : List ℕ) (k : Counters) (a : ℕ) (e : refusal (numbersOf b) (lent b disk flash addrs blocks k) (calling (Ask.look a)) ≡ 0) (ba : Bytes addrs) (bb : Bytes blocks) where
+module _ (b : BoxRecord) (disk flash addrs blocks : List ℕ) (k : Counters) (a : ℕ)
+    (e : refusal (numbersOf b) (lent b disk flash addrs blocks k) (calling (Ask.look a)) ≡ 0) (ba : Bytes addrs) (bb : Bytes blocks) where
   abbrev box : Box (Fixed 32) (Fixed (b .size))
   box = boxIn (numbersOf b) (lent b disk flash addrs blocks k)
 
@@ -35,13 +36,17 @@ module _ (b : BoxRecord) (disk flash addrs blocks : List ℕ) (k : Counters) (a 
   is = rep b disk flash addrs blocks k (Ask.look a) e ba bb
 
   -- what the two searches find
-  module _ (i j : ℕ) (ei : i ≡ indexWhere (λ x. eqb a (x .address)) (box .rows)) (ej : j ≡ cond (ltb i (b .held)) (length (box .free) + indexWhere (λ u. engine 0 .same (getD (box .rows) i noRow .fingerprint) (u .fingerprint)) (box .used)) (b .slots)) where
-    pub found-flash : j < b .slots → (r : ℕ) → r ≡ readBlock (rowAt blocks j) .slot → Flash (record { 0 = r }) ≡ whereIs (numbersOf b) (lent b disk flash addrs blocks k) a
+  module _ (i j : ℕ) (ei : i ≡ indexWhere (λ x. eqb a (x .address)) (box .rows))
+      (ej : j ≡ cond (ltb i (b .held)) (length (box .free) + indexWhere (λ u. engine 0 .same (getD (box .rows) i noRow .fingerprint) (u .fingerprint))
+      (box .used)) (b .slots)) where
+    pub found-flash : j < b .slots → (r : ℕ) → r ≡ readBlock (rowAt blocks j) .slot
+        → Flash (record { 0 = r }) ≡ whereIs (numbersOf b) (lent b disk flash addrs blocks k) a
     unfolding whereIs placeIn
     found-flash l r er =
         let q = found-hit b disk flash addrs blocks box is a i j ei ej l in
         let f = getD (box .rows) i noRow .fingerprint in
-        let s : r ≡ slotOf (engine (b .size)) f (box .used) = slot-some (b .size) (b .slots) blocks (box .free) (box .used) f (is .blocks-are) j (q .place) (q .is-cached) r er in
+        let s : r ≡ slotOf (engine (b .size)) f (box .used)
+        = slot-some (b .size) (b .slots) blocks (box .free) (box .used) f (is .blocks-are) j (q .place) (q .is-cached) r er in
         rw (e, hit-row b disk flash addrs blocks box is a i j q) (ap (λ (x : ℕ). Flash (record { 0 = x })) s)
 
     pub found-disk : b .slots ≤ j → Disk ≡ whereIs (numbersOf b) (lent b disk flash addrs blocks k) a
@@ -71,8 +76,11 @@ PartIn b flash disk a Disk = a * b .size + b .size ≤ length disk
 
 module _ (b : BoxRecord) (disk flash addrs blocks : List ℕ) (k : Counters) (a : ℕ) (ba : Bytes addrs) (bb : Bytes blocks) where
   -- the slot of a row's block, and the address
-  slot-below : (e : refusal (numbersOf b) (lent b disk flash addrs blocks k) (calling (Ask.look a)) ≡ 0) (f : Fixed 32) → slotOf (engine (b .size)) f (boxIn (numbersOf b) (lent b disk flash addrs blocks k) .used) < b .slots
-  slot-below e f = slotOf-below (b .size) (b .slots) f (box b disk flash addrs blocks k a e ba bb .used) (served-finds (numbersOf b) (lent b disk flash addrs blocks k) (Ask.look a) e .fits .d-least) (is b disk flash addrs blocks k a e ba bb .blocks-are .used-below)
+  slot-below : (e : refusal (numbersOf b) (lent b disk flash addrs blocks k) (calling (Ask.look a)) ≡ 0) (f : Fixed 32)
+      → slotOf (engine (b .size)) f (boxIn (numbersOf b) (lent b disk flash addrs blocks k) .used) < b .slots
+  slot-below e f = slotOf-below (b .size) (b .slots) f (box b disk flash addrs blocks k a e ba bb .used)
+      (served-finds (numbersOf b) (lent b disk flash addrs blocks k) (Ask.look a) e .fits .d-least)
+      (is b disk flash addrs blocks k a e ba bb .blocks-are .used-below)
 
   address-below : refusal (numbersOf b) (lent b disk flash addrs blocks k) (calling (Ask.look a)) ≡ 0 → a < b .blocks
   address-below e = address-fits b disk flash addrs blocks k (Ask.look a) e a refl
@@ -89,11 +97,13 @@ module _ (b : BoxRecord) (disk flash addrs blocks : List ℕ) (k : Counters) (a 
       let h = is b disk flash addrs blocks k a e ba bb in
       rw y (by-option (rowWithBlock (engine (b .size)) (boxIn N t) a)
       (λ w. rw (w, parts-length (b .size) (b .blocks) disk (boxIn N t .disk) (h .disk-is)) (block-ends a (b .blocks) (b .size) (address-below e)))
-      (λ r w. rw (w, parts-length (b .size) (b .slots) flash (boxIn N t .flash) (h .flash-is)) (block-ends (slotOf (engine (b .size)) (r .fingerprint) (boxIn N t .used)) (b .slots) (b .size) (slot-below e (r .fingerprint))))))
+      (λ r w. rw (w, parts-length (b .size) (b .slots) flash (boxIn N t .flash) (h .flash-is))
+      (block-ends (slotOf (engine (b .size)) (r .fingerprint) (boxIn N t .used)) (b .slots) (b .size) (slot-below e (r .fingerprint))))))
       (λ y. rw y tt)
 
   -- what a look returns, by the place
-  pub look-returns : partAt (b .size) a flash disk (whereIs (numbersOf b) (lent b disk flash addrs blocks k) a) ≡ (call (numbersOf b) (lent b disk flash addrs blocks k) (Ask.look a)) .part
+  pub look-returns : partAt (b .size) a flash disk (whereIs (numbersOf b) (lent b disk flash addrs blocks k) a)
+      ≡ (call (numbersOf b) (lent b disk flash addrs blocks k) (Ask.look a)) .part
   unfolding whereIs placeIn partAt served callOf serve lookAs
   look-returns =
       let N = numbersOf b in
@@ -106,5 +116,6 @@ module _ (b : BoxRecord) (disk flash addrs blocks : List ℕ) (k : Counters) (a 
       rw (y, served-is N t (Ask.look a) e)
       (by-option (rowWithBlock (engine (b .size)) (boxIn N t) a)
       (λ w. rw w (part-block (b .size) (b .blocks) disk (boxIn N t .disk) (h .disk-is) a (engine (b .size) .blank) (address-below e)))
-      (λ r w. rw w (part-block (b .size) (b .slots) flash (boxIn N t .flash) (h .flash-is) (slotOf (engine (b .size)) (r .fingerprint) (boxIn N t .used)) (engine (b .size) .blank) (slot-below e (r .fingerprint))))))
+      (λ r w. rw w (part-block (b .size) (b .slots) flash (boxIn N t .flash) (h .flash-is) (slotOf (engine (b .size)) (r .fingerprint) (boxIn N t .used))
+      (engine (b .size) .blank) (slot-below e (r .fingerprint))))))
       (λ y. rw y (sym (keeps N t (Ask.look a) (eqb-false n 0 y) .part)))

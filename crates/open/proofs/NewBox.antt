@@ -7,32 +7,28 @@ use Rattle.tables.specs.Records.{freshAddresses, freshBlocks}
 use Rattle.paper.specs.Cache.{noCounts}
 use Rattle.paper.specs.Lent.{opening, refusal, fresh, unopened, opened}
 use Rattle.paper.specs.RefusalLaws.{refused-opening, opened-is}
-use Rattle.parts.specs.declared.BoxRecord.{BoxRecord}
 use Rattle.open.specs.declared.Opening.the-variants.{Refused, Open}
-use Rattle.parts.specs.Rep.{numbersOf}
+use Rattle.parts.specs.Rep.{numbersOf, emptyBox}
 use Rattle.refusals.specs.Given.{countersOf, lent}
 use Rattle.open.specs.Contract.{begun, opens}
 
-abbrev pub newBox : ℕ → ℕ → ℕ → ℕ → BoxRecord
-newBox size blocks rows slots = record { size = size; blocks = blocks; rows = rows; slots = slots; held = 0 }
-
 module _ (size blocks rows slots : ℕ) (disk flash addresses table : List ℕ) (c : Code.Counters) (no : ℕ)
-    (e : no ≡ refusal (numbersOf (newBox size blocks rows slots)) (lent (newBox size blocks rows slots) disk flash addresses table (countersOf c)) opening) where
+    (e : no ≡ refusal (numbersOf (emptyBox size blocks rows slots)) (lent (emptyBox size blocks rows slots) disk flash addresses table (countersOf c)) opening) where
   pub opening-refused : (no ≡ 0 → ⊥)
-      → begun (record { answer = Refused no; box_record = newBox size blocks rows slots; counters = c }) disk flash addresses table ≡ opens (newBox size blocks rows slots) disk flash addresses table (countersOf c)
+      → begun (record { answer = Refused no; box_record = emptyBox size blocks rows slots; counters = c }) disk flash addresses table ≡ opens (emptyBox size blocks rows slots) disk flash addresses table (countersOf c)
   unfolding unopened
   opening-refused n =
-      let b = newBox size blocks rows slots in
+      let b = emptyBox size blocks rows slots in
       let t = lent b disk flash addresses table (countersOf c) in
       let l : t ≡ opened (numbersOf b) t = sym (refused-opening (numbersOf b) t (λ z. n (e ∙ z))) in
       λ i. record { number = e i; numbers = numbersOf b; lent = l i }
 
   pub opening-done : no ≡ 0 → (addresses′ table′ : List ℕ) (c′ : Code.Counters) → addresses′ ≡ freshAddresses rows → table′ ≡ freshBlocks slots → c′ ≡ record { reads = 0; hits = 0; flash = 0; primary = 0 }
-      → begun (record { answer = Open; box_record = newBox size blocks rows slots; counters = c′ }) disk flash addresses′ table′
-      ≡ opens (newBox size blocks rows slots) disk flash addresses table (countersOf c)
+      → begun (record { answer = Open; box_record = emptyBox size blocks rows slots; counters = c′ }) disk flash addresses′ table′
+      ≡ opens (emptyBox size blocks rows slots) disk flash addresses table (countersOf c)
   unfolding fresh
   opening-done z addresses′ table′ c′ ea et ec =
-      let b = newBox size blocks rows slots in
+      let b = emptyBox size blocks rows slots in
       let t = lent b disk flash addresses table (countersOf c) in
       let k : countersOf c′ ≡ noCounts = ap countersOf ec in
       let f : lent b disk flash addresses′ table′ (countersOf c′) ≡ fresh (numbersOf b) t = λ i. record { n = 0; disk = disk; flash = flash; addresses = ea i; blocks = et i; counters = k i } in

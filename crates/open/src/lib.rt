@@ -2,6 +2,7 @@
 use counters::Counters;
 use parts::BoxRecord;
 ghost use mathlib.Core.Path.{_≡_};
+ghost use Rattle.parts.specs.Rep.{emptyBox};
 ghost use Rattle.refusals.specs.Given.{countersOf};
 ghost use Rattle.open.specs.Contract.{begun, opens};
 
@@ -43,16 +44,10 @@ pub fn open(
     c: Counters,
 ) -> Begun
     ensures { λ r. ⌜ begun r (now (disk .entry)) (now (flash .entry)) (now (addresses .exit)) (now (table .exit))
-        ≡ opens (record { size = size; blocks = blocks; rows = rows; slots = slots; held = 0 }) (now (disk .entry)) (now (flash .entry))
+        ≡ opens (emptyBox size blocks rows slots) (now (disk .entry)) (now (flash .entry))
         (now (addresses .entry)) (now (table .entry)) (countersOf c) ⌝ }
 {
-    let b = BoxRecord {
-        size: size,
-        blocks: blocks,
-        rows: rows,
-        slots: slots,
-        held: 0,
-    };
+    let b = parts::empty_box(size, blocks, rows, slots);
     let no = refusals::of_opening(b, disk, flash, addresses, table);
     if no != 0 {
         return Begun {

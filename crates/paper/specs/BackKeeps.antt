@@ -9,7 +9,8 @@ use lib.Dec.{eqb}
 use lib.ListN.{length, set}
 use borrow.Author.Tests.{eqb-true, eqb-false}
 use Rattle.paper.specs.KeyedLaws.{All, by-test, either, clash, and-right, or-false-left, or-false-right, all-append, all-map, has-without-self}
-use Rattle.paper.specs.Cache.{backRequest, Numbers, Hashing, AddressRow, BlockRow, Box, RowOut, BlockRows, Call, newest, held, cached, blockOf, copied, isLost}
+use Rattle.paper.specs.Cache.{backRequest, Numbers, Hashing, AddressRow, BlockRow, Box, RowOut, BlockRows, Call}
+use Rattle.paper.specs.Cache.{newest, held, cached, blockOf, copied, isLost}
 use Rattle.paper.specs.Cache.{stored, step1, step3, step4, step, answer, writeBack, serve}
 use Rattle.paper.specs.Cases.{ownOut, eldestOut, noneOut, by-step1, by-step4}
 use Rattle.paper.specs.Sound.{chosen-slot}
@@ -66,12 +67,14 @@ module _ {F X : Type 0} (H : Hashing F X) (a : ℕ) where
   unfolding step
   step-keeps-a m s g b w =
       let after : (o : RowOut F X) → held a (o .rows) ≡ false → at H (o .disk) a ≡ at H (s .disk) a
-      → at H ((step4 H (o .rows ++ (newest a g w ∷ [])) (step3 H (o .gone) (o .rows) (o .rows ++ (newest a g w ∷ [])) (record { free = s .free; used = s .used }))
+      → at H ((step4 H (o .rows ++ (newest a g w ∷ []))
+      (step3 H (o .gone) (o .rows) (o .rows ++ (newest a g w ∷ [])) (record { free = s .free; used = s .used }))
       (s .flash) (o .disk) g b (o .primary)) .box .disk) a ≡ at H (s .disk) a
       = λ o h e. step4-spares (o .rows) (step3 H (o .gone) (o .rows) (o .rows ++ (newest a g w ∷ [])) (record { free = s .free; used = s .used }))
       (s .flash) (o .disk) g b w (o .primary) h ∙ e in
       by-step1 H m s a
-      (λ o. at H ((step4 H (o .rows ++ (newest a g w ∷ [])) (step3 H (o .gone) (o .rows) (o .rows ++ (newest a g w ∷ [])) (record { free = s .free; used = s .used }))
+      (λ o. at H ((step4 H (o .rows ++ (newest a g w ∷ []))
+      (step3 H (o .gone) (o .rows) (o .rows ++ (newest a g w ∷ [])) (record { free = s .free; used = s .used }))
       (s .flash) (o .disk) g b (o .primary)) .box .disk) a ≡ at H (s .disk) a)
       (λ h. after (ownOut H s a) (has-without-self eqb (λ r. r .address) a (s .rows)) refl)
       (λ h r rs e f. let n : held a (r ∷ rs) ≡ false = subst (λ l. held a l ≡ false) e h in

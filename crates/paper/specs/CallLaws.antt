@@ -2,7 +2,7 @@
 use mathlib.Core.Path.{_≡_, refl, sym, ap, ap₂, _∙_, subst}
 use mathlib.Core.Bool.{true, false, not, _&&_, _||_}
 use mathlib.Core.List.{List, [], _∷_}
-use mathlib.Core.Logic.{_≢_, _⊎_, inl, inr}
+use mathlib.Core.Logic.{_⊎_, inl, inr}
 use mathlib.Core.Option.{Option, none, some, Option·map}
 use Prim.Native.Nat.{ℕ, _≤_, _<_, _+_, _^_, min}
 use native.Mathlib.Omega.{arith}
@@ -11,7 +11,7 @@ use lib.ListN.{drop}
 use borrow.Author.Tests.{eqb-true, eqb-false, leb-true, leb-false, ltb-false, not-false}
 use Rattle.hash.specs.LastChunk.{Size}
 use Rattle.tables.specs.Unsound.{elem}
-use Rattle.paper.specs.Cache.{Numbers, Box, About, about, Below, Outcome, Within, Counters, counted, serve, oneIf, isRead, isHit}
+use Rattle.paper.specs.Cache.{Numbers, About, about, Below, Outcome, Within, Counters, counted, serve, isRead, isHit}
 use Rattle.paper.specs.Cache.{flushed, dirtyRows, done}
 use Rattle.paper.specs.KeyedLaws.{All, clash, by-test, or-false-left, or-false-right, and-left, and-right}
 use Rattle.paper.specs.Engine.{Fixed, fit, engine}
@@ -141,12 +141,14 @@ module _ (N : Numbers) (t : Lent) (q : Ask) (e : refusal N t (calling q) ≡ 0) 
   pub served-box : boxIn N ((call N t q) .lent) ≡ (outcome N t q) .box
   served-box =
       let f = (served-finds N t q e) .fits in
-      ap (boxIn N) served-lent ∙ lent-back N ((outcome N t q) .box) outcome-sound (counted (t .counters) (callOf (N .B) q) (outcome N t q)) (f .P-most) (f .d-most)
+      ap (boxIn N) served-lent
+      ∙ lent-back N ((outcome N t q) .box) outcome-sound (counted (t .counters) (callOf (N .B) q) (outcome N t q)) (f .P-most) (f .d-most)
 
   pub served-passes : Passes N ((call N t q) .lent)
   served-passes =
       let f = (served-finds N t q e) .fits in
-      subst (Passes N) (sym served-lent) (sound-passes N ((outcome N t q) .box) outcome-sound (counted (t .counters) (callOf (N .B) q) (outcome N t q)) (f .P-most) (f .d-most))
+      subst (Passes N) (sym served-lent)
+      (sound-passes N ((outcome N t q) .box) outcome-sound (counted (t .counters) (callOf (N .B) q) (outcome N t q)) (f .P-most) (f .d-most))
 
   served-counters : (call N t q) .lent .counters ≡ counted (t .counters) (callOf (N .B) q) (outcome N t q)
   unfolding lentOf
@@ -172,7 +174,12 @@ adds-few N t q e =
     let p : o .primaryWrites ≤ N .m + 1 = few .1 in
     let r = one-if-le (isRead c) in
     let h = one-if-le (isHit (o .word)) in
-    rw (served-counters N t q e) (record { reads = (omega arith, omega arith); hits = (omega arith, omega arith); flashWrites = (omega arith, omega arith); primaryWrites = (omega arith, omega arith) })
+    rw (served-counters N t q e) (record {
+      reads = (omega arith, omega arith);
+      hits = (omega arith, omega arith);
+      flashWrites = (omega arith, omega arith);
+      primaryWrites = (omega arith, omega arith);
+    })
 
 -- counters of 64 bits
 pub record In64 (k : Counters) : Type 0 where
@@ -219,15 +226,12 @@ counters-fit N t q h =
     half-in64 (N .m) (t .counters) ((call N t q) .lent .counters) ((served-finds N t q e) .fits .m-most) (not-over (t .counters) h) (adds-few N t q e))
     (λ y. rw (keeps N t q (eqb-false (refusal N t (calling q)) 0 y) .lent)
     (half-in64 0 (t .counters) (t .counters) (omega arith) (not-over (t .counters) h)
-    (record { reads = (omega arith, omega arith); hits = (omega arith, omega arith); flashWrites = (omega arith, omega arith); primaryWrites = (omega arith, omega arith) })))
-
--- a served read is one read more, and no other call is
-abbrev pub ownReads : Ask → ℕ
-ownReads q = oneIf (aboutAsk q .reads)
-
-pub reads-counted : (N : Numbers) (t : Lent) (q : Ask) → refusal N t (calling q) ≡ 0 → (call N t q) .lent .counters .reads ≡ t .counters .reads + ownReads q
-unfolding counted
-reads-counted N t q e = ap (λ k. k .reads) (served-counters N t q e) ∙ ap (λ x. t .counters .reads + oneIf (x .reads)) (about-call (N .B) q)
+    (record {
+      reads = (omega arith, omega arith);
+      hits = (omega arith, omega arith);
+      flashWrites = (omega arith, omega arith);
+      primaryWrites = (omega arith, omega arith);
+    })))
 
 -- a look counts nothing, and moves nothing
 look-counted : (N : Numbers) (t : Lent) (a : ℕ) → counted (t .counters) (callOf (N .B) (Ask.look a)) (outcome N t (Ask.look a)) ≡ t .counters

@@ -3,7 +3,7 @@ use mathlib.Core.Path.{_≡_, refl, ap, _∙_}
 use mathlib.Core.Bool.{Bool, true, false, not, cond}
 use mathlib.Core.List.{List, [], _∷_, _++_, map}
 use mathlib.Core.Option.{none, some}
-use Prim.Native.Nat.{ℕ, suc, zero, _≤_, _<_, _+_, suc-le-suc}
+use Prim.Native.Nat.{ℕ, suc, zero, _≤_, _<_, _+_}
 use native.Mathlib.Nat.{le-of-suc-le-suc}
 use native.Mathlib.Omega.{arith}
 use lib.ListN.{length, getD, take, drop}
@@ -17,11 +17,6 @@ indexWhere p [] = 0
 indexWhere p (x ∷ xs) = cond (p x) 0 (suc (indexWhere p xs))
 
 module _ {A : Type 0} (p : A → Bool) where
-  pub index-le : (xs : List A) → indexWhere p xs ≤ length xs
-  unfolding indexWhere
-  index-le [] = omega arith
-  index-le (x ∷ xs) = by-test (p x) (λ e. rw e (omega arith)) (λ e. rw e (suc-le-suc (index-le xs)))
-
   pub index-none : (xs ys : List A) → All (λ x. p x ≡ false) xs → indexWhere p (xs ++ ys) ≡ length xs + indexWhere p ys
   unfolding indexWhere
   index-none [] ys q = omega arith

@@ -96,10 +96,6 @@ module _ {R : Type 0} where
   all-perm P (List·Permᴰ·swap e f) p = (subst P f (p .1 .0), (subst P e (p .0), p .1 .1))
   all-perm P (List·Permᴰ·trans h k) p = all-perm P k (all-perm P h p)
 
-pub all-maps : {A B : Type 0} (f : A → B) (P : B → Type 0) (l : List A) → All (λ a. P (f a)) l → All P (map f l)
-all-maps f P [] q = tt
-all-maps f P (x ∷ xs) q = (q .0, all-maps f P xs (q .1))
-
 pub all-of-map : {A B : Type 0} (f : A → B) (P : B → Type 0) (l : List A) → All P (map f l) → All (λ a. P (f a)) l
 all-of-map f P [] p = tt
 all-of-map f P (x ∷ xs) p = (p .0, all-of-map f P xs (p .1))

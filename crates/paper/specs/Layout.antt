@@ -20,11 +20,6 @@ addressesOf m rows = addressTable m (map heldRow rows)
 unfoldable pub blocksOf : List ℕ → List (BlockRow (Fixed 32)) → List ℕ
 blocksOf free used = blockTable (map freeRow free ++ map usedRow used)
 
-pub lent-is : (N : Numbers) (s : Box (Fixed 32) (Fixed (N .B))) (k : Counters)
-    → lentOf N s k ≡ record { n = length (s .rows); disk = join (s .disk); flash = join (s .flash); addresses = addressesOf (N .m) (s .rows); blocks = blocksOf (s .free) (s .used); counters = k }
-unfolding lentOf addressesOf blocksOf
-lent-is N s k = refl
-
 -- lent bytes are those of a list of held rows, of block rows, of c blocks
 pub record Addrs (P m n : ℕ) (t : List ℕ) (rows : List (AddressRow (Fixed 32))) : Type 0 where
   pub count : length rows ≡ n

@@ -1,10 +1,10 @@
 -- Parts of n bytes one after another: part k starts at byte k × n.
 use mathlib.Core.Path.{_≡_, refl, sym, ap, ap₂, _∙_, subst}
 use mathlib.Core.List.{List, [], _∷_, _++_, append-assoc, append-nil}
-use Prim.Native.Nat.{ℕ, suc, zero, _≤_, _<_, _+_, _*_, _-_}
+use Prim.Native.Nat.{ℕ, suc, zero, _<_, _+_, _*_, _-_}
 use native.Mathlib.Omega.{arith}
-use lib.ListN.{length, take, drop, getD, set, length-append, length-drop, take-append-drop}
-use lib.Seq.{take-append-le, drop-drop, take-append-add, drop-append-add, drop-at}
+use lib.ListN.{length, take, drop, set, length-append, length-drop, take-append-drop}
+use lib.Seq.{take-append-le, take-append-add, drop-append-add, drop-at}
 use Rattle.tables.specs.Rows.{zeros}
 use Rattle.paper.specs.Engine.{Fixed, fit, fit-front}
 use Rattle.paper.specs.Lent.{join, split}
@@ -38,16 +38,6 @@ join-split n zero l e = nil l (e ∙ omega arith)
     nil (x ∷ xs) e = absurd (omega arith)
 join-split n (suc k) l e =
     ap₂ {C = List ℕ} _++_ (take-append-le n l (zeros n) (omega arith)) (join-split n k (drop n l) (length-drop n l ∙ omega arith)) ∙ take-append-drop n l
-
--- part k of the parts read is the n bytes from k × n
-pub part-bytes : (n c k : ℕ) (l : List ℕ) (blank : Fixed n) → k < c → c * n ≤ length l → (getD (split n c l) k blank) .0 ≡ take n (drop (k * n) l)
-unfolding split fit
-part-bytes n zero k l blank h e = absurd (omega arith)
-part-bytes n (suc c) zero l blank h e = take-append-le n l (zeros n) (omega arith) ∙ (let z : 0 ≡ 0 * n = omega arith in ap (λ j. take n (drop j l)) z)
-part-bytes n (suc c) (suc k) l blank h e =
-    let dl : length (drop n l) ≡ length l - n = length-drop n l in
-    let s : suc k * n ≡ n + k * n = omega arith in
-    part-bytes n c k (drop n l) blank (omega arith) (omega arith) ∙ ap (take n) (drop-drop (k * n) n l ∙ ap (λ j. drop j l) (sym s))
 
 -- setting part k replaces the n bytes from k × n
 pub join-set : (n : ℕ) (bs : List (Fixed n)) (k : ℕ) (b : Fixed n) → k < length bs → join (set bs k b) ≡ take (k * n) (join bs) ++ (b .0 ++ drop (k * n + n) (join bs))

@@ -279,7 +279,9 @@ table =
     ++ orders
 
 pub refused-with : map (λ c. refusal (c .numbers) (c .lent) (c .asked)) table ≡ map (λ c. c .number) table
-unfolding refusal unfit Lent.wrongBuffers Lent.over Rows.rows Rows.flat Rows.zeros Records.addressBytes Records.blockBytes Records.readAddress Records.readBlock addressTable blockTable Find.any Find.all Find.same Unsound.elem Unsound.twice Unsound.count Unsound.addressesUnsound Unsound.freeAfterUsed Unsound.eachOnce Unsound.usedTwice Unsound.blocksUnsound Unsound.dirtyUncached
+unfolding refusal unfit Lent.wrongBuffers Lent.over Rows.rows Rows.flat Rows.zeros Records.addressBytes Records.blockBytes Records.readAddress
+    Records.readBlock addressTable blockTable Find.any Find.all Find.same Unsound.elem Unsound.twice Unsound.count Unsound.addressesUnsound
+    Unsound.freeAfterUsed Unsound.eachOnce Unsound.usedTwice Unsound.blocksUnsound Unsound.dirtyUncached
 refused-with = refl
 
 -- The edges of the four numbers
@@ -372,7 +374,11 @@ servedCalls =
     ∷ []
 
 pub calls-leave : map (λ c. call (c .numbers) (c .lent) (c .ask)) (keptCalls ++ servedCalls) ≡ map (λ c. c .after) (keptCalls ++ servedCalls)
-unfolding call refusal unfit Lent.wrongBuffers Lent.over Lent.served Lent.kept Lent.boxIn Lent.lentOf Lent.split Lent.freeSlots Lent.usedRows Lent.callOf Engine.fit Rows.rows Rows.flat Rows.zeros Records.addressBytes Records.blockBytes Records.readAddress Records.readBlock addressTable blockTable Records.heldRows Records.blockRows Find.any Find.all Find.same Unsound.elem Unsound.twice Unsound.count Unsound.addressesUnsound Unsound.freeAfterUsed Unsound.eachOnce Unsound.usedTwice Unsound.blocksUnsound Unsound.dirtyUncached Cache.serve Cache.readAs Cache.lookAs Cache.flushed Cache.ifCached Cache.answer Cache.step Cache.step1 Cache.step3 Cache.step4 Cache.freed Cache.counted
+unfolding call refusal unfit Lent.wrongBuffers Lent.over Lent.served Lent.kept Lent.boxIn Lent.lentOf Lent.split Lent.freeSlots Lent.usedRows
+    Lent.callOf Engine.fit Rows.rows Rows.flat Rows.zeros Records.addressBytes Records.blockBytes Records.readAddress Records.readBlock addressTable
+    blockTable Records.heldRows Records.blockRows Find.any Find.all Find.same Unsound.elem Unsound.twice Unsound.count Unsound.addressesUnsound
+    Unsound.freeAfterUsed Unsound.eachOnce Unsound.usedTwice Unsound.blocksUnsound Unsound.dirtyUncached Cache.serve Cache.readAs Cache.lookAs
+    Cache.flushed Cache.ifCached Cache.answer Cache.step Cache.step1 Cache.step3 Cache.step4 Cache.freed Cache.counted
 calls-leave = refl
 
 -- An opening: the numbers, the lent memory, and what it leaves. A refused one has n = 0 and keeps all else; a damaged box is opened, and is fresh.
@@ -393,5 +399,6 @@ openings =
     ∷ []
 
 pub openings-leave : map (λ c. opened (c .numbers) (c .lent)) openings ≡ map (λ c. c .after) openings
-unfolding opened refusal unfit Lent.wrongBuffers Lent.fresh Lent.unopened Unsound.elem Rows.flat Rows.zeros Records.addressBytes Records.blockBytes Records.readAddress Records.readBlock addressTable blockTable Records.freshAddresses Records.freshBlocks
+unfolding opened refusal unfit Lent.wrongBuffers Lent.fresh Lent.unopened Unsound.elem Rows.flat Rows.zeros Records.addressBytes Records.blockBytes
+    Records.readAddress Records.readBlock addressTable blockTable Records.freshAddresses Records.freshBlocks
 openings-leave = refl

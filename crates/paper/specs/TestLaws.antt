@@ -19,11 +19,6 @@ use Rattle.paper.specs.Engine.{same→≡, same-refl}
 use Rattle.paper.specs.Sound.{length-perm, length-slotsFrom}
 use Rattle.paper.specs.Faithful.{Apart, perm-apart, slots-apart}
 
--- lists
-pub all-every : {A : Type 0} (P : A → Type 0) (l : List A) → ((a : A) → P a) → All P l
-all-every P [] f = tt
-all-every P (x ∷ xs) f = (f x, all-every P xs f)
-
 -- `same` either way round
 pub same-swap : (l k : List ℕ) → same l k ≡ same k l
 same-swap l k =

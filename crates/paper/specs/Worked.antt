@@ -12,7 +12,8 @@ use Rattle.paper.specs.KeyedLaws.{eqb→≡, eqb-self}
 use Rattle.paper.specs.Cache.{Numbers, Hashing, AddressRow, Box, Outcome, newest, Call, about, before, read, through, back, invalidate, look, flush, Word}
 use Rattle.paper.specs.Cache.{hit}
 use Rattle.paper.specs.Cache.{miss, sameBlock, newBlock, fromCache, fromDisk, done, fresh, serve, Counters, noCounts, counted}
-use Rattle.paper.specs.Cache.{step, step1, step3, step4, oldestOut, freed, oldestUnknown, victim, takenUsed, taken, stored, ifCached, answer, readAs, writeThrough, writeBack, dropped, writeInvalidate, lookAs, flushed}
+use Rattle.paper.specs.Cache.{step, step1, step3, step4, oldestOut, freed, oldestUnknown, victim, takenUsed, taken}
+use Rattle.paper.specs.Cache.{stored, ifCached, answer, readAs, writeThrough, writeBack, dropped, writeInvalidate, lookAs, flushed}
 
 abbrev pub labels : Hashing ℕ ℕ
 labels = record { same = eqb; same→≡ = eqb→≡; same-refl = eqb-self; hash = λ x. x; blank = 0 }
@@ -199,7 +200,8 @@ table =
     ∷ []
 
 pub E1-to-E8 : map play table ≡ map (λ e. e .seen) table
-unfolding counted serve step step1 step3 step4 oldestOut freed oldestUnknown victim takenUsed taken stored ifCached answer readAs writeThrough writeBack dropped writeInvalidate lookAs flushed
+unfolding counted serve step step1 step3 step4 oldestOut freed oldestUnknown victim takenUsed taken stored ifCached answer readAs writeThrough
+    writeBack dropped writeInvalidate lookAs flushed
 E1-to-E8 = refl
 
 -- What E1 to E8 leave open
@@ -359,7 +361,8 @@ more =
       disk = 9 ∷ 5 ∷ 2 ∷ 3 ∷ 4 ∷ 5 ∷ 6 ∷ 7 ∷ [];
       counters = counters 0 0 2 2;
     })
-    -- Write back of the content that a held address has already leaves a clean row clean, and a dirty one dirty; of another content, it makes a clean row dirty.
+    -- Write back of the content that a held address has already leaves a clean row clean, and a dirty one dirty;
+    -- of another content, it makes a clean row dirty.
     ∷ example 2 2 (record {
       said = says (through 0 5) newBlock 1 1 ∷ says (back 0 5) sameBlock 0 0 ∷ says (back 1 6) newBlock 1 0 ∷ says (back 1 6) sameBlock 0 0 ∷ [];
       returned = [];
@@ -411,7 +414,8 @@ more =
     ∷ []
 
 pub further-states : map play more ≡ map (λ e. e .seen) more
-unfolding counted serve step step1 step3 step4 oldestOut freed oldestUnknown victim takenUsed taken stored ifCached answer readAs writeThrough writeBack dropped writeInvalidate lookAs flushed
+unfolding counted serve step step1 step3 step4 oldestOut freed oldestUnknown victim takenUsed taken stored ifCached answer readAs writeThrough
+    writeBack dropped writeInvalidate lookAs flushed
 further-states = refl
 
 -- The replay as it is printed. "Fields: call number .., letter, address or `-`, answer .., flash writes, primary writes. .. The last line has the counters."
@@ -448,5 +452,6 @@ pub replay-prints : output (plays (boxOf 3 2) (start (boxOf 3 2)) noCounts (read
     ∷ line 8 L (some 3) fromDisk 0 0
     ∷ counts 5 1 4 1
     ∷ []
-unfolding counted serve step step1 step3 step4 oldestOut freed oldestUnknown victim takenUsed taken stored ifCached answer readAs writeThrough writeBack dropped writeInvalidate lookAs flushed
+unfolding counted serve step step1 step3 step4 oldestOut freed oldestUnknown victim takenUsed taken stored ifCached answer readAs writeThrough
+    writeBack dropped writeInvalidate lookAs flushed
 replay-prints = refl

@@ -24,6 +24,10 @@ Sized b addrs blocks = (b .held ≤ b .rows) × (length addrs ≡ tableBytes (b 
 abbrev pub withHeld : BoxRecord → ℕ → BoxRecord
 withHeld b n = record { size = b .size; blocks = b .blocks; rows = b .rows; slots = b .slots; held = n }
 
+-- the record of a box that holds none
+abbrev pub emptyBox : (size blocks rows slots : ℕ) → BoxRecord
+emptyBox size blocks rows slots = record { size = size; blocks = blocks; rows = rows; slots = slots; held = 0 }
+
 pub record Rep (b : BoxRecord) (disk flash addrs blocks : List ℕ) (s : Box (Fixed 32) (Fixed (b .size))) : Type 0 where
   pub rows-are : Addrs (b .blocks) (b .rows) (b .held) addrs (s .rows)
   pub blocks-are : Blocks (b .slots) blocks (s .free) (s .used)

@@ -16,7 +16,7 @@ ghost use Rattle.tables.specs.Index.{Indexed};
 ghost use Rattle.tables.specs.Rows.{tableBytes};
 
 // The slot of the block row at `place` among `d`, 0 where there is none.
-pub fn slot_in(t: &[u8], d: usize, place: usize) -> FlashSlot
+pub(crate) fn slot_in(t: &[u8], d: usize, place: usize) -> FlashSlot
     requires { ⌜ length (now t) ≡ tableBytes d ⌝ }
     ensures { λ r. ⌜ r .0 ≡ slotIn (now (t .entry)) d place ⌝ }
 {
@@ -27,7 +27,7 @@ pub fn slot_in(t: &[u8], d: usize, place: usize) -> FlashSlot
 }
 
 // Copies the block of row `i`, which is in `slot`, to its disk address and makes the row clean, if it is dirty. How many blocks that is.
-pub fn copy_row(
+pub(crate) fn copy_row(
     b: BoxRecord,
     i: usize,
     disk: &mut [u8],
@@ -81,7 +81,7 @@ pub fn flush_row(
 }
 
 // The same of row `i` if it also has the fingerprint `g`, whose block is in `slot`.
-pub fn clean_row(
+pub(crate) fn clean_row(
     b: BoxRecord,
     i: usize,
     disk: &mut [u8],

@@ -2,6 +2,9 @@
 pub mod copy;
 pub mod rows;
 
+ghost use mathlib.Core.Path.{_≡_};
+ghost use Rattle.parts.specs.Rep.{withHeld, emptyBox};
+
 // The box record: the block size B, the disk's blocks P, the most addresses held m, the cached blocks d, and the addresses held n.
 pub struct BoxRecord {
     pub size: usize,
@@ -9,4 +12,26 @@ pub struct BoxRecord {
     pub rows: usize,
     pub slots: usize,
     pub held: usize,
+}
+
+// The record with another number of addresses held.
+pub fn with_held(b: BoxRecord, n: usize) -> BoxRecord
+    ensures { λ r. ⌜ r ≡ withHeld b n ⌝ }
+{
+    let mut c = b;
+    c.held = n;
+    c
+}
+
+// The record of a box of these numbers that holds no address.
+pub fn empty_box(size: usize, blocks: usize, rows: usize, slots: usize) -> BoxRecord
+    ensures { λ r. ⌜ r ≡ emptyBox size blocks rows slots ⌝ }
+{
+    BoxRecord {
+        size: size,
+        blocks: blocks,
+        rows: rows,
+        slots: slots,
+        held: 0,
+    }
 }

@@ -69,7 +69,7 @@ pub fn uncached(addrs: &[u8], k: usize, blocks: &[u8], d: usize, heads: &[u16]) 
 }
 
 // The place of the first of `d` used block rows whose fingerprint none of `n` held rows has.
-pub fn unknown_place(addrs: &[u8], n: usize, blocks: &[u8], d: usize, heads: &[u16]) -> usize
+pub(crate) fn unknown_place(addrs: &[u8], n: usize, blocks: &[u8], d: usize, heads: &[u16]) -> usize
     requires { ⌜ (length (now blocks) ≡ tableBytes d) × (d ≤ 256) × (tableBytes n ≤ length (now addrs)) ⌝ }
     requires { ⌜ every unique (rows d (now blocks)) ≡ true ⌝ }
     requires { ⌜ Indexed d (now blocks) (now heads) ⌝ }

@@ -11,9 +11,11 @@ use borrow.Author.Tests.{ltb-false, leb-false, eqb-true, not-false}
 use Rattle.counters.specs.declared.Counters as Code
 use Rattle.counters.specs.Added.{added}
 use Rattle.paper.specs.KeyedLaws.{or-false-left, or-false-right}
-use Rattle.paper.specs.Cache.{Numbers, AddressRow, Box, Call, Outcome, Word, hit, miss, sameBlock, newBlock, Counters, counted, oneIf, isRead, isHit, answer, cached, serve, readAs, rowWithBlock, writeThrough, writeBack, writeInvalidate}
+use Rattle.paper.specs.Cache.{Numbers, AddressRow, Box, Call, Outcome, Word, hit, miss, sameBlock, newBlock, Counters, counted, oneIf, isRead, isHit}
+use Rattle.paper.specs.Cache.{answer, cached, serve, readAs, rowWithBlock, writeThrough, writeBack, writeInvalidate}
 use Rattle.paper.specs.Engine.{Fixed, fit, engine}
-use Rattle.paper.specs.Lent.{Lent, Ask, calling, refusal, callOf, boxIn, lentOf, served, answered, blockAfter, partAfter, wrongBuffers, wrongBlock, lentBlock, outside, addressOf, counts, over}
+use Rattle.paper.specs.Lent.{Lent, Ask, calling, refusal, callOf, boxIn, lentOf, served, answered, blockAfter, partAfter, wrongBuffers, wrongBlock}
+use Rattle.paper.specs.Lent.{lentBlock, outside, addressOf, counts, over}
 use Rattle.paper.specs.RowBytes.{Bytes}
 use Rattle.paper.specs.LentLaws.{Passes, passes-sound, fit-whole}
 use Rattle.paper.specs.RefusalLaws.{exactly, served-is, refused-keeps}
@@ -55,7 +57,8 @@ passes-rep b disk flash addrs blocks k f p x y =
       disk-is = passes-disk N t p x y;
     }
 
-module _ (b : BoxRecord) (disk flash addrs blocks : List ℕ) (k : Counters) (q : Ask) (e : refusal (numbersOf b) (lent b disk flash addrs blocks k) (calling q) ≡ 0) where
+module _ (b : BoxRecord) (disk flash addrs blocks : List ℕ) (k : Counters) (q : Ask)
+    (e : refusal (numbersOf b) (lent b disk flash addrs blocks k) (calling q) ≡ 0) where
   finds : Served (numbersOf b) (lent b disk flash addrs blocks k) q
   finds = served-finds (numbersOf b) (lent b disk flash addrs blocks k) q e
 
@@ -68,7 +71,9 @@ module _ (b : BoxRecord) (disk flash addrs blocks : List ℕ) (k : Counters) (q 
   block-fits : (l : List ℕ) → lentBlock q ≡ some l → length l ≡ b .size
   block-fits l p =
       let x = exactly (numbersOf b) (lent b disk flash addrs blocks k) q .gives-0 .0 e in
-      eqb-true (length l) (b .size) (not-false (eqb (length l) (b .size)) (sym (ap (wrongBlock (b .size)) p) ∙ or-false-right (wrongBuffers (numbersOf b) (lent b disk flash addrs blocks k)) (wrongBlock (b .size) (lentBlock q)) (x .1 .0)))
+      eqb-true (length l) (b .size) (not-false (eqb (length l) (b .size))
+      (sym (ap (wrongBlock (b .size)) p) ∙ or-false-right (wrongBuffers (numbersOf b) (lent b disk flash addrs blocks k))
+      (wrongBlock (b .size) (lentBlock q)) (x .1 .0)))
 
   pub address-fits : (a : ℕ) → addressOf q ≡ some a → a < b .blocks
   address-fits a p =
@@ -89,9 +94,15 @@ module _ (b : BoxRecord) (disk flash addrs blocks : List ℕ) (k : Counters) (q 
   disk-fits = finds .passes .lengths .disk
 
   -- the paper's call, from what the steps leave, the word and the counts
-  pub finish : (w : CodeWord.Word) (said : Bool) (held f p r h : ℕ) (c : Code.Counters) (own disk′ flash′ addrs′ blocks′ block′ : List ℕ) (one : Option (List ℕ))
+  pub finish : (w : CodeWord.Word) (said : Bool) (held f p r h : ℕ) (c : Code.Counters) (own disk′ flash′ addrs′ blocks′ block′ : List ℕ)
+      (one : Option (List ℕ))
       → k ≡ countersOf c
-      → _≡_ {A = Leaves} (record { yes = said; held = held; left = (record { flashed = f; primary = p; disk = disk′; flash = flash′; addrs = addrs′; blocks = blocks′ }); block = block′ }) (leaves b own (outcome (numbersOf b) (lent b disk flash addrs blocks k) q))
+      → _≡_ {A = Leaves} (record {
+        yes = said;
+        held = held;
+        left = (record { flashed = f; primary = p; disk = disk′; flash = flash′; addrs = addrs′; blocks = blocks′ });
+        block = block′;
+      }) (leaves b own (outcome (numbersOf b) (lent b disk flash addrs blocks k) q))
       → wordOf w ≡ (outcome (numbersOf b) (lent b disk flash addrs blocks k) q) .word
       → r ≡ oneIf (isRead (callOf (b .size) q))
       → h ≡ oneIf (isHit ((outcome (numbersOf b) (lent b disk flash addrs blocks k) q) .word))
@@ -129,9 +140,11 @@ module _ (b : BoxRecord) (disk flash addrs blocks : List ℕ) (k : Counters) (q 
       (λ i. record { numbers = N; after = last i })
 
 -- a refused call
-pub keep : (b : BoxRecord) (disk flash addrs blocks : List ℕ) (c : Code.Counters) (q : Ask) (number : ℕ) → number ≡ refusal (numbersOf b) (lent b disk flash addrs blocks (countersOf c)) (calling q) → (number ≡ 0 → ⊥)
+pub keep : (b : BoxRecord) (disk flash addrs blocks : List ℕ) (c : Code.Counters) (q : Ask) (number : ℕ)
+    → number ≡ refusal (numbersOf b) (lent b disk flash addrs blocks (countersOf c)) (calling q) → (number ≡ 0 → ⊥)
     → (one : Option (List ℕ)) → one ≡ lentBlock q
-    → told (record { answer = Refused number; box_record = b; counters = c }) disk flash addrs blocks one ≡ called b (lent b disk flash addrs blocks (countersOf c)) q
+    → told (record { answer = Refused number; box_record = b; counters = c }) disk flash addrs blocks one
+    ≡ called b (lent b disk flash addrs blocks (countersOf c)) q
 unfolding Rattle.paper.specs.Lent.kept
 keep b disk flash addrs blocks c q number e n one eo =
     let N = numbersOf b in
@@ -170,7 +183,8 @@ module _ (N : Numbers) (s : Box (Fixed 32) (Fixed (N .B))) (a : ℕ) where
       go x none = refl
 
   -- a write's word is same or new
-  pub write-says : (kind : Write) (x : Fixed (N .B)) → (serve (engine (N .B)) N s (writing kind a x)) .word ≡ cond (isYes ((serve (engine (N .B)) N s (writing kind a x)) .word)) sameBlock newBlock
+  pub write-says : (kind : Write) (x : Fixed (N .B))
+      → (serve (engine (N .B)) N s (writing kind a x)) .word ≡ cond (isYes ((serve (engine (N .B)) N s (writing kind a x)) .word)) sameBlock newBlock
   unfolding serve writeThrough writeBack writeInvalidate answer
   write-says Through x = or-new (cached (engine (N .B)) (engine (N .B) .hash x) (s .used))
   write-says Back x = or-new (cached (engine (N .B)) (engine (N .B) .hash x) (s .used))
@@ -203,7 +217,8 @@ one-le true n e = omega arith
 one-le false n e = omega arith
 
 -- the word and the block that the steps leave
-module _ (b : BoxRecord) (own : List ℕ) (o : Outcome (Fixed 32) (Fixed (b .size))) {said : Bool} {held : ℕ} {left : Out4} {block : List ℕ} (x : _≡_ {A = Leaves} (record { yes = said; held = held; left = left; block = block }) (leaves b own o)) where
+module _ (b : BoxRecord) (own : List ℕ) (o : Outcome (Fixed 32) (Fixed (b .size))) {said : Bool} {held : ℕ} {left : Out4} {block : List ℕ}
+    (x : _≡_ {A = Leaves} (record { yes = said; held = held; left = left; block = block }) (leaves b own o)) where
   pub yes-of : said ≡ isYes (o .word)
   unfolding leaves
   yes-of = ap (λ y. y .yes) x
@@ -222,30 +237,42 @@ pub record AsksWrite (kind : Write) (B a : ℕ) (l : List ℕ) : Type 0 where
   pub block : lentBlock (askOf kind a l) ≡ some l
   pub counted : (k : Counters) → over k ≡ counts (askOf kind a l) && over k
   pub no-read : isRead (callOf B (askOf kind a l)) ≡ false
-  pub block-kept : (o : Option (Fixed B)) → some l ≡ blockAfter (askOf kind a l) o
+  pub kept : (o : Option (Fixed B)) → some l ≡ blockAfter (askOf kind a l) o
   pub no-part : (o : Option (Fixed B)) → partAfter (askOf kind a l) o ≡ []
 
 pub asks-write : (kind : Write) (B a : ℕ) (l : List ℕ) → AsksWrite kind B a l
 unfolding callOf refusal
-asks-write Through B a l = record { call = refl; refusal-is = λ N t. refl; address = refl; block = refl; counted = λ k. refl; no-read = refl; block-kept = λ o. refl; no-part = λ o. refl }
-asks-write Back B a l = record { call = refl; refusal-is = λ N t. refl; address = refl; block = refl; counted = λ k. refl; no-read = refl; block-kept = λ o. refl; no-part = λ o. refl }
-asks-write Invalidate B a l = record { call = refl; refusal-is = λ N t. refl; address = refl; block = refl; counted = λ k. refl; no-read = refl; block-kept = λ o. refl; no-part = λ o. refl }
+asks-write Through B a l =
+    record { call = refl; refusal-is = λ N t. refl; address = refl; block = refl; counted = λ k. refl; no-read = refl; kept = λ o. refl; no-part = λ o. refl }
+asks-write Back B a l =
+    record { call = refl; refusal-is = λ N t. refl; address = refl; block = refl; counted = λ k. refl; no-read = refl; kept = λ o. refl; no-part = λ o. refl }
+asks-write Invalidate B a l =
+    record { call = refl; refusal-is = λ N t. refl; address = refl; block = refl; counted = λ k. refl; no-read = refl; kept = λ o. refl; no-part = λ o. refl }
 
 -- a write, from what its steps leave
-module _ (b : BoxRecord) (disk flash addrs blocks : List ℕ) (c : Code.Counters) (kind : Write) (a : ℕ) (l : List ℕ) (e : refusal (numbersOf b) (lent b disk flash addrs blocks (countersOf c)) (calling (askOf kind a l)) ≡ 0) where
+module _ (b : BoxRecord) (disk flash addrs blocks : List ℕ) (c : Code.Counters) (kind : Write) (a : ℕ) (l : List ℕ)
+    (e : refusal (numbersOf b) (lent b disk flash addrs blocks (countersOf c)) (calling (askOf kind a l)) ≡ 0) where
   pub written : (w : CodeWord.Word) (r : CodeServed.Served) (disk′ flash′ addrs′ blocks′ : List ℕ)
-      → left r disk′ flash′ addrs′ blocks′ l ≡ leaves b l (serve (engine (b .size)) (numbersOf b) (boxIn (numbersOf b) (lent b disk flash addrs blocks (countersOf c))) (writing kind a (fit (b .size) l)))
+      → left r disk′ flash′ addrs′ blocks′ l ≡ leaves b l (serve (engine (b .size)) (numbersOf b)
+      (boxIn (numbersOf b) (lent b disk flash addrs blocks (countersOf c))) (writing kind a (fit (b .size) l)))
       → wordOf w ≡ cond (r .yes) sameBlock newBlock
-      → told (record { answer = Answered w (r .flashed) (r .primary); box_record = withHeld b (r .held); counters = added c 0 0 (r .flashed) (r .primary) }) disk′ flash′ addrs′ blocks′ (some l)
+      → told (record {
+        answer = Answered w (r .flashed) (r .primary);
+        box_record = withHeld b (r .held);
+        counters = added c 0 0 (r .flashed) (r .primary);
+      }) disk′ flash′ addrs′ blocks′ (some l)
       ≡ called b (lent b disk flash addrs blocks (countersOf c)) (askOf kind a l)
   written w r disk′ flash′ addrs′ blocks′ x ew =
       let q = askOf kind a l in
       let k = countersOf c in
       let o = outcome (numbersOf b) (lent b disk flash addrs blocks k) q in
       let f = asks-write kind (b .size) a l in
-      let on : Call (Fixed (b .size)) → Outcome (Fixed 32) (Fixed (b .size)) = serve (engine (b .size)) (numbersOf b) (boxIn (numbersOf b) (lent b disk flash addrs blocks k)) in
+      let on : Call (Fixed (b .size)) → Outcome (Fixed 32) (Fixed (b .size))
+      = serve (engine (b .size)) (numbersOf b) (boxIn (numbersOf b) (lent b disk flash addrs blocks k)) in
       let says : o .word ≡ cond (isYes (o .word)) sameBlock newBlock
-      = subst (λ (z : Call (Fixed (b .size))). (on z) .word ≡ cond (isYes ((on z) .word)) sameBlock newBlock) (sym (f .call)) (write-says (numbersOf b) (boxIn (numbersOf b) (lent b disk flash addrs blocks k)) a kind (fit (b .size) l)) in
+      = subst (λ (z : Call (Fixed (b .size))). (on z) .word ≡ cond (isYes ((on z) .word)) sameBlock newBlock) (sym (f .call))
+      (write-says (numbersOf b) (boxIn (numbersOf b) (lent b disk flash addrs blocks k)) a kind (fit (b .size) l)) in
       let y : left r disk′ flash′ addrs′ blocks′ l ≡ leaves b l o = x ∙ ap (λ (z : Call (Fixed (b .size))). leaves b l (on z)) (sym (f .call)) in
       finish b disk flash addrs blocks k q e w (r .yes) (r .held) (r .flashed) (r .primary) 0 0 c l disk′ flash′ addrs′ blocks′ l (some l) refl y
-      (ew ∙ said-is (o .word) sameBlock newBlock (r .yes) says (yes-of b l o y)) (sym (ap oneIf (f .no-read))) (no-hit (o .word) says) (f .block-kept (o .block)) (f .no-part (o .block))
+      (ew ∙ said-is (o .word) sameBlock newBlock (r .yes) says (yes-of b l o y)) (sym (ap oneIf (f .no-read))) (no-hit (o .word) says)
+      (f .kept (o .block)) (f .no-part (o .block))

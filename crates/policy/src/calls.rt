@@ -47,8 +47,7 @@ fn answered(b: BoxRecord, w: Word, s: Served, c: Counters, reads: u64, hits: u64
     } ⌝ }
 {
     let k = counters::counted(c, reads, hits, s.flashed as u64, s.primary as u64);
-    let mut next = b;
-    next.held = s.held;
+    let next = parts::with_held(b, s.held);
     Outcome {
         answer: Answer::Answered(w, s.flashed, s.primary),
         box_record: next,

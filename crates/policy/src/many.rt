@@ -51,8 +51,7 @@ fn batched(b: BoxRecord, t: Sums, n: usize, c: Counters) -> Outcome
         t.flashed as u64,
         t.primary as u64,
     );
-    let mut next = b;
-    next.held = t.held;
+    let next = parts::with_held(b, t.held);
     Outcome {
         answer: Answer::Batched(t.hits, t.flashed, t.primary, t.fetches),
         box_record: next,

@@ -53,7 +53,8 @@ pub record Opens (b : BoxRecord) (disk flash addresses blocks : List ℕ) (k : C
   pub most : Most b
   pub lengths : Lengths (numbersOf b) (lent b disk flash addresses blocks k)
 
-pub opens-with : (b : BoxRecord) (disk flash addresses blocks : List ℕ) (k : Counters) → refusal (numbersOf b) (lent b disk flash addresses blocks k) opening ≡ 0 → Opens b disk flash addresses blocks k
+pub opens-with : (b : BoxRecord) (disk flash addresses blocks : List ℕ) (k : Counters)
+    → refusal (numbersOf b) (lent b disk flash addresses blocks k) opening ≡ 0 → Opens b disk flash addresses blocks k
 opens-with b disk flash addresses blocks k e =
     let x = exactly-opening (numbersOf b) (lent b disk flash addresses blocks k) .gives-0 .0 e in
     record { fit = x .0; right = x .1 .0; most = most b (x .0); lengths = right-lengths (numbersOf b) (lent b disk flash addresses blocks k) (x .1 .0) }

@@ -92,7 +92,8 @@ later p k N t [] = last p k N t
 later p k N t (x ∷ l) =
     let o = doing N t (asked N (parsed p)) in
     by-test (eqb x 10)
-    (λ e. rw (e, parsed-kept p, before-line p [] (linesIn l), append-nil p) (ap (λ y. answerText k (parsed p) (o .answer) ++ y) (later [] (next k) N (o .lent) l)))
+    (λ e. rw (e, parsed-kept p, before-line p [] (linesIn l), append-nil p)
+    (ap (λ y. answerText k (parsed p) (o .answer) ++ y) (later [] (next k) N (o .lent) l)))
     (λ e. rw (e, kept-more p x, ← before-more p x (linesIn l)) (later (p ++ (x ∷ [])) k N t l))
 
 -- line 1

@@ -1,7 +1,6 @@
 // Replay byte by byte: a byte of the input in, the text of the finished line out.
 use crate::checks;
 use counters::Counters;
-use parts::BoxRecord;
 use session::Fed;
 use session::Session;
 use session::line;
@@ -11,6 +10,7 @@ ghost use mathlib.Core.List.{List, []};
 ghost use Prim.Native.Nat.{ℕ, _≤_};
 ghost use lib.Dec.{eqb};
 ghost use lib.ListN.{length};
+ghost use Rattle.parts.specs.Rep.{emptyBox};
 ghost use Rattle.refusals.specs.Given.{countersOf};
 ghost use Rattle.print.specs.Put.{Put};
 ghost use Rattle.print.specs.Texts.{countersText};
@@ -23,21 +23,16 @@ pub fn begin() -> Session
       stage = 0;
       kept = 0;
       number = 0;
-      box_record = (record { size = 0; blocks = 0; rows = 0; slots = 0; held = 0 });
+      box_record = emptyBox 0 0 0 0;
       counters = (record { reads = 0; hits = 0; flash = 0; primary = 0 });
     } ⌝ }
 {
+    let b = parts::empty_box(0, 0, 0, 0);
     Session {
         stage: 0,
         kept: 0,
         number: 0,
-        box_record: BoxRecord {
-            size: 0,
-            blocks: 0,
-            rows: 0,
-            slots: 0,
-            held: 0,
-        },
+        box_record: b,
         counters: Counters {
             reads: 0,
             hits: 0,

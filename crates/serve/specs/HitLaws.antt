@@ -13,7 +13,8 @@ use Rattle.tables.specs.Operations.{rowOut, rowAdded, rowNewest}
 use Rattle.parts.specs.declared.BoxRecord.{BoxRecord}
 use Rattle.paper.specs.Keyed.{has}
 use Rattle.paper.specs.KeyedLaws.{All, by-test, eqb→≡}
-use Rattle.paper.specs.Cache.{AddressRow, BlockRow, BlockRows, Box, Stepped, newest, blockRow, held, known, cached, slotOf, withoutAddress, withoutBlock, rowOf, step1, step3, step4, step}
+use Rattle.paper.specs.Cache.{AddressRow, BlockRow, BlockRows, Box, Stepped, newest, blockRow, held, known, cached, slotOf, withoutAddress}
+use Rattle.paper.specs.Cache.{withoutBlock, rowOf, step1, step3, step4, step}
 use Rattle.paper.specs.Sound.{Out, sound-step1}
 use Rattle.paper.specs.Engine.{Fixed, engine}
 use Rattle.paper.specs.Lent.{bit, join}
@@ -32,7 +33,8 @@ has-last same key k (x ∷ xs) r e = by-test (same k (key x)) (λ y. rw y refl) 
 less-one : {A : Type 0} (l : List A) (i : ℕ) → i < length l → length (removeAt l i) ≡ length l - 1
 less-one l i h = simp (length-append, length-take, length-drop) (omega arith)
 
-module _ (b : BoxRecord) (disk flash addrs blocks : List ℕ) (s : Box (Fixed 32) (Fixed (b .size))) (h : Rep b disk flash addrs blocks s) (sd : Sure b s) (m1 : 0 < b .rows) (a i j : ℕ) (q : HitAt b s a i j) (w : Bool) (x : Fixed (b .size)) where
+module _ (b : BoxRecord) (disk flash addrs blocks : List ℕ) (s : Box (Fixed 32) (Fixed (b .size))) (h : Rep b disk flash addrs blocks s) (sd : Sure b s)
+    (m1 : 0 < b .rows) (a i j : ℕ) (q : HitAt b s a i j) (w : Bool) (x : Fixed (b .size)) where
   abbrev g : Fixed 32
   g = getD (s .rows) i noRow .fingerprint
 
@@ -55,12 +57,19 @@ module _ (b : BoxRecord) (disk flash addrs blocks : List ℕ) (s : Box (Fixed 32
   is-cached = has-yes (engine 0 .same) (λ (u : BlockRow (Fixed 32)). u .fingerprint) g (s .used) block-below
 
   is-known : known (engine (b .size)) g (withoutAddress a (s .rows) ++ (newest a g w ∷ [])) ≡ true
-  is-known = has-last (engine (b .size) .same) (λ (r : AddressRow (Fixed 32)). r .fingerprint) g (withoutAddress a (s .rows)) (newest a g w) (engine (b .size) .same-refl g)
+  is-known = has-last (engine (b .size) .same) (λ (r : AddressRow (Fixed 32)). r .fingerprint) g (withoutAddress a (s .rows)) (newest a g w)
+      (engine (b .size) .same-refl g)
 
   abbrev stepped : Stepped (Fixed 32) (Fixed (b .size))
   stepped =
       record {
-        box = record { rows = withoutAddress a (s .rows) ++ (newest a g w ∷ []); free = s .free; used = withoutBlock (engine (b .size)) g (s .used) ++ (blockRow g (slotOf (engine (b .size)) g (s .used)) ∷ []); flash = s .flash; disk = s .disk };
+        box = record {
+          rows = withoutAddress a (s .rows) ++ (newest a g w ∷ []);
+          free = s .free;
+          used = withoutBlock (engine (b .size)) g (s .used) ++ (blockRow g (slotOf (engine (b .size)) g (s .used)) ∷ []);
+          flash = s .flash;
+          disk = s .disk;
+        };
         flashWrites = 0;
         primaryWrites = 0;
       }
@@ -84,25 +93,38 @@ module _ (b : BoxRecord) (disk flash addrs blocks : List ℕ) (s : Box (Fixed 32
         is = refl;
       }
 
-  pub hit-step : (addrs′ blocks′ : List ℕ) → addrs′ ≡ rowAdded (b .held - 1) (addressBytes (addressRow a (g .0) (bit w))) (rowOut (b .held) i addrs) → blocks′ ≡ rowNewest (b .slots) j blocks
-      → _≡_ {A = After} (record { held = b .held; left = (record { flashed = 0; primary = 0; disk = disk; flash = flash; addrs = addrs′; blocks = blocks′ }) }) (after b (step (engine (b .size)) (b .rows) s (asks a g x w)))
+  pub hit-step : (addrs′ blocks′ : List ℕ) → addrs′ ≡ rowAdded (b .held - 1) (addressBytes (addressRow a (g .0) (bit w))) (rowOut (b .held) i addrs)
+      → blocks′ ≡ rowNewest (b .slots) j blocks
+      → _≡_ {A = After} (record {
+        held = b .held;
+        left = (record { flashed = 0; primary = 0; disk = disk; flash = flash; addrs = addrs′; blocks = blocks′ });
+      }) (after b (step (engine (b .size)) (b .rows) s (asks a g x w)))
   unfolding after out4
   hit-step addrs′ blocks′ ea eb =
       let k : ℕ = indexWhere (λ (u : BlockRow (Fixed 32)). engine 0 .same g (u .fingerprint)) (s .used) in
       let e1 : addrs′ ≡ addressesOf (b .rows) (withoutAddress a (s .rows) ++ (newest a g w ∷ []))
-      = ea ∙ ap (rowAdded (b .held - 1) (addressBytes (addressRow a (g .0) (bit w)))) (removed (b .blocks) (b .rows) (b .held) addrs (s .rows) (h .rows-are) i (q .is-held) noRow)
-      ∙ pushed (b .blocks) (b .rows) (b .held - 1) (addressesOf (b .rows) (removeAt (s .rows) i)) (removeAt (s .rows) i) addrs-left (omega (arith, q .is-held, h .rows-are .few)) a g w
+      = ea ∙ ap (rowAdded (b .held - 1) (addressBytes (addressRow a (g .0) (bit w))))
+      (removed (b .blocks) (b .rows) (b .held) addrs (s .rows) (h .rows-are) i (q .is-held) noRow)
+      ∙ pushed (b .blocks) (b .rows) (b .held - 1) (addressesOf (b .rows) (removeAt (s .rows) i)) (removeAt (s .rows) i) addrs-left
+      (omega (arith, q .is-held, h .rows-are .few)) a g w
       ∙ ap (λ (l : List (AddressRow (Fixed 32))). addressesOf (b .rows) (l ++ (newest a g w ∷ []))) (sym rest) in
-      let fe : getD (s .used) k noBlock .fingerprint ≡ g = sym (engine 0 .same→≡ g (getD (s .used) k noBlock .fingerprint) (index-holds (λ (u : BlockRow (Fixed 32)). engine 0 .same g (u .fingerprint)) (s .used) noBlock block-below)) in
+      let fe : getD (s .used) k noBlock .fingerprint ≡ g
+      = sym (engine 0 .same→≡ g (getD (s .used) k noBlock .fingerprint)
+      (index-holds (λ (u : BlockRow (Fixed 32)). engine 0 .same g (u .fingerprint)) (s .used) noBlock block-below)) in
       let se : getD (s .used) k noBlock .slot ≡ slotOf (engine (b .size)) g (s .used) = sym (slotOf-yes (engine (b .size)) g (s .used) noBlock block-below) in
       let ue : getD (s .used) k noBlock ≡ blockRow g (slotOf (engine (b .size)) g (s .used)) = λ n. record { fingerprint = fe n; slot = se n } in
-      let wo : withoutBlock (engine (b .size)) g (s .used) ≡ removeAt (s .used) k = without-yes (engine 0 .same) (λ (u : BlockRow (Fixed 32)). u .fingerprint) g (engine 0 .same→≡) (s .used) (sd .fingerprints) block-below in
+      let wo : withoutBlock (engine (b .size)) g (s .used) ≡ removeAt (s .used) k
+      = without-yes (engine 0 .same) (λ (u : BlockRow (Fixed 32)). u .fingerprint) g (engine 0 .same→≡) (s .used) (sd .fingerprints) block-below in
       let e2 : blocks′ ≡ blocksOf (s .free) (withoutBlock (engine (b .size)) g (s .used) ++ (blockRow g (slotOf (engine (b .size)) g (s .used)) ∷ []))
       = eb ∙ ap (λ (n : ℕ). rowNewest (b .slots) n blocks) (q .place) ∙ renewed (b .slots) blocks (s .free) (s .used) (h .blocks-are) k block-below noBlock
       ∙ ap₂ {C = List ℕ} (λ u v. blocksOf (s .free) (u ++ (v ∷ []))) (sym wo) ue in
       let n : length (removeAt (s .rows) i) ≡ length (s .rows) - 1 = less-one (s .rows) i (omega (arith, q .is-held, h .rows-are .count)) in
-      let m : length (withoutAddress a (s .rows) ++ (newest a g w ∷ [])) ≡ length (removeAt (s .rows) i) + 1 = length-append (withoutAddress a (s .rows)) (newest a g w ∷ []) ∙ ap (λ (l : List (AddressRow (Fixed 32))). length l + 1) rest in
+      let m : length (withoutAddress a (s .rows) ++ (newest a g w ∷ [])) ≡ length (removeAt (s .rows) i) + 1
+      = length-append (withoutAddress a (s .rows)) (newest a g w ∷ []) ∙ ap (λ (l : List (AddressRow (Fixed 32))). length l + 1) rest in
       let e0 : b .held ≡ length (withoutAddress a (s .rows) ++ (newest a g w ∷ [])) = omega (arith, n, m, q .is-held, h .rows-are .count) in
       _∙_ {A = After}
-      (λ t. record { held = e0 t; left = (record { flashed = 0; primary = 0; disk = h .disk-is .is t; flash = h .flash-is .is t; addrs = e1 t; blocks = e2 t }) })
+      (λ t. record {
+        held = e0 t;
+        left = (record { flashed = 0; primary = 0; disk = h .disk-is .is t; flash = h .flash-is .is t; addrs = e1 t; blocks = e2 t });
+      })
       (sym (ap (after b) hit-stepped))

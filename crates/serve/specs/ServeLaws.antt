@@ -29,16 +29,28 @@ use Rattle.serve.specs.Calls.{isYes, returned, Leaves, leaves, HitAt}
 use Rattle.parts.specs.CopyLaws.{put-block-is}
 
 -- "same" where the fingerprint has a place
-pub yes-is : (B d : ℕ) (t : List ℕ) (free : List ℕ) (used : List (BlockRow (Fixed 32))) → Blocks d t free used → (f : Fixed 32) (j : ℕ) → j ≡ length free + indexWhere (λ u. engine 0 .same f (u .fingerprint)) used
+pub yes-is : (B d : ℕ) (t : List ℕ) (free : List ℕ) (used : List (BlockRow (Fixed 32))) → Blocks d t free used → (f : Fixed 32) (j : ℕ)
+    → j ≡ length free + indexWhere (λ u. engine 0 .same f (u .fingerprint)) used
     → ltb j d ≡ isYes (cond (cached (engine B) f used) sameBlock newBlock)
 yes-is B d t free used h f j e =
     by-test (ltb j d)
-    (λ y. let l = ltb-true j d y in let c : cached (engine B) f used ≡ true = has-yes (engine 0 .same) (λ (u : BlockRow (Fixed 32)). u .fingerprint) f used (omega (arith, e, l, h .count)) in y ∙ rw c refl)
-    (λ y. let l = ltb-false j d y in let c : cached (engine B) f used ≡ false = has-no (engine 0 .same) (λ (u : BlockRow (Fixed 32)). u .fingerprint) f used (omega (arith, e, l, h .count)) in y ∙ rw c refl)
+    (λ y. let l = ltb-true j d y in let c : cached (engine B) f used
+    ≡ true = has-yes (engine 0 .same) (λ (u : BlockRow (Fixed 32)). u .fingerprint) f used (omega (arith, e, l, h .count)) in y ∙ rw c refl)
+    (λ y. let l = ltb-false j d y in let c : cached (engine B) f used
+    ≡ false = has-no (engine 0 .same) (λ (u : BlockRow (Fixed 32)). u .fingerprint) f used (omega (arith, e, l, h .count)) in y ∙ rw c refl)
 
-pub answer-is : (b : BoxRecord) (lent : List ℕ) (w : Word) (o : Option (Fixed (b .size))) (more : ℕ) (t : Stepped (Fixed 32) (Fixed (b .size))) (yes : Bool) (held flashed p q : ℕ) (disk flash addrs blocks block : List ℕ)
-    → _≡_ {A = After} (record { held = held; left = (record { flashed = flashed; primary = p; disk = disk; flash = flash; addrs = addrs; blocks = blocks }) }) (after b t) → yes ≡ isYes w → q ≡ more + p → block ≡ returned o lent
-    → _≡_ {A = Leaves} (record { yes = yes; held = held; left = (record { flashed = flashed; primary = q; disk = disk; flash = flash; addrs = addrs; blocks = blocks }); block = block }) (leaves b lent (answer (engine (b .size)) w o more t))
+pub answer-is : (b : BoxRecord) (lent : List ℕ) (w : Word) (o : Option (Fixed (b .size))) (more : ℕ) (t : Stepped (Fixed 32) (Fixed (b .size))) (yes : Bool)
+    (held flashed p q : ℕ) (disk flash addrs blocks block : List ℕ)
+    → _≡_ {A = After} (record {
+      held = held;
+      left = (record { flashed = flashed; primary = p; disk = disk; flash = flash; addrs = addrs; blocks = blocks });
+    }) (after b t) → yes ≡ isYes w → q ≡ more + p → block ≡ returned o lent
+    → _≡_ {A = Leaves} (record {
+      yes = yes;
+      held = held;
+      left = (record { flashed = flashed; primary = q; disk = disk; flash = flash; addrs = addrs; blocks = blocks });
+      block = block;
+    }) (leaves b lent (answer (engine (b .size)) w o more t))
 unfolding leaves answer after out4
 answer-is b lent w o more t y0 held flashed p q disk flash addrs blocks block e ey eq eb =
     λ j. record {
@@ -83,16 +95,27 @@ pub back-is : (b : BoxRecord) (lent : List ℕ) (s : Box (Fixed 32) (Fixed (b .s
 unfolding serve writeBack
 back-is b lent s a x = refl
 
-pub through-is : (b : BoxRecord) (lent : List ℕ) (s : Box (Fixed 32) (Fixed (b .size))) (a : ℕ) (x : Fixed (b .size)) → leaves b lent (answer (engine (b .size)) (cond (cached (engine (b .size)) (engine (b .size) .hash x) (s .used)) sameBlock newBlock) none 1 (step (engine (b .size)) (b .rows) (onDisk (engine (b .size)) s a x) (asks a (engine (b .size) .hash x) x false)))
+pub through-is : (b : BoxRecord) (lent : List ℕ) (s : Box (Fixed 32) (Fixed (b .size))) (a : ℕ) (x : Fixed (b .size))
+    → leaves b lent (answer (engine (b .size)) (cond (cached (engine (b .size)) (engine (b .size) .hash x) (s .used)) sameBlock newBlock) none 1
+    (step (engine (b .size)) (b .rows) (onDisk (engine (b .size)) s a x) (asks a (engine (b .size) .hash x) x false)))
     ≡ leaves b lent (serve (engine (b .size)) (numbersOf b) s (Call.through a x))
 unfolding serve writeThrough
 through-is b lent s a x = refl
 
 -- the disk with the block on it
-pub rep-onDisk : (b : BoxRecord) (disk flash addrs blocks : List ℕ) (s : Box (Fixed 32) (Fixed (b .size))) → Rep b disk flash addrs blocks s → (a : ℕ) → a < b .blocks → (x : Fixed (b .size)) (disk′ : List ℕ) → disk′ ≡ splice (a * b .size) (x .0) disk
+pub rep-onDisk : (b : BoxRecord) (disk flash addrs blocks : List ℕ) (s : Box (Fixed 32) (Fixed (b .size))) → Rep b disk flash addrs blocks s → (a : ℕ)
+    → a < b .blocks → (x : Fixed (b .size)) (disk′ : List ℕ) → disk′ ≡ splice (a * b .size) (x .0) disk
     → Rep b disk′ flash addrs blocks (onDisk (engine (b .size)) s a x)
 rep-onDisk b disk flash addrs blocks s h a l x disk′ e =
-    record { rows-are = h .rows-are; blocks-are = h .blocks-are; flash-is = h .flash-is; disk-is = record { count = length-set (s .disk) a x ∙ h .disk-is .count; is = e ∙ put-block-is (b .size) (b .blocks) disk (s .disk) (h .disk-is) a l x } }
+    record {
+      rows-are = h .rows-are;
+      blocks-are = h .blocks-are;
+      flash-is = h .flash-is;
+      disk-is = record {
+        count = length-set (s .disk) a x ∙ h .disk-is .count;
+        is = e ∙ put-block-is (b .size) (b .blocks) disk (s .disk) (h .disk-is) a l x;
+      };
+    }
 
 -- a flush of at most k rows
 pub flush-is : (b : BoxRecord) (k : ℕ) (lent disk flash addrs blocks : List ℕ) (s : Box (Fixed 32) (Fixed (b .size))) → Rep b disk flash addrs blocks s
@@ -118,14 +141,26 @@ flush-is b k lent disk flash addrs blocks s h count disk′ addrs′ e =
     }
 
 -- invalidate
-pub invalidate-is : (b : BoxRecord) (lent disk flash addrs blocks : List ℕ) (s : Box (Fixed 32) (Fixed (b .size))) → Rep b disk flash addrs blocks s → (a : ℕ) → a < b .blocks → (x : Fixed (b .size)) (yes : Bool) (held : ℕ) (disk′ addrs′ blocks′ : List ℕ)
+pub invalidate-is : (b : BoxRecord) (lent disk flash addrs blocks : List ℕ) (s : Box (Fixed 32) (Fixed (b .size))) → Rep b disk flash addrs blocks s
+    → (a : ℕ) → a < b .blocks → (x : Fixed (b .size)) (yes : Bool) (held : ℕ) (disk′ addrs′ blocks′ : List ℕ)
     → yes ≡ isYes (cond (cached (engine (b .size)) (engine (b .size) .hash x) (s .used)) sameBlock newBlock) → disk′ ≡ splice (a * b .size) (x .0) disk
-    → (held ≡ length (withoutAddress a (s .rows))) × (addrs′ ≡ addressesOf (b .rows) (withoutAddress a (s .rows))) × (blocks′ ≡ blockBytes (dropped (engine (b .size)) (withoutAddress a (s .rows)) (record { free = s .free; used = s .used }) (rowOf a (s .rows))))
-    → _≡_ {A = Leaves} (record { yes = yes; held = held; left = (record { flashed = 0; primary = 1; disk = disk′; flash = flash; addrs = addrs′; blocks = blocks′ }); block = lent }) (leaves b lent (serve (engine (b .size)) (numbersOf b) s (Call.invalidate a x)))
+    → (held ≡ length (withoutAddress a (s .rows))) × (addrs′ ≡ addressesOf (b .rows) (withoutAddress a (s .rows))) ×
+    (blocks′ ≡ blockBytes (dropped (engine (b .size)) (withoutAddress a (s .rows)) (record { free = s .free; used = s .used }) (rowOf a (s .rows))))
+    → _≡_ {A = Leaves} (record {
+      yes = yes;
+      held = held;
+      left = (record { flashed = 0; primary = 1; disk = disk′; flash = flash; addrs = addrs′; blocks = blocks′ });
+      block = lent;
+    }) (leaves b lent (serve (engine (b .size)) (numbersOf b) s (Call.invalidate a x)))
 unfolding leaves serve writeInvalidate out4
 invalidate-is b lent disk flash addrs blocks s h a l x y0 n disk′ addrs′ blocks′ ey ed q =
     let d = rep-onDisk b disk flash addrs blocks s h a l x disk′ ed in
-    λ j. record { yes = ey j; held = q .0 j; left = (record { flashed = 0; primary = 1; disk = d .disk-is .is j; flash = h .flash-is .is j; addrs = q .1 j; blocks = q .2 j }); block = lent }
+    λ j. record {
+      yes = ey j;
+      held = q .0 j;
+      left = (record { flashed = 0; primary = 1; disk = d .disk-is .is j; flash = h .flash-is .is j; addrs = q .1 j; blocks = q .2 j });
+      block = lent;
+    }
 
 -- ---- read
 -- a read that takes x where it misses
@@ -139,13 +174,19 @@ module _ (b : BoxRecord) (disk flash addrs blocks : List ℕ) (s : Box (Fixed 32
   pub hit-row : (i j : ℕ) → HitAt b s a i j → rowWithBlock (engine (b .size)) s a ≡ some (getD (s .rows) i noRow)
   unfolding ifCached
   hit-row i j q =
-      let lt : indexWhere (λ (x : AddressRow (Fixed 32)). eqb a (x .address)) (s .rows) < length (s .rows) = omega (arith, q .row, q .is-held, h .rows-are .count) in
-      let f : rowOf a (s .rows) ≡ some (getD (s .rows) i noRow) = find-yes eqb (λ (x : AddressRow (Fixed 32)). x .address) a (s .rows) noRow lt ∙ ap (λ (k : ℕ). some (getD (s .rows) k noRow)) (sym (q .row)) in
-      let c : cached (engine (b .size)) (getD (s .rows) i noRow .fingerprint) (s .used) ≡ true = has-yes (engine 0 .same) (λ (u : BlockRow (Fixed 32)). u .fingerprint) (getD (s .rows) i noRow .fingerprint) (s .used) (omega (arith, q .place, q .is-cached, h .blocks-are .count)) in
+      let lt : indexWhere (λ (x : AddressRow (Fixed 32)). eqb a (x .address)) (s .rows) < length (s .rows)
+      = omega (arith, q .row, q .is-held, h .rows-are .count) in
+      let f : rowOf a (s .rows) ≡ some (getD (s .rows) i noRow) = find-yes eqb (λ (x : AddressRow (Fixed 32)). x .address) a (s .rows) noRow lt
+      ∙ ap (λ (k : ℕ). some (getD (s .rows) k noRow)) (sym (q .row)) in
+      let c : cached (engine (b .size)) (getD (s .rows) i noRow .fingerprint) (s .used) ≡ true
+      = has-yes (engine 0 .same) (λ (u : BlockRow (Fixed 32)). u .fingerprint) (getD (s .rows) i noRow .fingerprint) (s .used)
+      (omega (arith, q .place, q .is-cached, h .blocks-are .count)) in
       rw (f, c) refl
 
   pub hit-is : (lent : List ℕ) (y : Fixed (b .size)) (i j : ℕ) → HitAt b s a i j
-      → leaves b lent (answer (engine (b .size)) hit (some (blockOf (engine (b .size)) (getD (s .rows) i noRow .fingerprint) (s .used) (s .flash))) 0 (step (engine (b .size)) (b .rows) s (asks a (getD (s .rows) i noRow .fingerprint) (blockOf (engine (b .size)) (getD (s .rows) i noRow .fingerprint) (s .used) (s .flash)) (getD (s .rows) i noRow .dirty))))
+      → leaves b lent (answer (engine (b .size)) hit (some (blockOf (engine (b .size)) (getD (s .rows) i noRow .fingerprint) (s .used) (s .flash))) 0
+      (step (engine (b .size)) (b .rows) s (asks a (getD (s .rows) i noRow .fingerprint)
+      (blockOf (engine (b .size)) (getD (s .rows) i noRow .fingerprint) (s .used) (s .flash)) (getD (s .rows) i noRow .dirty))))
       ≡ leaves b lent (readAs (engine (b .size)) (b .rows) s a y (rowWithBlock (engine (b .size)) s a))
   unfolding readAs
   hit-is lent y i j q = rw (hit-row i j q) refl
@@ -157,22 +198,30 @@ module _ (b : BoxRecord) (disk flash addrs blocks : List ℕ) (s : Box (Fixed 32
   miss-is lent q = rw q refl
 
   -- what the two searches of a read say
-  pub found-hit : (i j : ℕ) → i ≡ indexWhere (λ x. eqb a (x .address)) (s .rows) → j ≡ cond (ltb i (b .held)) (length (s .free) + indexWhere (λ u. engine 0 .same (getD (s .rows) i noRow .fingerprint) (u .fingerprint)) (s .used)) (b .slots) → j < b .slots → HitAt b s a i j
+  pub found-hit : (i j : ℕ) → i ≡ indexWhere (λ x. eqb a (x .address)) (s .rows)
+      → j ≡ cond (ltb i (b .held)) (length (s .free) + indexWhere (λ u. engine 0 .same (getD (s .rows) i noRow .fingerprint) (u .fingerprint)) (s .used))
+      (b .slots) → j < b .slots → HitAt b s a i j
   found-hit i j ei ej l =
       by-test (ltb i (b .held))
       (λ y. record { row = ei; is-held = ltb-true i (b .held) y; place = rw y at ej; is-cached = l })
       (λ y. absurd (let e : j ≡ b .slots = rw y at ej in omega (arith, e, l)))
 
-  pub found-miss : (i j : ℕ) → i ≡ indexWhere (λ x. eqb a (x .address)) (s .rows) → j ≡ cond (ltb i (b .held)) (length (s .free) + indexWhere (λ u. engine 0 .same (getD (s .rows) i noRow .fingerprint) (u .fingerprint)) (s .used)) (b .slots) → b .slots ≤ j → rowWithBlock (engine (b .size)) s a ≡ none
+  pub found-miss : (i j : ℕ) → i ≡ indexWhere (λ x. eqb a (x .address)) (s .rows)
+      → j ≡ cond (ltb i (b .held)) (length (s .free) + indexWhere (λ u. engine 0 .same (getD (s .rows) i noRow .fingerprint) (u .fingerprint)) (s .used))
+      (b .slots) → b .slots ≤ j → rowWithBlock (engine (b .size)) s a ≡ none
   unfolding ifCached
   found-miss i j ei ej l =
       by-test (ltb i (b .held))
       (λ y.
       let ih = ltb-true i (b .held) y in
       let lt : indexWhere (λ (x : AddressRow (Fixed 32)). eqb a (x .address)) (s .rows) < length (s .rows) = omega (arith, ei, ih, h .rows-are .count) in
-      let e : j ≡ length (s .free) + indexWhere (λ (u : BlockRow (Fixed 32)). engine 0 .same (getD (s .rows) i noRow .fingerprint) (u .fingerprint)) (s .used) = rw y at ej in
-      let f : rowOf a (s .rows) ≡ some (getD (s .rows) i noRow) = find-yes eqb (λ (x : AddressRow (Fixed 32)). x .address) a (s .rows) noRow lt ∙ ap (λ (k : ℕ). some (getD (s .rows) k noRow)) (sym ei) in
-      let c : cached (engine (b .size)) (getD (s .rows) i noRow .fingerprint) (s .used) ≡ false = has-no (engine 0 .same) (λ (u : BlockRow (Fixed 32)). u .fingerprint) (getD (s .rows) i noRow .fingerprint) (s .used) (omega (arith, e, l, h .blocks-are .count)) in
+      let e : j ≡ length (s .free) + indexWhere (λ (u : BlockRow (Fixed 32)). engine 0 .same (getD (s .rows) i noRow .fingerprint) (u .fingerprint))
+      (s .used) = rw y at ej in
+      let f : rowOf a (s .rows) ≡ some (getD (s .rows) i noRow) = find-yes eqb (λ (x : AddressRow (Fixed 32)). x .address) a (s .rows) noRow lt
+      ∙ ap (λ (k : ℕ). some (getD (s .rows) k noRow)) (sym ei) in
+      let c : cached (engine (b .size)) (getD (s .rows) i noRow .fingerprint) (s .used) ≡ false
+      = has-no (engine 0 .same) (λ (u : BlockRow (Fixed 32)). u .fingerprint) (getD (s .rows) i noRow .fingerprint) (s .used)
+      (omega (arith, e, l, h .blocks-are .count)) in
       rw (f, c) refl)
       (λ y.
       let ih = ltb-false i (b .held) y in

@@ -29,7 +29,8 @@ pub record Carries (state disk flash addresses blocks : List ℕ) (N : Numbers) 
 
 module _ (s : List ℕ) (h : length s ≡ 72) where
   -- what is written of n and the counters
-  written : (t : Lent) → t .n < 2 ^ 64 → In64 (t .counters) → Carries (putState (t .n) (t .counters) s) (t .disk) (t .flash) (t .addresses) (t .blocks) (numbersOf (recordIn s)) t
+  written : (t : Lent) → t .n < 2 ^ 64 → In64 (t .counters)
+      → Carries (putState (t .n) (t .counters) s) (t .disk) (t .flash) (t .addresses) (t .blocks) (numbersOf (recordIn s)) t
   written t bn bk =
       let r = record-back (t .n) (t .counters) s h bn in
       let k = counters-back (t .n) (t .counters) s h (bk .reads) (bk .hits) (bk .flashWrites) (bk .primaryWrites) in
@@ -42,12 +43,14 @@ module _ (s : List ℕ) (h : length s ≡ 72) where
   -- what a served call leaves, and a refused one
   module _ (l : List ℕ) (x : After) where
     next-served : (w : Word) (f p : ℕ) → x .answer ≡ answered w f p → x .lent .n < 2 ^ 64 → In64 (x .lent .counters)
-        → Carries (toldIn s l x .state) (toldIn s l x .disk) (toldIn s l x .flash) (toldIn s l x .addresses) (toldIn s l x .blocks) (numbersOf (recordIn s)) (x .lent)
+        → Carries (toldIn s l x .state) (toldIn s l x .disk) (toldIn s l x .flash) (toldIn s l x .addresses) (toldIn s l x .blocks) (numbersOf (recordIn s))
+        (x .lent)
     unfolding toldIn
     next-served w f p e bn bk = rw e (written (x .lent) bn bk)
 
     next-refused : (k : ℕ) (disk flash addresses blocks : List ℕ) → x .answer ≡ refused k → x .lent ≡ lentIn s disk flash addresses blocks
-        → Carries (toldIn s l x .state) (toldIn s l x .disk) (toldIn s l x .flash) (toldIn s l x .addresses) (toldIn s l x .blocks) (numbersOf (recordIn s)) (x .lent)
+        → Carries (toldIn s l x .state) (toldIn s l x .disk) (toldIn s l x .flash) (toldIn s l x .addresses) (toldIn s l x .blocks) (numbersOf (recordIn s))
+        (x .lent)
     unfolding toldIn
     next-refused k disk flash addresses blocks e el =
         rw e (record { long = h; numbers = refl; lent = subst (λ (t : Lent). lentIn s (t .disk) (t .flash) (t .addresses) (t .blocks) ≡ t) (sym el) refl })
@@ -79,7 +82,8 @@ held-below N t q e =
     omega arith
 
 -- the word of a served call
-served-word : (N : Numbers) (t : Lent) (q : Ask) → refusal N t (calling q) ≡ 0 → (call N t q) .answer ≡ answered (outcome N t q .word) (outcome N t q .flashWrites) (outcome N t q .primaryWrites)
+served-word : (N : Numbers) (t : Lent) (q : Ask) → refusal N t (calling q) ≡ 0
+    → (call N t q) .answer ≡ answered (outcome N t q .word) (outcome N t q .flashWrites) (outcome N t q .primaryWrites)
 unfolding served
 served-word N t q e = ap (λ (x : After). x .answer) (served-is N t q e)
 
@@ -159,11 +163,17 @@ module _ (s disk flash addresses blocks : List ℕ) (h : length s ≡ 72) where
           flash = flash;
           addresses = addresses;
           blocks = blocks;
-          counters = record { reads = after 40 (omega arith) i; hits = after 48 (omega arith) i; flashWrites = after 56 (omega arith) i; primaryWrites = after 64 (omega arith) i };
+          counters = record {
+            reads = after 40 (omega arith) i;
+            hits = after 48 (omega arith) i;
+            flashWrites = after 56 (omega arith) i;
+            primaryWrites = after 64 (omega arith) i;
+          };
         };
       }
 
-  pub carried-open : (let z = leavesOpen s disk flash addresses blocks in Carries (z .state) disk flash (z .addresses) (z .blocks) (numbersOf (recordIn s)) (opened (numbersOf (recordIn s)) given))
+  pub carried-open : (let z = leavesOpen s disk flash addresses blocks in Carries (z .state) disk flash (z .addresses) (z .blocks) (numbersOf (recordIn s))
+      (opened (numbersOf (recordIn s)) given))
   unfolding leavesOpen openedIn fresh unopened
   carried-open =
       let N = numbersOf (recordIn s) in

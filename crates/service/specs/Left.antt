@@ -35,6 +35,10 @@ pub record Left : Type 0 where
   pub block : Option (List ℕ)
   pub answer : List ℕ
 
+abbrev pub leaving : ℕ → (state disk flash addresses blocks : List ℕ) → Option (List ℕ) → List ℕ → Left
+leaving number state disk flash addresses blocks block answer =
+    record { number = number; state = state; disk = disk; flash = flash; addresses = addresses; blocks = blocks; block = block; answer = answer }
+
 -- the paper's answer and lent memory, in numbers and bytes
 unfoldable pub toldIn : (state answer : List ℕ) → After → Left
 toldIn s l x =
@@ -54,7 +58,7 @@ unfoldable pub leaves : Ask → (state disk flash addresses blocks answer : List
 leaves q s disk flash addresses blocks l =
     cond (fitting 24 s l)
     (toldIn s l (call (numbersOf (recordIn s)) (lentIn s disk flash addresses blocks) q))
-    (record { number = 2; state = s; disk = disk; flash = flash; addresses = addresses; blocks = blocks; block = lentBlock q; answer = l })
+    (leaving 2 s disk flash addresses blocks (lentBlock q) l)
 
 -- ---- a folder read
 

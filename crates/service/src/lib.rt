@@ -9,7 +9,7 @@ ghost use Rattle.paper.specs.Lent.{Ask, call};
 ghost use Rattle.parts.specs.Rep.{numbersOf};
 ghost use Rattle.policy.specs.Contract.{askOf};
 ghost use Rattle.fields.specs.Fields.{recordIn, fitting};
-ghost use Rattle.service.specs.Left.{lentIn, leaves, leavesMany, leavesOpen, leavesLook, Shows};
+ghost use Rattle.service.specs.Left.{lentIn, leaving, leaves, leavesMany, leavesOpen, leavesLook, Shows};
 
 // Reads the block at `address` into `block`.
 #[no_mangle]
@@ -23,16 +23,8 @@ pub extern "C" fn mindavehu_read(
     block: &mut [u8],
     answer: &mut [u8],
 ) -> u32
-    ensures { λ r. ⌜ record {
-      number = r;
-      state = now (state .exit);
-      disk = now (disk .exit);
-      flash = now (flash .exit);
-      addresses = now (addresses .exit);
-      blocks = now (blocks .exit);
-      block = Option.some (now (block .exit));
-      answer = now (answer .exit);
-    }
+    ensures { λ r. ⌜ leaving r (now (state .exit)) (now (disk .exit)) (now (flash .exit)) (now (addresses .exit)) (now (blocks .exit))
+        (Option.some (now (block .exit))) (now (answer .exit))
         ≡ leaves (Ask.read address (now (block .entry))) (now (state .entry)) (now (disk .entry)) (now (flash .entry)) (now (addresses .entry))
         (now (blocks .entry)) (now (answer .entry)) ⌝ }
 {
@@ -100,16 +92,8 @@ fn write(
     block: &[u8],
     answer: &mut [u8],
 ) -> u32
-    ensures { λ r. ⌜ record {
-      number = r;
-      state = now (state .exit);
-      disk = now (disk .exit);
-      flash = now (flash .exit);
-      addresses = now (addresses .exit);
-      blocks = now (blocks .exit);
-      block = Option.some (now (block .entry));
-      answer = now (answer .exit);
-    }
+    ensures { λ r. ⌜ leaving r (now (state .exit)) (now (disk .exit)) (now (flash .exit)) (now (addresses .exit)) (now (blocks .exit))
+        (Option.some (now (block .entry))) (now (answer .exit))
         ≡ leaves (askOf kind address (now (block .entry))) (now (state .entry)) (now (disk .entry)) (now (flash .entry)) (now (addresses .entry))
         (now (blocks .entry)) (now (answer .entry)) ⌝ }
 {
@@ -144,16 +128,8 @@ pub extern "C" fn mindavehu_write_through(
     block: &[u8],
     answer: &mut [u8],
 ) -> u32
-    ensures { λ r. ⌜ record {
-      number = r;
-      state = now (state .exit);
-      disk = now (disk .exit);
-      flash = now (flash .exit);
-      addresses = now (addresses .exit);
-      blocks = now (blocks .exit);
-      block = Option.some (now (block .entry));
-      answer = now (answer .exit);
-    }
+    ensures { λ r. ⌜ leaving r (now (state .exit)) (now (disk .exit)) (now (flash .exit)) (now (addresses .exit)) (now (blocks .exit))
+        (Option.some (now (block .entry))) (now (answer .exit))
         ≡ leaves (Ask.through address (now (block .entry))) (now (state .entry)) (now (disk .entry)) (now (flash .entry)) (now (addresses .entry))
         (now (blocks .entry)) (now (answer .entry)) ⌝ }
 {
@@ -182,16 +158,8 @@ pub extern "C" fn mindavehu_write_back(
     block: &[u8],
     answer: &mut [u8],
 ) -> u32
-    ensures { λ r. ⌜ record {
-      number = r;
-      state = now (state .exit);
-      disk = now (disk .exit);
-      flash = now (flash .exit);
-      addresses = now (addresses .exit);
-      blocks = now (blocks .exit);
-      block = Option.some (now (block .entry));
-      answer = now (answer .exit);
-    }
+    ensures { λ r. ⌜ leaving r (now (state .exit)) (now (disk .exit)) (now (flash .exit)) (now (addresses .exit)) (now (blocks .exit))
+        (Option.some (now (block .entry))) (now (answer .exit))
         ≡ leaves (Ask.back address (now (block .entry))) (now (state .entry)) (now (disk .entry)) (now (flash .entry)) (now (addresses .entry))
         (now (blocks .entry)) (now (answer .entry)) ⌝ }
 {
@@ -220,16 +188,8 @@ pub extern "C" fn mindavehu_write_invalidate(
     block: &[u8],
     answer: &mut [u8],
 ) -> u32
-    ensures { λ r. ⌜ record {
-      number = r;
-      state = now (state .exit);
-      disk = now (disk .exit);
-      flash = now (flash .exit);
-      addresses = now (addresses .exit);
-      blocks = now (blocks .exit);
-      block = Option.some (now (block .entry));
-      answer = now (answer .exit);
-    }
+    ensures { λ r. ⌜ leaving r (now (state .exit)) (now (disk .exit)) (now (flash .exit)) (now (addresses .exit)) (now (blocks .exit))
+        (Option.some (now (block .entry))) (now (answer .exit))
         ≡ leaves (Ask.invalidate address (now (block .entry))) (now (state .entry)) (now (disk .entry)) (now (flash .entry)) (now (addresses .entry))
         (now (blocks .entry)) (now (answer .entry)) ⌝ }
 {
@@ -257,16 +217,8 @@ pub extern "C" fn mindavehu_flush_some(
     blocks: &[u8],
     answer: &mut [u8],
 ) -> u32
-    ensures { λ r. ⌜ record {
-      number = r;
-      state = now (state .exit);
-      disk = now (disk .exit);
-      flash = now (flash .entry);
-      addresses = now (addresses .exit);
-      blocks = now (blocks .entry);
-      block = Option.none;
-      answer = now (answer .exit);
-    }
+    ensures { λ r. ⌜ leaving r (now (state .exit)) (now (disk .exit)) (now (flash .entry)) (now (addresses .exit)) (now (blocks .entry))
+        Option.none (now (answer .exit))
         ≡ leaves (Ask.flush most) (now (state .entry)) (now (disk .entry)) (now (flash .entry)) (now (addresses .entry)) (now (blocks .entry))
         (now (answer .entry)) ⌝ }
 {
@@ -289,16 +241,8 @@ pub extern "C" fn mindavehu_flush(
     blocks: &[u8],
     answer: &mut [u8],
 ) -> u32
-    ensures { λ r. ⌜ record {
-      number = r;
-      state = now (state .exit);
-      disk = now (disk .exit);
-      flash = now (flash .entry);
-      addresses = now (addresses .exit);
-      blocks = now (blocks .entry);
-      block = Option.none;
-      answer = now (answer .exit);
-    }
+    ensures { λ r. ⌜ leaving r (now (state .exit)) (now (disk .exit)) (now (flash .entry)) (now (addresses .exit)) (now (blocks .entry))
+        Option.none (now (answer .exit))
         ≡ leaves (Ask.flush (recordIn (now (state .entry)) .rows)) (now (state .entry)) (now (disk .entry)) (now (flash .entry)) (now (addresses .entry))
         (now (blocks .entry)) (now (answer .entry)) ⌝ }
 {
@@ -306,9 +250,7 @@ pub extern "C" fn mindavehu_flush(
         return 2;
     }
     let b = fields::record_in(state);
-    let c = fields::counters_in(state);
-    let o = policy::calls::flush(b, disk, flash, addresses, blocks, c);
-    fields::write_outcome(state, answer, o)
+    mindavehu_flush_some(state, b.rows, disk, flash, addresses, blocks, answer)
 }
 
 // Tells where the block at `address` is. Nothing is moved or counted.

@@ -31,4 +31,5 @@ splice-first n d = ap (λ k. take n d ++ drop k d) (zero-add (length (take n d))
 -- what the buffers hold, written over them
 pub over-same : (b : BoxRecord) (k : Counters) (d f a e : List ℕ) → held (b .held) k (buffers d f a e) ≡ over (within b (buffers d f a e) k) (buffers d f a e)
 unfolding over
-over-same b k d f a e = ap (held (b .held) k) (same-buffers (sym (splice-first (b .blocks * b .size) d)) (sym (splice-first (b .slots * b .size) f)) (sym (splice-first (tableBytes (b .rows)) a)) (sym (splice-first (tableBytes (b .slots)) e)))
+over-same b k d f a e = ap (held (b .held) k) (same-buffers (sym (splice-first (b .blocks * b .size) d)) (sym (splice-first (b .slots * b .size) f))
+    (sym (splice-first (tableBytes (b .rows)) a)) (sym (splice-first (tableBytes (b .slots)) e)))

@@ -144,7 +144,10 @@ first-small : (s : State) (c : Command) → Fitted s → Small (firstLine s c)
 unfolding firstLine
 first-small s c h =
     by-test (eqb (boxRefusal c) 0)
-    (λ e. rw e (record { state = record { kept = omega arith; holds = (opened-fits c (eqb-true (boxRefusal c) 0 e)) .1; lengths = started-lengths (boxNumbers c) }; text = omega arith }))
+    (λ e. rw e (record {
+      state = record { kept = omega arith; holds = (opened-fits c (eqb-true (boxRefusal c) 0 e)) .1; lengths = started-lengths (boxNumbers c) };
+      text = omega arith;
+    }))
     (λ e. rw e (record { state = record { kept = omega arith; holds = h .holds; lengths = h .lengths }; text = answer-short 0 c (refused (boxRefusal c)) }))
 
 later-small : (s : State) (c : Command) → Fitted s → Small (laterLine s c)
@@ -183,8 +186,15 @@ six-tests a b c d e f h =
     let h₅ = and-left (a && b && c && d && e) f h in
     let h₄ = and-left (a && b && c && d) e h₅ in
     let h₃ = and-left (a && b && c) d h₄ in
-    let h₂ = and-left (a && b) c h₃ in
-    (and-left a b h₂, and-right a b h₂, and-right (a && b) c h₃, and-right (a && b && c) d h₄, and-right (a && b && c && d) e h₅, and-right (a && b && c && d && e) f h)
+    let h₂ = and-left (a && b) c h₃ in (
+      and-left a b h₂,
+      and-right a b h₂,
+      and-right (a && b) c h₃,
+      and-right (a && b && c) d h₄,
+      and-right (a && b && c && d) e h₅,
+      and-right
+          (a && b && c && d && e) f h,
+    )
 
 pub record Fitting (M : Memory) : Type 0 where
   pub line : length (M .line) ≡ 33
@@ -206,8 +216,10 @@ fitting M h =
     let L = lengthsFit l d f a t o in
     let n = numbersFit b in
     let k = leb (M .session .kept) 33 in
-    let x = six-tests (eqb l 33) (eqb d 16384) (eqb f 16384) (eqb a (tableBytes 1024)) (eqb t (tableBytes 256)) (eqb o 256) (and-left L n (and-left (L && n) k h)) in
-    let y = six-tests (leb (b .size) 4096) (leb (b .blocks) 256) (leb (b .rows) 1024) (leb (b .slots) 256) (leb (b .blocks * b .size) 16384) (leb (b .slots * b .size) 16384)
+    let x = six-tests (eqb l 33) (eqb d 16384) (eqb f 16384) (eqb a (tableBytes 1024)) (eqb t (tableBytes 256)) (eqb o 256)
+    (and-left L n (and-left (L && n) k h)) in
+    let y = six-tests (leb (b .size) 4096) (leb (b .blocks) 256) (leb (b .rows) 1024) (leb (b .slots) 256) (leb (b .blocks * b .size) 16384)
+    (leb (b .slots * b .size) 16384)
     (and-right L n (and-left (L && n) k h)) in
     record {
       line = eqb-true l 33 (x .0);

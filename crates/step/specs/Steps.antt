@@ -7,6 +7,7 @@ use Prim.Native.Nat.{ℕ, suc, _+_, _<_}
 use lib.ListN.{length, getD, take, drop}
 use Rattle.parts.specs.declared.BoxRecord.{BoxRecord}
 use Rattle.parts.specs.Rep.{numbersOf}
+use Rattle.paper.specs.KeyedLaws.{Distinct}
 use Rattle.paper.specs.Sound.{Sound}
 use Rattle.paper.specs.Cache.{Request, BlockRow, BlockRows, Box, RowOut, Taken, Stepped}
 use Rattle.paper.specs.Engine.{Fixed}
@@ -88,6 +89,10 @@ after b t = record { held = length (t .box .rows); left = out4 b t }
 -- the request of a step
 abbrev pub asks : {B : ℕ} → ℕ → Fixed 32 → Fixed B → Bool → Request (Fixed 32) (Fixed B)
 asks a f x w = record { address = a; fingerprint = f; block = x; dirty = w }
+
+-- no two used block rows have one fingerprint
+abbrev pub OnceEach : List (BlockRow (Fixed 32)) → Type 0
+OnceEach used = Distinct (engine 0 .same) (λ u. u .fingerprint) used
 
 -- lent bytes of a sound box
 abbrev pub Sure : (b : BoxRecord) → Box (Fixed 32) (Fixed (b .size)) → Type 0

@@ -26,7 +26,7 @@ ghost use Rattle.paper.specs.Lent.{bit, join};
 ghost use Rattle.paper.specs.Layout.{Addrs, Blocks, Parts, addressesOf, blocksOf};
 ghost use Rattle.parts.specs.Rep.{Sized, Rep, Lent, copiedRows, noRow};
 ghost use Rattle.parts.specs.Asked.{full};
-ghost use Rattle.step.specs.Steps.{placeOf, out1, blockBytes, Picked, pickedTaken, out4, after, asks, Sure};
+ghost use Rattle.step.specs.Steps.{placeOf, out1, blockBytes, Picked, pickedTaken, out4, after, asks, OnceEach, Sure};
 
 // What step 1 tells: how many rows are held then, the place of the fingerprint taken out, and the blocks copied to the disk.
 pub struct Out {
@@ -36,7 +36,7 @@ pub struct Out {
 }
 
 // Takes row `i` out. The place of its fingerprint's block row.
-pub fn take_row(b: BoxRecord, i: usize, addrs: &mut [u8], blocks: &[u8]) -> usize
+pub(crate) fn take_row(b: BoxRecord, i: usize, addrs: &mut [u8], blocks: &[u8]) -> usize
     requires { ⌜ (i < b .held) × Sized b (now addrs) (now blocks) ⌝ }
     ensures { λ r. ⌜ ((rows : List (AddressRow (Fixed 32))) (free : List ℕ) (used : List (BlockRow (Fixed 32)))
         → Addrs (b .blocks) (b .rows) (b .held) (now (addrs .entry)) rows → Blocks (b .slots) (now (blocks .entry)) free used
@@ -48,7 +48,7 @@ pub fn take_row(b: BoxRecord, i: usize, addrs: &mut [u8], blocks: &[u8]) -> usiz
 }
 
 // Step 1.
-pub fn step1(
+pub(crate) fn step1(
     b: BoxRecord,
     a: SourceAddress,
     disk: &mut [u8],
@@ -92,12 +92,12 @@ pub fn step1(
 }
 
 // Step 3, where the fingerprint taken out has its block row at `place`. Where no row is free then, none was moved.
-pub fn step3(b: BoxRecord, place: usize, addrs: &[u8], blocks: &mut [u8], heads: &[u16])
+pub(crate) fn step3(b: BoxRecord, place: usize, addrs: &[u8], blocks: &mut [u8], heads: &[u16])
     requires { ⌜ (0 < b .held) × (b .slots ≤ 256) × Sized b (now addrs) (now blocks) ⌝ }
     requires { ⌜ Indexed (b .slots) (now blocks) (now heads) ⌝ }
     ensures { λ _. ⌜ ((B : ℕ) (l : List (AddressRow (Fixed 32))) (free : List ℕ) (used : List (BlockRow (Fixed 32))) (gone : Option (Fixed 32))
         → Addrs (b .blocks) (b .rows) (b .held) (now (addrs .entry)) l → Blocks (b .slots) (now (blocks .entry)) free used
-        → Distinct (engine 0 .same) (λ u. u .fingerprint) used → place ≡ placeOf gone free used → now (blocks .exit)
+        → OnceEach used → place ≡ placeOf gone free used → now (blocks .exit)
         ≡ blockBytes (step3 (engine B) gone (take (b .held - 1) l) l (record { free = free; used = used }))) ⌝ }
     ensures { λ _. ⌜ (full (now (blocks .exit)) ≡ true → now (blocks .exit) ≡ now (blocks .entry)) ⌝ }
 {
@@ -114,7 +114,7 @@ pub fn step3(b: BoxRecord, place: usize, addrs: &[u8], blocks: &mut [u8], heads:
 }
 
 // Copies the block of the block row at `t`, in `slot`, to the disk for each dirty row that has its fingerprint, if it is used.
-pub fn lose(
+pub(crate) fn lose(
     b: BoxRecord,
     t: usize,
     slot: FlashSlot,
@@ -125,10 +125,10 @@ pub fn lose(
 ) -> usize
     requires { ⌜ (t < b .slots) × (slot .0 < b .slots) × Sized b (now addrs) (now blocks) ⌝ }
     requires { ⌜ ((s : Box (Fixed 32) (Fixed (b .size))) × Rep b (now disk) (now flash) (now addrs) (now blocks) s
-        × Distinct (engine 0 .same) (λ u. u .fingerprint) (s .used) × Picked (s .free) (s .used) t × (slot .0 ≡ pickedTaken (s .free) (s .used) t .slot)) ⌝ }
+        × OnceEach (s .used) × Picked (s .free) (s .used) t × (slot .0 ≡ pickedTaken (s .free) (s .used) t .slot)) ⌝ }
     ensures { λ r. ⌜ r ≤ b .held ⌝ }
     ensures { λ r. ⌜ ((s : Box (Fixed 32) (Fixed (b .size))) → Rep b (now (disk .entry)) (now (flash .entry)) (now (addrs .entry)) (now (blocks .entry)) s
-        → Distinct (engine 0 .same) (λ u. u .fingerprint) (s .used) → Picked (s .free) (s .used) t → slot .0 ≡ pickedTaken (s .free) (s .used) t .slot
+        → OnceEach (s .used) → Picked (s .free) (s .used) t → slot .0 ≡ pickedTaken (s .free) (s .used) t .slot
         → record { count = r; disk = now (disk .exit); addrs = now (addrs .exit) }
         ≡ copiedRows b (isLost (engine (b .size)) (pickedTaken (s .free) (s .used) t .lost)) s (b .held)) ⌝ }
 {
@@ -140,7 +140,7 @@ pub fn lose(
 }
 
 // Puts `block` into `slot`, and `g` into the block row at `t`, which becomes newest.
-pub fn fill(
+pub(crate) fn fill(
     b: BoxRecord,
     t: usize,
     slot: FlashSlot,
@@ -163,7 +163,7 @@ pub fn fill(
 }
 
 // Step 4 where `g` is not cached. How many blocks were copied to the disk.
-pub fn store(
+pub(crate) fn store(
     b: BoxRecord,
     disk: &mut [u8],
     flash: &mut [u8],
@@ -175,12 +175,12 @@ pub fn store(
 ) -> usize
     requires { ⌜ (0 < b .slots) × (length (now g) ≡ 32) × (length (now block) ≡ b .size) × (b .slots ≤ 256) × Sized b (now addrs) (now blocks) ⌝ }
     requires { ⌜ ((s : Box (Fixed 32) (Fixed (b .size))) × Rep b (now disk) (now flash) (now addrs) (now blocks) s
-        × Distinct (engine 0 .same) (λ u. u .fingerprint) (s .used)) ⌝ }
+        × OnceEach (s .used)) ⌝ }
     requires { ⌜ (full (now blocks) ≡ true → Indexed (b .slots) (now blocks) (now heads)) ⌝ }
     ensures { λ r. ⌜ r ≤ b .held ⌝ }
     ensures { λ r. ⌜ ((s : Box (Fixed 32) (Fixed (b .size))) (f : Fixed 32) (x : Fixed (b .size))
         → Rep b (now (disk .entry)) (now (flash .entry)) (now (addrs .entry)) (now (blocks .entry)) s
-        → Distinct (engine 0 .same) (λ u. u .fingerprint) (s .used) → f .0 ≡ now (g .entry) → x .0 ≡ now (block .entry)
+        → OnceEach (s .used) → f .0 ≡ now (g .entry) → x .0 ≡ now (block .entry)
         → record { flashed = 1; primary = r; disk = now (disk .exit); flash = now (flash .exit); addrs = now (addrs .exit); blocks = now (blocks .exit) }
         ≡ out4 b (stored (engine (b .size)) (s .rows) (s .used) (s .flash) (s .disk) f x 0 (taken (engine (b .size)) (s .rows) (s .free) (s .used)))) ⌝ }
 {
@@ -198,7 +198,7 @@ pub struct Wrote {
 }
 
 // Step 4.
-pub fn step4(
+pub(crate) fn step4(
     b: BoxRecord,
     disk: &mut [u8],
     flash: &mut [u8],
@@ -210,12 +210,12 @@ pub fn step4(
 ) -> Wrote
     requires { ⌜ (0 < b .slots) × (length (now g) ≡ 32) × (length (now block) ≡ b .size) × (b .slots ≤ 256) × Sized b (now addrs) (now blocks) ⌝ }
     requires { ⌜ ((s : Box (Fixed 32) (Fixed (b .size))) × Rep b (now disk) (now flash) (now addrs) (now blocks) s
-        × Distinct (engine 0 .same) (λ u. u .fingerprint) (s .used)) ⌝ }
+        × OnceEach (s .used)) ⌝ }
     requires { ⌜ (full (now blocks) ≡ true → Indexed (b .slots) (now blocks) (now heads)) ⌝ }
     ensures { λ r. ⌜ (r .flashed ≤ 1) × (r .primary ≤ b .held) ⌝ }
     ensures { λ r. ⌜ ((s : Box (Fixed 32) (Fixed (b .size))) (f : Fixed 32) (x : Fixed (b .size))
         → Rep b (now (disk .entry)) (now (flash .entry)) (now (addrs .entry)) (now (blocks .entry)) s
-        → Distinct (engine 0 .same) (λ u. u .fingerprint) (s .used) → f .0 ≡ now (g .entry) → x .0 ≡ now (block .entry)
+        → OnceEach (s .used) → f .0 ≡ now (g .entry) → x .0 ≡ now (block .entry)
         → record {
           flashed = r .flashed;
           primary = r .primary;
@@ -286,8 +286,7 @@ pub fn step(
     let o = step1(b, a, disk, flash, addrs, blocks, heads);
     put::push_address(addrs, o.held, a, g, dirty);
     let n = o.held + 1;
-    let mut c = b;
-    c.held = n;
+    let c = parts::with_held(b, n);
     step3(c, o.place, addrs, blocks, heads);
     let w = step4(c, disk, flash, addrs, blocks, g, block, heads);
     Done {
@@ -320,11 +319,11 @@ pub fn renew(
 }
 
 // Frees the block row at `place` where no held row has its fingerprint.
-pub fn free_unknown(b: BoxRecord, place: usize, addrs: &[u8], blocks: &mut [u8])
+pub(crate) fn free_unknown(b: BoxRecord, place: usize, addrs: &[u8], blocks: &mut [u8])
     requires { ⌜ Sized b (now addrs) (now blocks) ⌝ }
     ensures { λ _. ⌜ ((B : ℕ) (l : List (AddressRow (Fixed 32))) (free : List ℕ) (used : List (BlockRow (Fixed 32))) (r : AddressRow (Fixed 32))
         → Addrs (b .blocks) (b .rows) (b .held) (now (addrs .entry)) l → Blocks (b .slots) (now (blocks .entry)) free used
-        → Distinct (engine 0 .same) (λ u. u .fingerprint) used → place ≡ placeOf (Option.some (r .fingerprint)) free used → now (blocks .exit)
+        → OnceEach used → place ≡ placeOf (Option.some (r .fingerprint)) free used → now (blocks .exit)
         ≡ blockBytes (dropped (engine B) l (record { free = free; used = used }) (Option.some r))) ⌝ }
 {
     let d = b.slots;
@@ -342,7 +341,7 @@ pub fn drop_row(b: BoxRecord, i: usize, addrs: &mut [u8], blocks: &mut [u8]) -> 
     requires { ⌜ Sized b (now addrs) (now blocks) ⌝ }
     ensures { λ r. ⌜ ((B a : ℕ) (l : List (AddressRow (Fixed 32))) (free : List ℕ) (used : List (BlockRow (Fixed 32)))
         → Addrs (b .blocks) (b .rows) (b .held) (now (addrs .entry)) l → Blocks (b .slots) (now (blocks .entry)) free used
-        → Distinct eqb (λ x. x .address) l → Distinct (engine 0 .same) (λ u. u .fingerprint) used → i ≡ indexWhere (λ x. eqb a (x .address)) l
+        → Distinct eqb (λ x. x .address) l → OnceEach used → i ≡ indexWhere (λ x. eqb a (x .address)) l
         → (r ≡ length (withoutAddress a l)) × (now (addrs .exit) ≡ addressesOf (b .rows) (withoutAddress a l))
         × (now (blocks .exit) ≡ blockBytes (dropped (engine B) (withoutAddress a l) (record { free = free; used = used }) (rowOf a l)))) ⌝ }
 {
@@ -351,8 +350,7 @@ pub fn drop_row(b: BoxRecord, i: usize, addrs: &mut [u8], blocks: &mut [u8]) -> 
     }
     let place = take_row(b, i, addrs, blocks);
     let n = b.held - 1;
-    let mut c = b;
-    c.held = n;
+    let c = parts::with_held(b, n);
     free_unknown(c, place, addrs, blocks);
     n
 }

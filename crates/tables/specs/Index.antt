@@ -2,7 +2,7 @@
 use Prim.Native.Nat.{ℕ, _+_, _-_, _*_, _%_, _≤_, _<_}
 use mathlib.Core.Path.{_≡_}
 use mathlib.Core.Bool.{Bool, true, not, cond, _&&_}
-use mathlib.Core.List.{List, [], map}
+use mathlib.Core.List.{List, []}
 use lib.Dec.{ltb}
 use lib.ListN.{length, drop, getD}
 use Rattle.tables.specs.Find.{all, findFrom, caches, hasFingerprint, absent, isDirty, isUsed}
@@ -10,7 +10,11 @@ use Rattle.tables.specs.declared.Found.{Found}
 use Rattle.tables.specs.declared.Found.the-variants.{At, Nothing}
 use Rattle.tables.specs.Sound.{isZero, tailOk, rowSlot}
 use Rattle.tables.specs.Records.{readAddress, readBlock}
-use Rattle.tables.specs.Rows.{rows}
+use Rattle.tables.specs.Rows.{rows, HasRows}
+
+-- t has the d rows of a block table
+abbrev pub BlockTable : ℕ → List ℕ → Type 0
+BlockTable d t = (HasRows t d) × (d ≤ 256)
 
 -- `heads` has 4,353 entries: 4,096 of the buckets, 256 of the rows, and one that says which bytes of a fingerprint give its bucket.
 abbrev pub headsLength : ℕ
@@ -89,6 +93,10 @@ cachedIn rs r = not (absent (findFrom (caches (readAddress r .fingerprint)) 0 rs
 -- an address row is clean, or its fingerprint is cached
 abbrev pub dirtyOk : List (List ℕ) → List ℕ → Bool
 dirtyOk rs r = cond (isDirty r) (cachedIn rs r) true
+
+-- the fingerprint of an address row is cached, which of a clean one is asked only where every row is
+abbrev pub cachedOk : Bool → List (List ℕ) → List ℕ → Bool
+cachedOk each rs r = cond each (cachedIn rs r) (dirtyOk rs r)
 
 -- a block row is used, and no address row has its fingerprint
 abbrev pub unknownIn : List (List ℕ) → List ℕ → Bool

@@ -1,6 +1,6 @@
 -- For the crates above: what the functions of `shift` and `put` leave, said of the rows and of the records. Assumes nothing.
 use mathlib.Core.Path.{_≡_, refl, sym, ap, _∙_}
-use mathlib.Core.Bool.{Bool, true, _&&_}
+use mathlib.Core.Bool.{true, _&&_}
 use mathlib.Core.List.{List, [], _∷_, _++_, map, append-assoc, append-nil}
 use Prim.Native.Nat.{ℕ, zero, suc, _+_, _-_, _*_, _/_, _%_, _^_, _≤_, _<_}
 use native.Mathlib.Nat.{not-suc-le-zero, le-of-suc-le-suc, div-div-eq-div-mul, div-add-mod, mod-eq-of-lt}
@@ -9,8 +9,6 @@ use lib.Dec.{leb}
 use lib.ListN.{length, getD, set, take, drop, length-append, length-drop, take-append-drop}
 use lib.Seq.{getD-append-add, getD-at, take-at, drop-at, length-take-le, drop-drop, take-set-lt, take-set-le, drop-set-lt, drop-set-add, getD-set-same, getD-set-other}
 use Rattle.tables.specs.Rows.{rows, flat, zeros, rowAt, removeAt, le4}
-use Rattle.tables.specs.Find.{findFrom, pick}
-use Rattle.tables.specs.declared.Found.the-variants.{At}
 use Rattle.tables.specs.Records.{readAddress, addressBytes, readBlock, blockBytes, blockRows, addressRow, blockRow, freeRow, slotsFrom}
 use Rattle.tables.specs.Sound.{tailOk, rowSlot}
 use Rattle.tables.specs.RecordLaws.{four}
@@ -190,12 +188,6 @@ module _ (d : ℕ) (t : List ℕ) (i : ℕ) (h : i < d) (g : d * 40 ≤ length t
       let e : length (x ∷ removeAt (rows d t) i) ≡ d = omega (arith, left-length) in
       blocks-flat d (x ∷ removeAt (rows d t) i) (l, wide-removeAt (rows d t) i (wide-rows d t g)) e
       ∙ rw (map-removeAt readBlock (rows d t) i)
-
--- a search in records
-pub find-map : {A : Type 0} (f : List ℕ → A) (p : A → Bool) (k : ℕ) (rs : List (List ℕ)) → findFrom (λ r. p (f r)) k rs ≡ findFrom p k (map f rs)
-unfolding findFrom
-find-map f p k [] = refl
-find-map f p k (r ∷ rs) = ap (pick (p (f r)) (At k)) (find-map f p (suc k) rs)
 
 pub rows-whole : (d : ℕ) (rs : List (List ℕ)) → Wide rs → length rs ≡ d → rows d (flat rs) ≡ rs
 rows-whole d rs w l = ap (λ (k : ℕ). rows k (flat rs)) (sym l) ∙ ap (rows (length rs)) (sym (append-nil (flat rs))) ∙ rows-flat rs [] w

@@ -4,7 +4,7 @@ use Prim.Native.Nat.{ℕ, zero, suc, _+_, _-_, _*_, _≤_, _<_}
 use mathlib.Core.List.{List, [], _∷_, _++_, append-assoc}
 use native.Mathlib.Omega.{arith}
 use native.Mathlib.Nat.{zero-add, suc-add, not-suc-le-zero, le-of-suc-le-suc}
-use lib.ListN.{length, getD, take, drop, length-drop, take-append-drop}
+use lib.ListN.{length, getD, take, drop, length-drop}
 use lib.Seq.{length-take-le, getD-drop, getD-take, drop-drop, take-add, take-take, take-all, take-nil}
 use mathlib.Core.Bool.{Bool, true, false}
 use Rattle.tables.specs.Find.{findFrom}
@@ -62,13 +62,6 @@ flat-removeAt n t i h =
     let f : (n - suc i) * 40 ≡ n * 40 - 40 - i * 40 = omega arith in
     flat-append (take i (rows n t)) (drop (suc i) (rows n t))
     ∙ rw (take-rows i n t (omega arith), drop-rows (suc i) n t h, flat-rows i t, flat-rows (n - suc i) (drop (suc i * 40) t), e, f)
-
--- rows of bytes that are a whole number of rows and then others
-pub rows-append : (a b : ℕ) (t : List ℕ) → rows (a + b) t ≡ rows a t ++ rows b (drop (a * 40) t)
-rows-append a b t =
-    let e : b ≡ a + b - a = omega arith in
-    sym (take-append-drop a (rows (a + b) t))
-    ∙ rw (take-rows a (a + b) t (omega arith), drop-rows a (a + b) t (omega arith), ← e)
 
 -- bytes that are a whole number of rows
 pub flat-all : (n : ℕ) (t : List ℕ) → length t ≡ n * 40 → flat (rows n t) ≡ t

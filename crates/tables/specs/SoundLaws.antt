@@ -202,11 +202,6 @@ pub or-right : (a b : Bool) → a || b ≡ false → b ≡ false
 or-right true b e = let z : _≡_ {A = ℕ} 0 1 = cc in absurd (omega arith)
 or-right false b e = e
 
-pub map-drop : {A B : Type 0} (f : A → B) (k : ℕ) (xs : List A) → map f (drop k xs) ≡ drop k (map f xs)
-map-drop f zero xs = refl
-map-drop f (suc k) [] = refl
-map-drop f (suc k) (x ∷ xs) = map-drop f k xs
-
 -- they are right if the number that they make is at most 1
 tail-small : (a b c d : ℕ) (q : Bool) → leb (a + 256 * b + 65536 * c + 16777216 * d) 1 ≡ q → q ≡ leb a 1 && (eqb b 0 && (eqb c 0 && eqb d 0))
 tail-small a b c d true e =

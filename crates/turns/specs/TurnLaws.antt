@@ -239,7 +239,8 @@ module _ (B m : ℕ) (s : Box (Fixed 32) (Fixed B)) (a : ℕ) (x : Fixed B) wher
   reads-hit (some r) = refl
   reads-hit none = refl
 
-  reads-fetch : (first : Bool) (o : Option (AddressRow (Fixed 32))) → cond (first && not (isYes (reading o .word))) 1 0 ≡ oneIf (first && isMiss (reading o .word))
+  reads-fetch : (first : Bool) (o : Option (AddressRow (Fixed 32)))
+      → cond (first && not (isYes (reading o .word))) 1 0 ≡ oneIf (first && isMiss (reading o .word))
   unfolding readAs answer
   reads-fetch true (some r) = refl
   reads-fetch true none = refl
@@ -315,7 +316,13 @@ module _ (b : BoxRecord) (l : List ℕ) (z : Counters) (T : Batched (Fixed 32) (
         let h = sound-out in
         let c : length (out .box .rows) ≡ s .held = sym (ap (λ (y : Leaves). y .held) e) in
         record {
-          rows-are = record { count = c; few = rw (← c) (h .few); below = h .below; small = w .box-is .rows-are .small; is = ap (λ (y : Leaves). y .left .addrs) e };
+          rows-are = record {
+            count = c;
+            few = rw (← c) (h .few);
+            below = h .below;
+            small = w .box-is .rows-are .small;
+            is = ap (λ (y : Leaves). y .left .addrs) e;
+          };
           blocks-are = record {
             count = block-count N (out .box) h;
             free-below = free-below N (out .box) h;
@@ -408,7 +415,8 @@ module _ (b : BoxRecord) (l : List ℕ) (z : Counters) (T : Batched (Fixed 32) (
 
 module _ (b : BoxRecord) (asked : List ℕ) (k : ℕ) (z : Counters) (t : Sums) (disk flash addrs blocks buffer : List ℕ) where
   pub next-of : (T : Batched (Fixed 32) (Fixed (b .size))) → k < length asked
-      → Turned b (take k asked ++ (getD asked k 0 ∷ [])) z T t disk flash addrs blocks buffer → Turned b (take (k + 1) asked) z T t disk flash addrs blocks buffer
+      → Turned b (take k asked ++ (getD asked k 0 ∷ [])) z T t disk flash addrs blocks buffer
+      → Turned b (take (k + 1) asked) z T t disk flash addrs blocks buffer
   next-of T h w =
       subst (λ (x : List ℕ). Turned b x z T t disk flash addrs blocks buffer) (sym (ap (λ (j : ℕ). take j asked) (add-one k) ∙ take-suc asked k 0 h)) w
 

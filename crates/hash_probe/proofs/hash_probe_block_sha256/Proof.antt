@@ -4,7 +4,7 @@ use Rattle.hash_probe.proofs.hash_probe_block_sha256.Statement.{stateme
 use Rattle.hash_probe.proofs.hash_probe_block_sha256.Tie as tie
 
 block-sha256-requires : tie.Need-block-sha256-requires
-block-sha256-requires c κs = c .before .is-size .ensures (c .if1 .taken)
+block-sha256-requires c κs = c .before .is-size .ensures .0 (c .if1 .taken)
 
 pub hash-probe-block-sha256-spec : {M : Type 1} → statement M
 hash-probe-block-sha256-spec =

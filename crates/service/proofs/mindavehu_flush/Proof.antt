@@ -1,14 +1,13 @@
--- A wrong length: `unchanged`. Else the record and the counters are read, the cache's call is done, and its outcome is written: `changed`. Assumes nothing.
+-- A wrong length: `unchanged`. Else it is a flush of as many rows as the state's m. Assumes nothing.
 use mathlib.Core.Path.{_≡_, refl, sym, ap, _∙_}
 use mathlib.Core.Bool.{true}
 use borrow.Author.Needs.{needs}
 use borrow.Author.Tests.{not-true, not-false}
 use Rattle.paper.specs.Lent.{Ask}
 use Rattle.parts.specs.declared.BoxRecord.{BoxRecord}
-use Rattle.refusals.specs.Given.{countersOf, lent}
-use Rattle.policy.specs.Contract.{called}
 use Rattle.fields.specs.Fields.{recordIn, fitting}
-use Rattle.service.proofs.Noting.{lengths, unchanged, changed}
+use Rattle.service.specs.Left.{leaves}
+use Rattle.service.proofs.Noting.{lengths, unchanged}
 use Rattle.service.proofs.mindavehu_flush.Statement.{statement}
 use Rattle.service.proofs.mindavehu_flush.Tie as tie
 
@@ -27,34 +26,14 @@ returns c =
 record-in-requires : tie.Need-record-in-requires
 record-in-requires c κs = lengths _ _ _ (fits (c .before)) .0
 
-counters-in-requires : tie.Need-counters-in-requires
-counters-in-requires c κs = lengths _ _ _ (fits (c .before .before .before)) .0
-
--- the place after the cache's call
-abbrev called-at : tie.After-write-outcome-arg2 → tie.After-flush
-called-at c = c .before .before .before .before .before .before
-
-abbrev read-at : tie.After-flush → tie.After-counters-in
-read-at c = c .before .before .before
-
-write-outcome-requires : tie.Need-write-outcome-requires
-write-outcome-requires c κs = lengths _ _ _ (fits (read-at (called-at c) .before .before .before .before))
-
 returns-2 : tie.Need-returns-2
 returns-2 c =
-    let w = c .before .before .before .before in
-    let r = called-at (w .before) in
-    let k = read-at r in
-    let b = k .before .before in
-    let e = b .before .before in
-    let a = start (e .before) .args in
-    let box = b .record-in .result in
-    let t = lent box (a .disk .now) (a .flash .now) (a .addresses .now) (a .blocks .now) (countersOf (k .counters-in .result)) in
-    -- m is the state's
-    let m = ap (λ (x : BoxRecord). called box t (Ask.flush (x .rows))) (b .record-in .ensures) in
-    changed (Ask.flush (recordIn (a .state .now) .rows)) (a .state .now) (a .disk .now) (a .flash .now) (a .addresses .now) (a .blocks .now) (a .answer .now)
-    (fits e) box (k .counters-in .result) (b .record-in .ensures) (k .counters-in .ensures) (r .flush .result) _ _ _ _ _ (r .flush .ensures ∙ m) _ _ _
-    (w .write-outcome .ensures)
+    let r = c .before .before .before .before .before .before .before .before in
+    let b = r .before .before .before .before .before in
+    let a = start (b .before .before .before) .args in
+    r .mindavehu-flush-some .ensures
+    ∙ ap (λ (x : BoxRecord). leaves (Ask.flush (x .rows)) (a .state .now) (a .disk .now) (a .flash .now) (a .addresses .now) (a .blocks .now) (a .answer .now))
+    (b .record-in .ensures)
 
 pub mindavehu-flush-spec : {M : Type 1} → statement M
 mindavehu-flush-spec =
@@ -65,9 +44,7 @@ mindavehu-flush-spec =
     (λ c. search needs)
     returns
     record-in-requires
-    counters-in-requires
     (λ c κs. search needs)
-    write-outcome-requires
     (λ c. search needs)
     (λ c. search needs)
     (λ c. search needs)

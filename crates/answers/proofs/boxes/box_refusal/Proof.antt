@@ -13,14 +13,20 @@ returns-2 : tie.Need-returns-2
 unfolding boxRefusal
 returns-2 c =
     let e = c .before in
-    rw (e .before .before .c .given .1, sym (e .numbers-unfit .ensures) ∙ c .if1 .taken) refl
+    let u = e .numbers-unfit .ensures in
+    let v = rw (e .before .empty-box .ensures) at u in
+    rw (e .before .before .before .c .given .1, sym v ∙ c .if1 .taken) refl
 
 returns-3 : tie.Need-returns-3
 unfolding boxRefusal
 returns-3 c =
     let f = c .before in
     let e = f .before in
-    rw (e .before .before .c .given .1, sym (e .numbers-unfit .ensures) ∙ f .if1 .left) (c .too-large .ensures)
+    let u = e .numbers-unfit .ensures in
+    let v = rw (e .before .empty-box .ensures) at u in
+    let t = c .too-large .ensures in
+    let w = rw (e .before .empty-box .ensures) at t in
+    rw (e .before .before .before .c .given .1, sym v ∙ f .if1 .left) w
 
 pub box-refusal-spec : {M : Type 1} → statement M
 box-refusal-spec =
@@ -33,6 +39,7 @@ box-refusal-spec =
     (λ c. search needs)
     (λ c. search needs)
     (λ c κs. search needs)
-    returns-2
     (λ c κs. search needs)
+    returns-2
+    (λ c κs. rw (c .before .before .empty-box .ensures) (search needs))
     returns-3)

@@ -14,7 +14,7 @@ walk-requires : tie.Need-walk-requires
 walk-requires c κs =
     let s = c .before .before .before in
     let p = s .pre .0 in (
-      (omega arith, p .1, c .block-fingerprint .ensures .1, p .3),
+      ((omega arith, p .1), c .block-fingerprint .ensures .1, p .3),
       ((λ h. (let i = s .pre .1 .0 h in (i .0, i .1 ∙ ap (bucket (choice (s .args .heads .now))) (sym (c .block-fingerprint .ensures .0))))), s .pre .1 .1),
     )
 

@@ -10,7 +10,7 @@ use Rattle.checks.proofs.index.find.Statement.{statement}
 use Rattle.checks.proofs.index.find.Tie as tie
 
 bucket-of-requires : tie.Need-bucket-of-requires
-bucket-of-requires c κs = let s = c .before .before .before .before .before in (s .pre .0 .2, omega (arith, c .wide .ensures, s .pre .1 .1 .chosen))
+bucket-of-requires c κs = let s = c .before .before .before .before .before in (s .pre .0 .1, omega (arith, c .wide .ensures, s .pre .1 .1 .chosen))
 
 -- the bucket of g, by the choice of the index
 in-bucket : (c : tie.After-bucket-of) → (let a = c .before .before .before .before .before .before .args in c .bucket-of .result ≡ bucket (choice (a .heads .now)) (a .g .now))
@@ -30,7 +30,7 @@ walk-requires c κs =
     let p = s .pre .0 in
     let rs = rows (a .d) (a .t .now) in
     let f = ap (λ (v : ℕ). 256 - v) (c .wide2 .ensures) in (
-      (p .0, p .1, p .2, s .pre .1 .0),
+      (p .0, p .1, s .pre .1 .0),
       (
         from-bucket (a .heads .now) rs (a .g .now) (b .bucket-of .result) (256 - c .wide2 .result) 0 (in-bucket b) (b .bucket-of .ensures .1) f (s .pre .1 .1),
         from-links (a .heads .now) rs (a .g .now) (b .bucket-of .result) (256 - c .wide2 .result) 0 (in-bucket b) (b .bucket-of .ensures .1) f (s .pre .1 .1),

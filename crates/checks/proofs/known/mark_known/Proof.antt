@@ -1,5 +1,5 @@
 -- The loop goes down; `known` marks the places of the rows from k on. Assumes nothing.
-use mathlib.Core.Path.{_≡_, refl, sym, _∙_, subst}
+use mathlib.Core.Path.{_≡_, sym, _∙_, subst}
 use mathlib.Core.List.{map}
 use Prim.Native.Nat.{ℕ, _-_, _≤_, _<_}
 use lib.ListN.{length, drop, getD, length-set}
@@ -23,14 +23,14 @@ loop-holds c =
     let s = c .before .before .before .before in
     let a = s .args in
     let h = values-length (placeIn (rows (a .d) (a .t .now))) (a .n) (a .a .now) in
-    (search needs, s .pre .0 .3, marked-none (λ x. getD (a .known .now) x 0) (length (a .known .now)) (map (placeIn (rows (a .d) (a .t .now))) (rows (a .n) (a .a .now))) (a .n) (omega (arith, h)) (s .pre .1 .1))
+    (search needs, s .pre .0 .2, marked-none (λ x. getD (a .known .now) x 0) (length (a .known .now)) (map (placeIn (rows (a .d) (a .t .now))) (rows (a .n) (a .a .now))) (a .n) (omega (arith, h)) (s .pre .1 .1))
 
 -- the place is a byte of `known`
 below : (c : tie.After-place-of Inv-loop μ-loop) → c .place-of .result < length (c .before .before .loop .known)
 below c =
     let l = c .before .before in
     let a = l .before .before .before .before .before .args in
-    let b : c .place-of .result < 257 = rw (c .place-of .ensures) (place-below (a .d) (a .t .now) (rowAt (a .a .now) (l .loop .k - 1)) (l .before .before .before .before .before .pre .0 .2)) in
+    let b : c .place-of .result < 257 = rw (c .place-of .ensures) (place-below (a .d) (a .t .now) (rowAt (a .a .now) (l .loop .k - 1)) (l .before .before .before .before .before .pre .0 .1 .1)) in
     omega (arith, b, l .loop .inv .1)
 
 loop-again : tie.Need-loop-again Inv-loop μ-loop

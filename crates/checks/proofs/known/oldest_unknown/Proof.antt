@@ -12,7 +12,7 @@ mark-known-requires : tie.Need-mark-known-requires
 mark-known-requires c κs =
     let s = c .before .before .before .before in
     let p = s .pre .0 in
-    ((p .0, p .1, p .2, length-replicate {A = ℕ} 257 0), (s .pre .1 .1, fresh 257))
+    ((p .0, p .1, length-replicate {A = ℕ} 257 0), (s .pre .1 .1, fresh 257))
 
 first-unknown-requires : tie.Need-first-unknown-requires
 first-unknown-requires c κs =
@@ -20,8 +20,8 @@ first-unknown-requires c κs =
     let s = m .before .before .before .before .before in
     let a = s .args in
     let known = m .mark-known .last .1 .1 .1 .1 .1 .0 in
-    let l : a .d ≤ length known = omega (arith, m .mark-known .ensures .0, s .pre .0 .2) in
-    ((s .pre .0 .1, l), unmarked-is (a .d) (a .t .now) (a .n) (a .a .now) known (s .pre .0 .2) l (s .pre .1 .0) (m .mark-known .ensures .1))
+    let l : a .d ≤ length known = omega (arith, m .mark-known .ensures .0, s .pre .0 .1 .1) in
+    ((s .pre .0 .1 .0, l), unmarked-is (a .d) (a .t .now) (a .n) (a .a .now) known (s .pre .0 .1 .1) l (s .pre .1 .0) (m .mark-known .ensures .1))
 
 pub oldest-unknown-spec : {M : Type 1} → statement M
 oldest-unknown-spec = tie.close (tie.spec (λ c. search needs) mark-known-requires (λ c. search needs) first-unknown-requires (λ c. search needs))

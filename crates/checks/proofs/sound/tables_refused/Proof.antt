@@ -37,7 +37,7 @@ dirty-cached-requires c κs =
     let b = e .before .before .before in
     let p = passed-addresses e in
     let q = passed-blocks e in
-    ((omega (arith, p .0, p .2), omega (arith, q .1), q .0), (b .blocks-unsound .ensures .1 .1, b .blocks-unsound .ensures .1 .0 (e .if2 .left)))
+    ((omega (arith, p .0, p .2), (omega (arith, q .1), q .0)), (b .blocks-unsound .ensures .1 .1, b .blocks-unsound .ensures .1 .0 (e .if2 .left)))
 
 returns-3 : tie.Need-returns-3
 returns-3 c =

@@ -25,14 +25,17 @@ returns c =
 returns-2 : tie.Need-returns-2
 returns-2 c =
     let f = c .before .before in
-    let t = f .before .before .before .before .before .before in
+    let at-held = f .before .before .before in
+    let t = at-held .before .before .before .before in
     let s = t .before .before .before .before .before .before .before in
     let a = s .args in
     let lt : a .i < a .b .held = omega (arith, t .before .before .before .if1 .left) in
     λ B x l free used h hb da du e.
     let w = without-row (a .b .blocks) (a .b .rows) (a .b .held) (a .addrs .now) l h x (a .i) e da lt in
+    let leaves = f .free-unknown .ensures in
+    let left = rw (at-held .with-held .ensures) at leaves in
     let q = t .take-row .ensures l free used h hb in
-    let v = f .free-unknown .ensures B (withoutAddress x l) free used (getD l (a .i) noRow) (addrs-without (a .b .blocks) (a .b .rows) (a .b .held) (a .addrs .now) l h x (a .i) e da lt _ (q .1)) hb du (q .0) in (
+    let v = left B (withoutAddress x l) free used (getD l (a .i) noRow) (addrs-without (a .b .blocks) (a .b .rows) (a .b .held) (a .addrs .now) l h x (a .i) e da lt _ (q .1)) hb du (q .0) in (
       one-less (a .b .blocks) (a .b .rows) (a .b .held) (a .addrs .now) l h x (a .i) e da lt,
       q .1 ∙ ap (addressesOf (a .b .rows)) (sym w),
       v ∙ ap (λ (o : Option (AddressRow (Fixed 32))). blockBytes (dropped (engine B) (withoutAddress x l) (record { free = free; used = used }) o)) (sym (row-is (a .b .blocks) (a .b .rows) (a .b .held) (a .addrs .now) l h x (a .i) e da lt)),
@@ -46,6 +49,7 @@ drop-row-spec =
     (λ c κs. search needs)
     (λ c. search needs)
     (λ c κs. search needs)
+    (λ c κs. rw (c .before .before .with-held .ensures) (search needs))
     (λ c. search needs)
     (λ c. search needs)
     returns-2)

@@ -33,7 +33,7 @@ oldest-unknown-requires c κs =
     let e = c .before in
     let f = e .before .before in
     let p = parts e in
-    ((omega (arith, p .held, p .sized), omega (arith, p .sized-blocks), p .few), (p .once, f .tables-refused .ensures .1 .0 (e .if1 .left)))
+    ((omega (arith, p .held, p .sized), (omega (arith, p .sized-blocks), p .few)), (p .once, f .tables-refused .ensures .1 .0 (e .if1 .left)))
 
 returns-2 : tie.Need-returns-2
 unfolding ifSound

@@ -36,7 +36,7 @@ place-of-requires : tie.Need-place-of-requires
 place-of-requires c κs =
     let e = c .before .before in
     let p = parts e in
-    ((omega (arith, c .before .if2 .left, p .held, p .sized), omega (arith, p .sized-blocks), p .few), e .before .before .tables-refused .ensures .1 .0 (e .if1 .left))
+    ((omega (arith, c .before .if2 .left, p .held, p .sized), (omega (arith, p .sized-blocks), p .few)), e .before .before .tables-refused .ensures .1 .0 (e .if1 .left))
 
 returns-3 : tie.Need-returns-3
 unfolding ifSound

@@ -42,7 +42,7 @@ all-cached-requires c κs =
     let e = c .before .before in
     let f = e .before .before in
     let p = parts e in
-    ((omega (arith, p .held, p .sized), omega (arith, p .sized-blocks), p .few), f .tables-refused .ensures .1 .0 (e .if1 .left))
+    ((omega (arith, p .held, p .sized), (omega (arith, p .sized-blocks), p .few)), f .tables-refused .ensures .1 .0 (e .if1 .left))
 
 returns-3 : tie.Need-returns-3
 unfolding ifSound
