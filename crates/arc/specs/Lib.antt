@@ -1,0 +1,15 @@
+pub mod Policy
+pub mod Arc
+pub mod ArcWorked
+pub mod LruServes
+pub mod Tally
+pub mod ArcMid
+pub mod ArcRuns
+pub mod ArcStore
+pub mod ArcStep
+pub mod ArcSays
+pub mod PlainRows
+pub mod Promise
+pub mod ArcFair
+pub mod ArcLaws
+pub mod ArcFew
