@@ -13,3 +13,7 @@ pub mod Promise
 pub mod ArcFair
 pub mod ArcLaws
 pub mod ArcFew
+pub mod ArcLent
+pub mod ArcRefused
+pub mod ArcExactly
+pub mod ArcLentLaws
