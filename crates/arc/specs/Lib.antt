@@ -17,3 +17,5 @@ pub mod ArcLent
 pub mod ArcRefused
 pub mod ArcExactly
 pub mod ArcLentLaws
+pub mod ArcDemand
+pub mod ArcDemandLaws
