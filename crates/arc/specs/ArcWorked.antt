@@ -225,7 +225,8 @@ table =
       from = noLists;
       over = start 1 (0 ∷ 1 ∷ 2 ∷ []);
       seen = record {
-        said = says (read 0) miss 1 0 ∷ says (read 0) hit 0 0 ∷ says (read 1) miss 1 0 ∷ says (read 1) hit 0 0 ∷ says (through 2 1) sameBlock 0 1 ∷ [];
+        said = says (read 0) miss 1 0 ∷ says (read 0) hit 0 0 ∷ says (read 1) miss 1 0 ∷ says (read 1) hit 0 0
+            ∷ says (through 2 1) sameBlock 0 1 ∷ [];
         returned = 0 ∷ 0 ∷ 1 ∷ 1 ∷ [];
         lists = lists (2 ∷ []) ([]) ([]) (1 ∷ []) ([]) 0;
         box = record { rows = clean 1 1 ∷ clean 2 1 ∷ []; free = []; used = blockRow 1 0 ∷ []; flash = 1 ∷ []; disk = 0 ∷ 1 ∷ 1 ∷ [] };
@@ -659,7 +660,13 @@ table =
         said = says (back 0 5) newBlock 1 0 ∷ says (back 1 6) newBlock 1 0 ∷ says (flush 1) done 0 1 ∷ [];
         returned = [];
         lists = lists (0 ∷ 1 ∷ []) ([]) ([]) ([]) ([]) 0;
-        box = record { rows = clean 0 5 ∷ dirty 1 6 ∷ []; free = []; used = blockRow 5 0 ∷ blockRow 6 1 ∷ []; flash = 5 ∷ 6 ∷ []; disk = 5 ∷ 1 ∷ 2 ∷ [] };
+        box = record {
+          rows = clean 0 5 ∷ dirty 1 6 ∷ [];
+          free = [];
+          used = blockRow 5 0 ∷ blockRow 6 1 ∷ [];
+          flash = 5 ∷ 6 ∷ [];
+          disk = 5 ∷ 1 ∷ 2 ∷ [];
+        };
       };
     }
     ∷ []

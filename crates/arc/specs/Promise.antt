@@ -6,15 +6,16 @@ use mathlib.Core.Option.{Option, none, some}
 use Prim.Native.Nat.{ℕ, zero, suc, _≤_, _<_}
 use lib.Dec.{eqb}
 use lib.ListN.{length, set, getD}
-use Rattle.paper.specs.Cache.{Numbers, Hashing, AddressRow, Box, Request, blockOf, cleaned, partly, reach, cleanTo, rowOf, Call, read, through, back, invalidate}
-use Rattle.paper.specs.Cache.{look, flush, Within, onDisk, rowWithBlock, answer, backRequest, writeInvalidate, lookAs, flushed, serve, fresh}
+use Rattle.paper.specs.Cache.{Numbers, Hashing, AddressRow, Box, Request, blockOf, cleaned, partly, reach, cleanTo, rowOf, Call, read, through, back}
+use Rattle.paper.specs.Cache.{invalidate, look, flush, Within, onDisk, rowWithBlock, answer, backRequest, writeInvalidate, lookAs, flushed, serve, fresh}
 use Rattle.paper.specs.KeyedLaws.{eqb→≡, eqb-swap, All, all-left, all-right, all-map, find-some}
 use Rattle.paper.specs.Machines.{plainNext, plainBlock, writtenBy, TrueFingerprints, NoTwoShare}
 use Rattle.paper.specs.Sound.{Sound, sound-onDisk, sound-cleanTo, sound-step, sound-serve}
 use Rattle.paper.specs.Faithful.{at, at-set-same, at-set-other, all-at, RowTrue, BlockTrue, Faithful, FaithfulBut, faithful-step}
 use Rattle.paper.specs.PlainDisk.{ifCached-some, clean-is-plain, flush-whole, faithful-serve}
 use Rattle.arc.specs.PlainRows.{Only, row-clean, miss-clean, but, but-set, hit-block, still-clean}
-use Rattle.arc.specs.Policy.{Ran, Policy, Served, serveBy, readBy, throughBy, backBy, answeredBy, ThroughoutBy, EachBy, ReturnsPlain, FlushesPlain, writtenIn, lru}
+use Rattle.arc.specs.Policy.{Ran, Policy, Served, serveBy, readBy, throughBy, backBy, answeredBy, ThroughoutBy, EachBy, ReturnsPlain}
+use Rattle.arc.specs.Policy.{FlushesPlain, writtenIn, lru}
 
 -- A request that tells the truth: its fingerprint is its block's, its block is the plain disk's, and it is clean only where the disk is up to date
 pub record True {F X : Type 0} (H : Hashing F X) (In : X → Type 0) (plain : List X) (s : Box F X) (q : Request F X) : Type 0 where
@@ -44,11 +45,13 @@ pub record Promise {F X S : Type 0} (H : Hashing F X) (N : Numbers) (pol : Polic
   -- 1. The invariant says no less than the structure that every box has.
   pub sound : (k : S) (s : Box F X) → Inv k s → Sound H N s
   -- 2. It doesn't depend on the blocks of flash and disk, nor on which rows are dirty. (A write through's block, flush, a partial flush.)
-  pub shape : (k : S) (s s′ : Box F X) → Alike (s .rows) (s′ .rows) → s′ .free ≡ s .free → s′ .used ≡ s .used → Sound H N s′ → Inv k s → Inv k s′
+  pub shape : (k : S) (s s′ : Box F X) → Alike (s .rows) (s′ .rows) → s′ .free ≡ s .free → s′ .used ≡ s .used → Sound H N s′
+      → Inv k s → Inv k s′
   -- 3. It outlasts a row that a write invalidate takes out, its address leaving the policy's state,
   pub invalidates : (k : S) (s : Box F X) (a : ℕ) (b : X) → Inv k s → a < N .P → Inv (pol .leave a k) ((writeInvalidate H s a b) .box)
   -- 4. and the step of any request within the disk.
-  pub steps : (k : S) (s : Box F X) (q : Request F X) → Inv k s → q .address < N .P → Inv ((pol .run k s q) .kept) ((pol .run k s q) .stepped .box)
+  pub steps : (k : S) (s : Box F X) (q : Request F X) → Inv k s → q .address < N .P
+      → Inv ((pol .run k s q) .kept) ((pol .run k s q) .stepped .box)
   -- 5. The step of a true request, from a box that is faithful but at its address, leaves a faithful box.
   pub faithful : (In : X → Type 0) → Only H In → (plain : List X) (k : S) (s : Box F X) (q : Request F X) → Inv k s
       → FaithfulBut H In (q .address) (N .P) plain s → q .address < N .P → True H In plain s q
@@ -207,11 +210,13 @@ all-mem [] = tt
 all-mem (x ∷ xs) = (List·Memᴰ·head refl, all-map (λ b. List·Memᴰ b xs) (λ b. List·Memᴰ b (x ∷ xs)) (λ b h. List·Memᴰ·tail h) xs (all-mem xs))
 
 -- The laws of every list of calls from a fresh box, of any policy that promises: `k` is the policy's first state.
-pub record OnCalls {F X S : Type 0} (H : Hashing F X) (N : Numbers) (pol : Policy F X S) (Inv : S → Box F X → Type 0) (k : S) (flash disk : List X) (cs : List (Call X)) : Type 0 where
+pub record OnCalls {F X S : Type 0} (H : Hashing F X) (N : Numbers) (pol : Policy F X S) (Inv : S → Box F X → Type 0) (k : S) (flash disk : List X)
+    (cs : List (Call X)) : Type 0 where
   -- with no premise
   pub inv : ThroughoutBy H pol (λ k s plain. Inv k s) k (fresh (N .d) flash disk) disk cs
   -- under the premise, of the first plain disk and the blocks written: the rows have the plain disk's fingerprints, and the block rows their blocks';
-  pub fingerprints : NoTwoShare H (disk ++ writtenIn cs) → ThroughoutBy H pol (λ k s plain. TrueFingerprints H s plain) k (fresh (N .d) flash disk) disk cs
+  pub fingerprints : NoTwoShare H (disk ++ writtenIn cs)
+      → ThroughoutBy H pol (λ k s plain. TrueFingerprints H s plain) k (fresh (N .d) flash disk) disk cs
   -- "a user reads the plain disk";
   pub blocks : NoTwoShare H (disk ++ writtenIn cs) → EachBy H pol (ReturnsPlain H pol) k (fresh (N .d) flash disk) disk cs
   -- after each full flush the disk is the plain disk;
