@@ -669,6 +669,75 @@ table =
         };
       };
     }
+    -- from a given state: B1 and B2 would pass C and neither is empty: B1's oldest, 0, is evicted
+    ∷ record {
+      C = 2;
+      X = 0;
+      from = lists (3 ∷ []) (4 ∷ []) (0 ∷ []) (1 ∷ []) ([]) 0;
+      over = record {
+        rows = clean 0 0 ∷ clean 1 1 ∷ clean 3 3 ∷ clean 4 4 ∷ [];
+        free = [];
+        used = blockRow 3 0 ∷ blockRow 4 1 ∷ [];
+        flash = 3 ∷ 4 ∷ [];
+        disk = 0 ∷ 1 ∷ 2 ∷ 3 ∷ 4 ∷ [];
+      };
+      seen = record {
+        said = says (read 2) miss 1 0 ∷ [];
+        returned = 2 ∷ [];
+        lists = lists (2 ∷ []) (4 ∷ []) (3 ∷ []) (1 ∷ []) ([]) 0;
+        box = record {
+          rows = clean 1 1 ∷ clean 3 3 ∷ clean 4 4 ∷ clean 2 2 ∷ [];
+          free = [];
+          used = blockRow 4 1 ∷ blockRow 2 0 ∷ [];
+          flash = 2 ∷ 4 ∷ [];
+          disk = 0 ∷ 1 ∷ 2 ∷ 3 ∷ 4 ∷ [];
+        };
+      };
+    }
+    -- from a given state: a hit in B1 raises p to 1 before the insertion, so the replacement takes from T2, not from T1
+    ∷ record {
+      C = 2;
+      X = 0;
+      from = lists (3 ∷ []) (4 ∷ []) (0 ∷ []) ([]) ([]) 0;
+      over = record {
+        rows = clean 0 0 ∷ clean 3 3 ∷ clean 4 4 ∷ [];
+        free = [];
+        used = blockRow 3 0 ∷ blockRow 4 1 ∷ [];
+        flash = 3 ∷ 4 ∷ [];
+        disk = 0 ∷ 1 ∷ 2 ∷ 3 ∷ 4 ∷ [];
+      };
+      seen = record {
+        said = says (read 0) miss 1 0 ∷ [];
+        returned = 0 ∷ [];
+        lists = lists (3 ∷ []) (0 ∷ []) ([]) (4 ∷ []) ([]) 1;
+        box = record {
+          rows = clean 3 3 ∷ clean 4 4 ∷ clean 0 0 ∷ [];
+          free = [];
+          used = blockRow 3 0 ∷ blockRow 0 1 ∷ [];
+          flash = 3 ∷ 0 ∷ [];
+          disk = 0 ∷ 1 ∷ 2 ∷ 3 ∷ 4 ∷ [];
+        };
+      };
+    }
+    -- from a given state: a free block row is taken before the block of 0, which no address of T1 or T2 has
+    ∷ record {
+      C = 3;
+      X = 0;
+      from = lists (1 ∷ []) ([]) (0 ∷ []) ([]) ([]) 0;
+      over = record { rows = clean 0 0 ∷ clean 1 1 ∷ []; free = 2 ∷ []; used = blockRow 0 0 ∷ blockRow 1 1 ∷ []; flash = 0 ∷ 1 ∷ 9 ∷ []; disk = 0 ∷ 1 ∷ 2 ∷ [] };
+      seen = record {
+        said = says (read 2) miss 1 0 ∷ [];
+        returned = 2 ∷ [];
+        lists = lists (1 ∷ 2 ∷ []) ([]) (0 ∷ []) ([]) ([]) 0;
+        box = record {
+          rows = clean 0 0 ∷ clean 1 1 ∷ clean 2 2 ∷ [];
+          free = [];
+          used = blockRow 0 0 ∷ blockRow 1 1 ∷ blockRow 2 2 ∷ [];
+          flash = 0 ∷ 1 ∷ 2 ∷ [];
+          disk = 0 ∷ 1 ∷ 2 ∷ [];
+        };
+      };
+    }
     ∷ []
 
 pub worked-states : map play table ≡ map (λ e. e .seen) table
