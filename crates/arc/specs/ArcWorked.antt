@@ -724,7 +724,13 @@ table =
       C = 3;
       X = 0;
       from = lists (1 ∷ []) ([]) (0 ∷ []) ([]) ([]) 0;
-      over = record { rows = clean 0 0 ∷ clean 1 1 ∷ []; free = 2 ∷ []; used = blockRow 0 0 ∷ blockRow 1 1 ∷ []; flash = 0 ∷ 1 ∷ 9 ∷ []; disk = 0 ∷ 1 ∷ 2 ∷ [] };
+      over = record {
+        rows = clean 0 0 ∷ clean 1 1 ∷ [];
+        free = 2 ∷ [];
+        used = blockRow 0 0 ∷ blockRow 1 1 ∷ [];
+        flash = 0 ∷ 1 ∷ 9 ∷ [];
+        disk = 0 ∷ 1 ∷ 2 ∷ [];
+      };
       seen = record {
         said = says (read 2) miss 1 0 ∷ [];
         returned = 2 ∷ [];
