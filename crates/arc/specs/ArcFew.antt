@@ -93,19 +93,20 @@ module _ {F X : Type 0} (H : Hashing F X) (Z : Sizes) (c1 : 1 ≤ Z .C) where
   unfolding answer
   answer-few w b more t f h = let f₁ = f .1 in (f .0, omega (arith, f₁, h))
 
-  -- and a call at most one more: its counters fit in 64 bits wherever 9 isn't given
+  -- and a call at most one more: its counters fit in 64 bits wherever 9 isn't given. A read, whatever block a miss takes:
+  pub arc-read-few : (l : Lists) (s : Box F X) (a : ℕ) (x : X) (o : Option (AddressRow F)) → ArcSound H Z l s → FewBy H (mOf Z + 1) ((readBy H (arc H Z) l s a x o) .outcome)
+  unfolding readBy answeredBy
+  arc-read-few l s a x (some r) h =
+      let b = blockOf H (r .fingerprint) (s .used) (s .flash) in
+      let q : Request F X = record { address = a; fingerprint = r .fingerprint; block = b; dirty = r .dirty } in
+      answer-few hit (some b) 0 ((arcStep H Z l s q) .stepped) (step-few l s q h) (omega arith)
+  arc-read-few l s a x none h =
+      let q : Request F X = record { address = a; fingerprint = H .hash x; block = x; dirty = false } in
+      answer-few miss (some x) 0 ((arcStep H Z l s q) .stepped) (step-few l s q h) (omega arith)
+
   pub arc-serve-few : (l : Lists) (s : Box F X) (c : Call X) → ArcSound H Z l s → FewBy H (mOf Z + 1) ((serveBy H (arc H Z) l s c) .outcome)
-  unfolding serveBy readBy answeredBy throughBy backBy writeInvalidate lookAs flushed
-  arc-serve-few l s (read a) h = go (getD (s .disk) a (H .blank)) (rowWithBlock H s a)
-    where
-      go : (b : X) (o : Option (AddressRow F)) → FewBy H (mOf Z + 1) ((readBy H (arc H Z) l s a b o) .outcome)
-      go x (some r) =
-          let b = blockOf H (r .fingerprint) (s .used) (s .flash) in
-          let q : Request F X = record { address = a; fingerprint = r .fingerprint; block = b; dirty = r .dirty } in
-          answer-few hit (some b) 0 ((arcStep H Z l s q) .stepped) (step-few l s q h) (omega arith)
-      go b none =
-          let q : Request F X = record { address = a; fingerprint = H .hash b; block = b; dirty = false } in
-          answer-few miss (some b) 0 ((arcStep H Z l s q) .stepped) (step-few l s q h) (omega arith)
+  unfolding serveBy answeredBy throughBy backBy writeInvalidate lookAs flushed
+  arc-serve-few l s (read a) h = arc-read-few l s a (getD (s .disk) a (H .blank)) (rowWithBlock H s a) h
   arc-serve-few l s (through a b) h =
       let q : Request F X = record { address = a; fingerprint = H .hash b; block = b; dirty = false } in
       answer-few (sameOrNew H s b) none 1 ((arcStep H Z l (onDisk H s a b) q) .stepped)

@@ -1,6 +1,7 @@
 -- What a reader must believe, in this order: the calls over a policy, D-ARC's lists and step, worked states, the lists in lent bytes and the refusals,
 -- worked refusals, and demand 3 for D-ARC boxes.
 pub mod Policy
+pub mod Folder
 pub mod Arc
 pub mod ArcWorked
 pub mod ArcLent
@@ -11,6 +12,7 @@ pub mod ArcDemand
 pub mod ArcDemandLaws
 pub mod LruServes
 pub mod Promise
+pub mod FolderLaws
 pub mod ArcLaws
 pub mod ArcSays
 pub mod ArcFew

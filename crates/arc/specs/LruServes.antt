@@ -8,7 +8,7 @@ use Rattle.paper.specs.Cache.{rowWithBlock, readAs, writeThrough, writeBack, se
 use Rattle.arc.specs.Policy.{serveBy, readBy, throughBy, backBy, answeredBy, lru}
 
 module _ {F X : Type 0} (H : Hashing F X) (N : Numbers) (s : Box F X) where
-  lru-reads : (a : ℕ) (x : X) (o : Option (AddressRow F)) → (readBy H (lru H N) tt s a x o) .outcome ≡ readAs H (N .m) s a x o
+  pub lru-reads : (a : ℕ) (x : X) (o : Option (AddressRow F)) → (readBy H (lru H N) tt s a x o) .outcome ≡ readAs H (N .m) s a x o
   unfolding readBy answeredBy readAs
   lru-reads a x (some r) = refl
   lru-reads a x none = refl

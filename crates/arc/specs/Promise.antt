@@ -64,7 +64,7 @@ module _ {F X S : Type 0} (H : Hashing F X) (N : Numbers) (pol : Policy F X S) (
   inv-cleanTo : (k : S) (s : Box F X) (n : ℕ) → Inv k s → Inv k (cleanTo H n s)
   inv-cleanTo k s n i = pr .shape k s (cleanTo H n s) (alike-partly H n (s .rows)) refl refl (sound-cleanTo H N n s (pr .sound k s i)) i
 
-  inv-read : (k : S) (s : Box F X) (a : ℕ) (x : X) (o : Option (AddressRow F)) → Inv k s → a < N .P
+  pub inv-read : (k : S) (s : Box F X) (a : ℕ) (x : X) (o : Option (AddressRow F)) → Inv k s → a < N .P
       → Inv ((readBy H pol k s a x o) .kept) ((readBy H pol k s a x o) .outcome .box)
   unfolding readBy answeredBy answer
   inv-read k s a x (some r) i w =
