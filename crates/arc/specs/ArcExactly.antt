@@ -3,14 +3,16 @@ use mathlib.Core.Path.{_≡_, refl}
 use mathlib.Core.Bool.{false≢true, Bool, true, _&&_, _||_}
 use mathlib.Core.List.{List, [], _∷_}
 use mathlib.Core.Logic.{_↔_, _≢_}
-use Prim.Native.Nat.{ℕ}
-use lib.ListN.{take, drop}
+use Prim.Native.Nat.{ℕ, _*_}
+use lib.ListN.{length, take, drop}
 use Rattle.tables.specs.Unsound.{addressesUnsound, blocksUnsound, dirtyUncached}
 use Rattle.paper.specs.Engine.{engine}
-use Rattle.paper.specs.Lent.{Ask, opening, calling, addressOf, lentBlock, wrongBlock, outside, over, counts, boxIn, test, oneOf}
+use Rattle.paper.specs.Lent.{Ask, opening, calling, addressOf, lentBlock, wrongBlock, otherLength, outside, over, counts, boxIn, test, oneOf}
+use Rattle.paper.specs.BatchLent.{badCount, anyOutside}
 use Rattle.paper.specs.RefusalLaws.{Apart, NoneOf, gives, gives-none, in-first}
 use Rattle.arc.specs.Arc.{Sizes, numbersOf, mOf}
 use Rattle.arc.specs.ArcLent.{ArcLent, unfitArc, listsUnsound, topUncached, topsIn, wrongArcBuffers, arcTests, arcRefusal}
+use Rattle.arc.specs.ArcFolder.{arcFolderTests, arcFolderRefusal}
 
 -- the tests of a call by their numbers
 module _ (Z : Sizes) (t : ArcLent) (q : Ask) where
@@ -91,3 +93,52 @@ arc-exactly-opening Z t =
       gives-0 = gives-none l d;
       no-other = in-first l;
     }
+
+-- a folder read: 10 is "checked after 2", "with 9 checked only before the first" read
+module _ (Z : Sizes) (t : ArcLent) (l buffer : List ℕ) where
+  abbrev pub folder2 : Bool
+  folder2 = wrongArcBuffers Z t || otherLength buffer (length l * Z .B)
+
+  abbrev pub folder6 : Bool
+  folder6 = arc6 Z t (Ask.look 0)
+
+  abbrev pub folder7 : Bool
+  folder7 = arc7 Z t (Ask.look 0)
+
+  abbrev pub folder8 : Bool
+  folder8 = arc8 Z t (Ask.look 0)
+
+  abbrev pub folderNumber : ℕ
+  folderNumber = arcFolderRefusal Z t l buffer
+
+  pub record ArcExactlyFolder : Type 0 where
+    pub gives-11 : folderNumber ≡ 11 ↔ (NoneOf [] × (unfitArc Z ≡ true))
+    pub gives-2 : folderNumber ≡ 2 ↔ (NoneOf (unfitArc Z ∷ []) × (folder2 ≡ true))
+    pub gives-10 : folderNumber ≡ 10 ↔ (NoneOf (unfitArc Z ∷ folder2 ∷ []) × (badCount l ≡ true))
+    pub gives-3 : folderNumber ≡ 3 ↔ (NoneOf (unfitArc Z ∷ folder2 ∷ badCount l ∷ []) × (anyOutside (Z .P) l ≡ true))
+    pub gives-6 : folderNumber ≡ 6 ↔ (NoneOf (unfitArc Z ∷ folder2 ∷ badCount l ∷ anyOutside (Z .P) l ∷ []) × (folder6 ≡ true))
+    pub gives-7 : folderNumber ≡ 7 ↔ (NoneOf (unfitArc Z ∷ folder2 ∷ badCount l ∷ anyOutside (Z .P) l ∷ folder6 ∷ []) × (folder7 ≡ true))
+    pub gives-8 : folderNumber ≡ 8 ↔ (NoneOf (unfitArc Z ∷ folder2 ∷ badCount l ∷ anyOutside (Z .P) l ∷ folder6 ∷ folder7 ∷ []) × (folder8 ≡ true))
+    pub gives-9 : folderNumber ≡ 9
+        ↔ (NoneOf (unfitArc Z ∷ folder2 ∷ badCount l ∷ anyOutside (Z .P) l ∷ folder6 ∷ folder7 ∷ folder8 ∷ []) × (over (t .base .counters) ≡ true))
+    pub gives-0 : folderNumber ≡ 0
+        ↔ NoneOf (unfitArc Z ∷ folder2 ∷ badCount l ∷ anyOutside (Z .P) l ∷ folder6 ∷ folder7 ∷ folder8 ∷ over (t .base .counters) ∷ [])
+    pub no-other : oneOf folderNumber (0 ∷ 11 ∷ 2 ∷ 10 ∷ 3 ∷ 6 ∷ 7 ∷ 8 ∷ 9 ∷ []) ≡ true
+
+  pub arc-exactly-folder : ArcExactlyFolder
+  unfolding arcFolderRefusal
+  arc-exactly-folder =
+      let x = arcFolderTests Z t l buffer in
+      let d : Apart x = (refl, (refl, (refl, (refl, (refl, (refl, (refl, (refl, (refl, tt))))))))) in
+      record {
+        gives-11 = gives [] (test (unfitArc Z) 11) (drop 1 x) d;
+        gives-2 = gives (take 1 x) (test folder2 2) (drop 2 x) d;
+        gives-10 = gives (take 2 x) (test (badCount l) 10) (drop 3 x) d;
+        gives-3 = gives (take 3 x) (test (anyOutside (Z .P) l) 3) (drop 4 x) d;
+        gives-6 = gives (take 4 x) (test folder6 6) (drop 5 x) d;
+        gives-7 = gives (take 5 x) (test folder7 7) (drop 6 x) d;
+        gives-8 = gives (take 6 x) (test folder8 8) (drop 7 x) d;
+        gives-9 = gives (take 7 x) (test (over (t .base .counters)) 9) [] d;
+        gives-0 = gives-none x d;
+        no-other = in-first x;
+      }

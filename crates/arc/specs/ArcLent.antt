@@ -106,20 +106,24 @@ topsIn r t = words (r .t1 + r .t2) t
 abbrev pub wrongArcBuffers : Sizes → ArcLent → Bool
 wrongArcBuffers Z t = wrongBuffers (numbersOf Z) (t .base) || otherLength (t .lists) (mOf Z * 4)
 
+-- the tests of the tables and the lists, which every call but opening makes
+abbrev pub arcTableTests : Sizes → ArcLent → List Test → List Test
+arcTableTests Z t rest =
+    let b = t .base in
+    let s = boxIn (numbersOf Z) b in
+    test (addressesUnsound (Z .P) (mOf Z) (b .n) (b .addresses) || listsUnsound Z (s .rows) (t .sizes) (t .lists)) 6
+    ∷ test (blocksUnsound (Z .C) (b .blocks)) 7
+    ∷ test (dirtyUncached (b .n) (Z .C) (b .addresses) (b .blocks) || topUncached (engine (Z .B)) s (topsIn (t .sizes) (t .lists))) 8
+    ∷ rest
+
 -- "Checked in the order 1, 2, 3, 6, 7, 8, 9, the first that applies. Flush has no 3, look no 9, opening only 1 and 2."; here 11 "in place of 1"
 abbrev pub arcTests : Sizes → ArcLent → Asked → List Test
 arcTests Z t opening = test (unfitArc Z) 11 ∷ test (wrongArcBuffers Z t) 2 ∷ []
 arcTests Z t (calling q) =
-    let b = t .base in
-    let s = boxIn (numbersOf Z) b in
     test (unfitArc Z) 11
     ∷ test (wrongArcBuffers Z t || wrongBlock (Z .B) (lentBlock q)) 2
     ∷ test (outside (Z .P) (addressOf q)) 3
-    ∷ test (addressesUnsound (Z .P) (mOf Z) (b .n) (b .addresses) || listsUnsound Z (s .rows) (t .sizes) (t .lists)) 6
-    ∷ test (blocksUnsound (Z .C) (b .blocks)) 7
-    ∷ test (dirtyUncached (b .n) (Z .C) (b .addresses) (b .blocks) || topUncached (engine (Z .B)) s (topsIn (t .sizes) (t .lists))) 8
-    ∷ test (counts q && over (b .counters)) 9
-    ∷ []
+    ∷ arcTableTests Z t (test (counts q && over (t .base .counters)) 9 ∷ [])
 
 -- the number of a refusal, 0 where the call is served
 unfoldable pub arcRefusal : Sizes → ArcLent → Asked → ℕ
