@@ -99,6 +99,12 @@ module _ (Z : Sizes) (t : ArcLent) (l buffer : List ℕ) where
   abbrev pub folder2 : Bool
   folder2 = wrongArcBuffers Z t || otherLength buffer (length l * Z .B)
 
+  abbrev pub folder3 : Bool
+  folder3 = anyOutside (Z .P) l
+
+  abbrev pub folder9 : Bool
+  folder9 = over (t .base .counters)
+
   abbrev pub folder6 : Bool
   folder6 = arc6 Z t (Ask.look 0)
 
@@ -115,14 +121,13 @@ module _ (Z : Sizes) (t : ArcLent) (l buffer : List ℕ) where
     pub gives-11 : folderNumber ≡ 11 ↔ (NoneOf [] × (unfitArc Z ≡ true))
     pub gives-2 : folderNumber ≡ 2 ↔ (NoneOf (unfitArc Z ∷ []) × (folder2 ≡ true))
     pub gives-10 : folderNumber ≡ 10 ↔ (NoneOf (unfitArc Z ∷ folder2 ∷ []) × (badCount l ≡ true))
-    pub gives-3 : folderNumber ≡ 3 ↔ (NoneOf (unfitArc Z ∷ folder2 ∷ badCount l ∷ []) × (anyOutside (Z .P) l ≡ true))
-    pub gives-6 : folderNumber ≡ 6 ↔ (NoneOf (unfitArc Z ∷ folder2 ∷ badCount l ∷ anyOutside (Z .P) l ∷ []) × (folder6 ≡ true))
-    pub gives-7 : folderNumber ≡ 7 ↔ (NoneOf (unfitArc Z ∷ folder2 ∷ badCount l ∷ anyOutside (Z .P) l ∷ folder6 ∷ []) × (folder7 ≡ true))
-    pub gives-8 : folderNumber ≡ 8 ↔ (NoneOf (unfitArc Z ∷ folder2 ∷ badCount l ∷ anyOutside (Z .P) l ∷ folder6 ∷ folder7 ∷ []) × (folder8 ≡ true))
+    pub gives-3 : folderNumber ≡ 3 ↔ (NoneOf (unfitArc Z ∷ folder2 ∷ badCount l ∷ []) × (folder3 ≡ true))
+    pub gives-6 : folderNumber ≡ 6 ↔ (NoneOf (unfitArc Z ∷ folder2 ∷ badCount l ∷ folder3 ∷ []) × (folder6 ≡ true))
+    pub gives-7 : folderNumber ≡ 7 ↔ (NoneOf (unfitArc Z ∷ folder2 ∷ badCount l ∷ folder3 ∷ folder6 ∷ []) × (folder7 ≡ true))
+    pub gives-8 : folderNumber ≡ 8 ↔ (NoneOf (unfitArc Z ∷ folder2 ∷ badCount l ∷ folder3 ∷ folder6 ∷ folder7 ∷ []) × (folder8 ≡ true))
     pub gives-9 : folderNumber ≡ 9
-        ↔ (NoneOf (unfitArc Z ∷ folder2 ∷ badCount l ∷ anyOutside (Z .P) l ∷ folder6 ∷ folder7 ∷ folder8 ∷ []) × (over (t .base .counters) ≡ true))
-    pub gives-0 : folderNumber ≡ 0
-        ↔ NoneOf (unfitArc Z ∷ folder2 ∷ badCount l ∷ anyOutside (Z .P) l ∷ folder6 ∷ folder7 ∷ folder8 ∷ over (t .base .counters) ∷ [])
+        ↔ (NoneOf (unfitArc Z ∷ folder2 ∷ badCount l ∷ folder3 ∷ folder6 ∷ folder7 ∷ folder8 ∷ []) × (folder9 ≡ true))
+    pub gives-0 : folderNumber ≡ 0 ↔ NoneOf (unfitArc Z ∷ folder2 ∷ badCount l ∷ folder3 ∷ folder6 ∷ folder7 ∷ folder8 ∷ folder9 ∷ [])
     pub no-other : oneOf folderNumber (0 ∷ 11 ∷ 2 ∷ 10 ∷ 3 ∷ 6 ∷ 7 ∷ 8 ∷ 9 ∷ []) ≡ true
 
   pub arc-exactly-folder : ArcExactlyFolder

@@ -20,6 +20,7 @@ use Rattle.arc.specs.Policy as Policy
 use Rattle.arc.specs.Arc as Arc
 use Rattle.arc.specs.Arc.{Sizes}
 use Rattle.arc.specs.ArcLent as Bytes
+use Rattle.arc.specs.ArcFolder.{arcFolderRefusal}
 use Rattle.arc.specs.ArcLent.{ListRecord, ArcLent, ArcAfter, arcRefusal, arcCall, wordBytes}
 
 abbrev numbers : ℕ → ℕ → ℕ → ℕ → Sizes
@@ -128,6 +129,36 @@ table =
 pub refusals-given : map (λ c. arcRefusal (c .numbers) (c .lent) (c .asked)) table ≡ map (λ c. c .number) table
 unfolding arcRefusal Bytes.unfitArc Bytes.words wordBytes Bytes.misnamed Bytes.oversized Bytes.listsUnsound Bytes.topUncached Lent.wrongBuffers Lent.over Lent.boxIn Lent.split Lent.freeSlots Lent.usedRows Engine.fit Rows.rows Rows.flat Rows.zeros Records.addressBytes Records.blockBytes Records.readAddress Records.readBlock addressTable blockTable Records.heldRows Records.blockRows Find.any Find.all Find.same Unsound.elem Unsound.twice Unsound.count Unsound.addressesUnsound Unsound.freeAfterUsed Unsound.eachOnce Unsound.usedTwice Unsound.blocksUnsound Unsound.dirtyUncached
 refusals-given = refl
+
+-- folder reads of these addresses, with a buffer of so many blocks and bytes more
+pub record FolderCase : Type 0 where
+  pub lent : ArcLent
+  pub asked : List ℕ
+  pub buffer : List ℕ
+  pub number : ℕ
+
+abbrev folderAsks : ArcLent → List ℕ → ℕ → ℕ → FolderCase
+folderAsks t l bytes k = record { lent = t; asked = l; buffer = replicate bytes 0; number = k }
+
+abbrev pub folders : List FolderCase
+folders =
+    folderAsks right (1 ∷ 3 ∷ 1 ∷ []) 192 0
+    ∷ folderAsks right [] 0 10
+    ∷ folderAsks right (replicate 64 1) 4096 0
+    ∷ folderAsks right (replicate 65 1) 4160 10
+    -- 2 comes before 10, 10 before 3, 3 before 6
+    ∷ folderAsks right [] 1 2
+    ∷ folderAsks right (1 ∷ []) 63 2
+    ∷ folderAsks right (replicate 65 4) 4160 10
+    ∷ folderAsks right (1 ∷ 4 ∷ []) 128 3
+    ∷ folderAsks (byte 12 1) (1 ∷ 4 ∷ []) 128 3
+    ∷ folderAsks (byte 12 1) (1 ∷ 3 ∷ []) 128 6
+    ∷ folderAsks (box three (sizes 1 1 1 0 0 1) (0 ∷ 3 ∷ 1 ∷ [])) (1 ∷ 3 ∷ []) 128 8
+    ∷ []
+
+pub folder-refusals-given : map (λ c. arcFolderRefusal small (c .lent) (c .asked) (c .buffer)) folders ≡ map (λ c. c .number) folders
+unfolding arcFolderRefusal Bytes.unfitArc Bytes.words wordBytes Bytes.misnamed Bytes.oversized Bytes.listsUnsound Bytes.topUncached Lent.wrongBuffers Lent.over Lent.boxIn Lent.split Lent.freeSlots Lent.usedRows Engine.fit Rows.rows Rows.flat Rows.zeros Records.addressBytes Records.blockBytes Records.readAddress Records.readBlock addressTable blockTable Records.heldRows Records.blockRows Find.any Find.all Find.same Unsound.elem Unsound.twice Unsound.count Unsound.addressesUnsound Unsound.freeAfterUsed Unsound.eachOnce Unsound.usedTwice Unsound.blocksUnsound Unsound.dirtyUncached
+folder-refusals-given = refl
 
 -- A read of address 1 is a hit (nothing is hashed): it goes from T1 to T2, its row and its block row become newest.
 pub a-hit-in-bytes : arcCall small right (Ask.read 1 (filled 0))

@@ -10,7 +10,10 @@ use Rattle.paper.specs.Cache.{AddressRow, Box, Outcome, newest, blockRow, befor
 use Rattle.paper.specs.Cache.{Word, hit, miss, sameBlock, newBlock, fromCache, fromDisk, done}
 use Rattle.paper.specs.Cache.{freed, oldestUnknown, takenUsed, stored, ifCached, answer, dropped, writeInvalidate, lookAs, flushed}
 use Rattle.paper.specs.Worked.{labels, Said}
+use Rattle.paper.specs.Cache.{noCounts}
+use Rattle.paper.specs.Batch.{start, blocksIn}
 use Rattle.arc.specs.Policy.{serveBy, answeredBy, readBy, throughBy, backBy}
+use Rattle.arc.specs.Folder.{FolderBy, folderRead, folder}
 use Rattle.arc.specs.Arc.{Sizes, Lists, noLists, arc, listOf, newP, takesT1, topRows, rowOut, evicted, roomInB, replace, manage, check, hasRow}
 use Rattle.arc.specs.Arc.{cleared, takenBy, storedIn, blockNewest, inserted, parted, checked, toT2, joined, arcStepAs, arcStep}
 
@@ -57,8 +60,8 @@ plays Z l s (c ∷ cs) = let o = serveBy labels (arc labels Z) l s c in after c 
 abbrev pub play : Example → State
 play e = plays (record { B = 1; P = length (e .over .disk); C = e .C; X = e .X }) (e .from) (e .over) (map (λ x. x .call) (e .seen .said))
 
-abbrev start : ℕ → List ℕ → Box ℕ ℕ
-start C disk = fresh C (replicate C 99) disk
+abbrev new : ℕ → List ℕ → Box ℕ ℕ
+new C disk = fresh C (replicate C 99) disk
 
 abbrev pub table : List Example
 table =
@@ -67,7 +70,7 @@ table =
       C = 1;
       X = 0;
       from = noLists;
-      over = start 1 (0 ∷ 1 ∷ 2 ∷ []);
+      over = new 1 (0 ∷ 1 ∷ 2 ∷ []);
       seen = record {
         said = says (read 0) miss 1 0 ∷ says (read 0) hit 0 0 ∷ says (read 0) hit 0 0 ∷ [];
         returned = 0 ∷ 0 ∷ 0 ∷ [];
@@ -80,7 +83,7 @@ table =
       C = 1;
       X = 0;
       from = noLists;
-      over = start 1 (0 ∷ 1 ∷ 2 ∷ []);
+      over = new 1 (0 ∷ 1 ∷ 2 ∷ []);
       seen = record {
         said = says (read 0) miss 1 0 ∷ says (read 1) miss 1 0 ∷ [];
         returned = 0 ∷ 1 ∷ [];
@@ -93,7 +96,7 @@ table =
       C = 1;
       X = 0;
       from = noLists;
-      over = start 1 (0 ∷ 1 ∷ 2 ∷ []);
+      over = new 1 (0 ∷ 1 ∷ 2 ∷ []);
       seen = record {
         said = says (read 0) miss 1 0 ∷ says (read 1) miss 1 0 ∷ says (read 2) miss 1 0 ∷ [];
         returned = 0 ∷ 1 ∷ 2 ∷ [];
@@ -106,7 +109,7 @@ table =
       C = 1;
       X = 0;
       from = noLists;
-      over = start 1 (0 ∷ 1 ∷ 2 ∷ []);
+      over = new 1 (0 ∷ 1 ∷ 2 ∷ []);
       seen = record {
         said = says (read 0) miss 1 0 ∷ says (read 0) hit 0 0 ∷ says (read 1) miss 1 0 ∷ says (read 2) miss 1 0 ∷ [];
         returned = 0 ∷ 0 ∷ 1 ∷ 2 ∷ [];
@@ -119,7 +122,7 @@ table =
       C = 1;
       X = 0;
       from = noLists;
-      over = start 1 (0 ∷ 1 ∷ 2 ∷ []);
+      over = new 1 (0 ∷ 1 ∷ 2 ∷ []);
       seen = record {
         said = says (read 0) miss 1 0 ∷ says (read 1) miss 1 0 ∷ says (read 0) miss 1 0 ∷ [];
         returned = 0 ∷ 1 ∷ 0 ∷ [];
@@ -132,7 +135,7 @@ table =
       C = 1;
       X = 0;
       from = noLists;
-      over = start 1 (0 ∷ 1 ∷ 2 ∷ []);
+      over = new 1 (0 ∷ 1 ∷ 2 ∷ []);
       seen = record {
         said = says (read 0) miss 1 0 ∷ says (read 1) miss 1 0 ∷ says (read 0) miss 1 0 ∷ says (read 1) miss 1 0 ∷ [];
         returned = 0 ∷ 1 ∷ 0 ∷ 1 ∷ [];
@@ -145,7 +148,7 @@ table =
       C = 1;
       X = 0;
       from = noLists;
-      over = start 1 (0 ∷ 1 ∷ 2 ∷ []);
+      over = new 1 (0 ∷ 1 ∷ 2 ∷ []);
       seen = record {
         said = says (read 0) miss 1 0 ∷ says (read 1) miss 1 0 ∷ says (read 0) miss 1 0 ∷ says (read 1) miss 1 0 ∷ says (read 0) miss 1 0 ∷ [];
         returned = 0 ∷ 1 ∷ 0 ∷ 1 ∷ 0 ∷ [];
@@ -158,7 +161,7 @@ table =
       C = 1;
       X = 0;
       from = noLists;
-      over = start 1 (0 ∷ 1 ∷ 2 ∷ []);
+      over = new 1 (0 ∷ 1 ∷ 2 ∷ []);
       seen = record {
         said = says (read 0) miss 1 0 ∷ says (read 0) hit 0 0 ∷ says (read 1) miss 1 0 ∷ says (read 0) miss 1 0 ∷ [];
         returned = 0 ∷ 0 ∷ 1 ∷ 0 ∷ [];
@@ -171,7 +174,7 @@ table =
       C = 1;
       X = 0;
       from = noLists;
-      over = start 1 (0 ∷ 1 ∷ 2 ∷ []);
+      over = new 1 (0 ∷ 1 ∷ 2 ∷ []);
       seen = record {
         said = says (read 0) miss 1 0 ∷ says (read 1) miss 1 0 ∷ says (read 0) miss 1 0 ∷ says (through 2 0) sameBlock 0 1 ∷ [];
         returned = 0 ∷ 1 ∷ 0 ∷ [];
@@ -184,7 +187,7 @@ table =
       C = 1;
       X = 0;
       from = noLists;
-      over = start 1 (0 ∷ 1 ∷ 2 ∷ []);
+      over = new 1 (0 ∷ 1 ∷ 2 ∷ []);
       seen = record {
         said = says (read 0) miss 1 0 ∷ says (read 1) miss 1 0 ∷ says (through 2 1) sameBlock 0 1 ∷ [];
         returned = 0 ∷ 1 ∷ [];
@@ -197,7 +200,7 @@ table =
       C = 1;
       X = 0;
       from = noLists;
-      over = start 1 (0 ∷ 1 ∷ 2 ∷ []);
+      over = new 1 (0 ∷ 1 ∷ 2 ∷ []);
       seen = record {
         said = says (read 0) miss 1 0 ∷ says (through 1 0) sameBlock 0 1 ∷ [];
         returned = 0 ∷ [];
@@ -210,7 +213,7 @@ table =
       C = 1;
       X = 0;
       from = noLists;
-      over = start 1 (0 ∷ 1 ∷ 2 ∷ []);
+      over = new 1 (0 ∷ 1 ∷ 2 ∷ []);
       seen = record {
         said = says (back 0 5) newBlock 1 0 ∷ says (through 1 5) sameBlock 0 2 ∷ [];
         returned = [];
@@ -223,7 +226,7 @@ table =
       C = 1;
       X = 0;
       from = noLists;
-      over = start 1 (0 ∷ 1 ∷ 2 ∷ []);
+      over = new 1 (0 ∷ 1 ∷ 2 ∷ []);
       seen = record {
         said = says (read 0) miss 1 0 ∷ says (read 0) hit 0 0 ∷ says (read 1) miss 1 0 ∷ says (read 1) hit 0 0
             ∷ says (through 2 1) sameBlock 0 1 ∷ [];
@@ -237,7 +240,7 @@ table =
       C = 1;
       X = 0;
       from = noLists;
-      over = start 1 (0 ∷ 1 ∷ 2 ∷ []);
+      over = new 1 (0 ∷ 1 ∷ 2 ∷ []);
       seen = record {
         said = says (read 0) miss 1 0 ∷ says (read 0) hit 0 0 ∷ says (through 1 0) sameBlock 0 1 ∷ [];
         returned = 0 ∷ 0 ∷ [];
@@ -250,7 +253,7 @@ table =
       C = 1;
       X = 0;
       from = noLists;
-      over = start 1 (0 ∷ 1 ∷ 2 ∷ []);
+      over = new 1 (0 ∷ 1 ∷ 2 ∷ []);
       seen = record {
         said = says (read 0) miss 1 0 ∷ says (read 1) miss 1 0 ∷ says (through 1 0) newBlock 1 1 ∷ says (read 0) hit 0 0 ∷ [];
         returned = 0 ∷ 1 ∷ 0 ∷ [];
@@ -263,7 +266,7 @@ table =
       C = 1;
       X = 0;
       from = noLists;
-      over = start 1 (0 ∷ 1 ∷ 2 ∷ []);
+      over = new 1 (0 ∷ 1 ∷ 2 ∷ []);
       seen = record {
         said = says (read 0) miss 1 0 ∷ says (read 0) hit 0 0 ∷ says (through 1 0) sameBlock 0 1 ∷ says (read 0) hit 0 0 ∷ [];
         returned = 0 ∷ 0 ∷ 0 ∷ [];
@@ -276,7 +279,7 @@ table =
       C = 1;
       X = 0;
       from = noLists;
-      over = start 1 (0 ∷ 1 ∷ 2 ∷ []);
+      over = new 1 (0 ∷ 1 ∷ 2 ∷ []);
       seen = record {
         said = says (read 0) miss 1 0 ∷ says (through 0 1) newBlock 1 1 ∷ [];
         returned = 0 ∷ [];
@@ -289,7 +292,7 @@ table =
       C = 2;
       X = 0;
       from = noLists;
-      over = start 2 (0 ∷ 1 ∷ 2 ∷ 3 ∷ 4 ∷ []);
+      over = new 2 (0 ∷ 1 ∷ 2 ∷ 3 ∷ 4 ∷ []);
       seen = record {
         said = says (read 0) miss 1 0 ∷ says (read 1) miss 1 0 ∷ says (through 0 1) sameBlock 0 1 ∷ [];
         returned = 0 ∷ 1 ∷ [];
@@ -308,7 +311,7 @@ table =
       C = 1;
       X = 0;
       from = noLists;
-      over = start 1 (0 ∷ 1 ∷ 2 ∷ []);
+      over = new 1 (0 ∷ 1 ∷ 2 ∷ []);
       seen = record {
         said = says (read 0) miss 1 0 ∷ says (read 0) hit 0 0 ∷ says (through 0 1) newBlock 1 1 ∷ [];
         returned = 0 ∷ 0 ∷ [];
@@ -321,7 +324,7 @@ table =
       C = 1;
       X = 0;
       from = noLists;
-      over = start 1 (0 ∷ 1 ∷ 2 ∷ []);
+      over = new 1 (0 ∷ 1 ∷ 2 ∷ []);
       seen = record {
         said = says (read 0) miss 1 0 ∷ says (read 2) miss 1 0 ∷ says (through 0 1) newBlock 1 1 ∷ [];
         returned = 0 ∷ 2 ∷ [];
@@ -334,7 +337,7 @@ table =
       C = 1;
       X = 0;
       from = noLists;
-      over = start 1 (0 ∷ 1 ∷ 2 ∷ []);
+      over = new 1 (0 ∷ 1 ∷ 2 ∷ []);
       seen = record {
         said = says (read 0) miss 1 0 ∷ says (read 1) miss 1 0 ∷ says (through 0 1) sameBlock 0 1 ∷ [];
         returned = 0 ∷ 1 ∷ [];
@@ -347,7 +350,7 @@ table =
       C = 1;
       X = 0;
       from = noLists;
-      over = start 1 (0 ∷ 1 ∷ 2 ∷ []);
+      over = new 1 (0 ∷ 1 ∷ 2 ∷ []);
       seen = record {
         said = says (read 0) miss 1 0 ∷ says (read 0) hit 0 0 ∷ says (read 2) miss 1 0 ∷ says (through 0 1) newBlock 1 1 ∷ [];
         returned = 0 ∷ 0 ∷ 2 ∷ [];
@@ -360,7 +363,7 @@ table =
       C = 1;
       X = 0;
       from = noLists;
-      over = start 1 (0 ∷ 1 ∷ 2 ∷ []);
+      over = new 1 (0 ∷ 1 ∷ 2 ∷ []);
       seen = record {
         said = says (back 0 5) newBlock 1 0 ∷ says (read 1) miss 1 1 ∷ [];
         returned = 1 ∷ [];
@@ -373,7 +376,7 @@ table =
       C = 1;
       X = 0;
       from = noLists;
-      over = start 1 (0 ∷ 1 ∷ 2 ∷ []);
+      over = new 1 (0 ∷ 1 ∷ 2 ∷ []);
       seen = record {
         said = says (read 0) miss 1 0 ∷ says (back 1 7) newBlock 1 0 ∷ says (through 2 7) sameBlock 0 1 ∷ says (read 0) miss 1 1 ∷ [];
         returned = 0 ∷ 0 ∷ [];
@@ -386,7 +389,7 @@ table =
       C = 1;
       X = 0;
       from = noLists;
-      over = start 1 (0 ∷ 1 ∷ 2 ∷ []);
+      over = new 1 (0 ∷ 1 ∷ 2 ∷ []);
       seen = record {
         said = says (read 0) miss 1 0 ∷ says (back 0 7) newBlock 1 0 ∷ says (through 1 7) sameBlock 0 1 ∷ says (read 2) miss 1 1 ∷ [];
         returned = 0 ∷ 2 ∷ [];
@@ -399,7 +402,7 @@ table =
       C = 2;
       X = 1;
       from = noLists;
-      over = start 2 (0 ∷ 0 ∷ 1 ∷ 2 ∷ 3 ∷ 4 ∷ []);
+      over = new 2 (0 ∷ 0 ∷ 1 ∷ 2 ∷ 3 ∷ 4 ∷ []);
       seen = record {
         said = says (read 0) miss 1 0 ∷ says (read 1) miss 0 0 ∷ says (read 2) miss 1 0 ∷ says (read 3) miss 1 0 ∷ [];
         returned = 0 ∷ 0 ∷ 1 ∷ 2 ∷ [];
@@ -418,7 +421,7 @@ table =
       C = 2;
       X = 1;
       from = noLists;
-      over = start 2 (0 ∷ 0 ∷ 1 ∷ 2 ∷ 3 ∷ 4 ∷ []);
+      over = new 2 (0 ∷ 0 ∷ 1 ∷ 2 ∷ 3 ∷ 4 ∷ []);
       seen = record {
         said = says (read 0) miss 1 0 ∷ says (read 2) miss 1 0 ∷ says (read 2) hit 0 0 ∷ says (read 3) miss 1 0 ∷ says (invalidate 3 8) newBlock 0 1
             ∷ says (invalidate 0 8) newBlock 0 1 ∷ says (invalidate 2 9) newBlock 0 1 ∷ says (flush 5) done 0 0 ∷ says (look 0) fromDisk 0 0 ∷ [];
@@ -432,7 +435,7 @@ table =
       C = 1;
       X = 0;
       from = noLists;
-      over = start 1 (0 ∷ 1 ∷ 2 ∷ []);
+      over = new 1 (0 ∷ 1 ∷ 2 ∷ []);
       seen = record {
         said = says (read 0) miss 1 0 ∷ says (read 1) miss 1 0 ∷ says (through 1 0) newBlock 1 1 ∷ says (invalidate 1 3) newBlock 0 1
             ∷ says (invalidate 0 3) newBlock 0 1 ∷ [];
@@ -446,7 +449,7 @@ table =
       C = 2;
       X = 1;
       from = noLists;
-      over = start 2 (0 ∷ 0 ∷ 1 ∷ 2 ∷ 3 ∷ 4 ∷ []);
+      over = new 2 (0 ∷ 0 ∷ 1 ∷ 2 ∷ 3 ∷ 4 ∷ []);
       seen = record {
         said = says (back 0 7) newBlock 1 0 ∷ says (back 2 7) sameBlock 0 0 ∷ says (read 1) miss 1 0 ∷ says (flush 5) done 0 2
             ∷ says (look 2) fromCache 0 0 ∷ says (read 4) miss 1 0 ∷ says (look 0) fromDisk 0 0 ∷ [];
@@ -616,7 +619,7 @@ table =
       C = 1;
       X = 1;
       from = noLists;
-      over = start 1 (0 ∷ 1 ∷ 2 ∷ []);
+      over = new 1 (0 ∷ 1 ∷ 2 ∷ []);
       seen = record {
         said = says (read 0) miss 1 0 ∷ says (back 0 0) sameBlock 0 0 ∷ says (flush 3) done 0 0 ∷ [];
         returned = 0 ∷ [];
@@ -629,7 +632,7 @@ table =
       C = 1;
       X = 1;
       from = noLists;
-      over = start 1 (0 ∷ 1 ∷ 2 ∷ []);
+      over = new 1 (0 ∷ 1 ∷ 2 ∷ []);
       seen = record {
         said = says (back 0 5) newBlock 1 0 ∷ says (back 0 5) sameBlock 0 0 ∷ [];
         returned = [];
@@ -642,7 +645,7 @@ table =
       C = 1;
       X = 0;
       from = noLists;
-      over = start 1 (0 ∷ 1 ∷ 2 ∷ []);
+      over = new 1 (0 ∷ 1 ∷ 2 ∷ []);
       seen = record {
         said = says (read 0) miss 1 0 ∷ says (read 1) miss 1 0 ∷ says (back 0 0) newBlock 1 0 ∷ [];
         returned = 0 ∷ 1 ∷ [];
@@ -655,7 +658,7 @@ table =
       C = 2;
       X = 0;
       from = noLists;
-      over = start 2 (0 ∷ 1 ∷ 2 ∷ []);
+      over = new 2 (0 ∷ 1 ∷ 2 ∷ []);
       seen = record {
         said = says (back 0 5) newBlock 1 0 ∷ says (back 1 6) newBlock 1 0 ∷ says (flush 1) done 0 1 ∷ [];
         returned = [];
@@ -749,3 +752,103 @@ table =
 pub worked-states : map play table ≡ map (λ e. e .seen) table
 unfolding serveBy answeredBy readBy throughBy backBy freed oldestUnknown takenUsed stored ifCached answer dropped writeInvalidate lookAs flushed listOf newP takesT1 topRows rowOut evicted roomInB replace manage check hasRow cleared takenBy storedIn blockNewest inserted parted checked toT2 joined arcStepAs arcStep
 worked-states = refl
+
+-- Folder reads: the blocks of the buffer, what the call counts of its own, and the lists and the box after it
+pub record FolderSeen : Type 0 where
+  pub blocks : List ℕ
+  pub hits : ℕ
+  pub misses : ℕ
+  pub flashWrites : ℕ
+  pub primaryWrites : ℕ
+  pub fetches : ℕ
+  pub lists : Lists
+  pub box : Box ℕ ℕ
+
+pub record FolderExample : Type 0 where
+  pub C : ℕ
+  pub X : ℕ
+  pub from : Lists
+  pub over : Box ℕ ℕ
+  pub asked : List ℕ
+  pub seen : FolderSeen
+
+abbrev folderSeen : FolderBy ℕ ℕ Lists → FolderSeen
+folderSeen t =
+    let b = t .batched in
+    record {
+      blocks = blocksIn (b .filled);
+      hits = b .hits;
+      misses = b .misses;
+      flashWrites = b .flashWrites;
+      primaryWrites = b .primaryWrites;
+      fetches = b .fetches;
+      lists = t .kept;
+      box = b .box;
+    }
+
+abbrev pub playFolder : FolderExample → FolderSeen
+playFolder e =
+    let Z : Sizes = record { B = 1; P = length (e .over .disk); C = e .C; X = e .X } in
+    folderSeen (folder labels (arc labels Z) (record { kept = e .from; batched = start (e .over) noCounts }) (e .asked))
+
+abbrev pub folders : List FolderExample
+folders =
+    -- a repeat that hits: it goes to T2
+    record {
+      C = 1;
+      X = 0;
+      from = noLists;
+      over = new 1 (0 ∷ 1 ∷ 2 ∷ []);
+      asked = 0 ∷ 0 ∷ [];
+      seen = record {
+        blocks = 0 ∷ 0 ∷ [];
+        hits = 1;
+        misses = 1;
+        flashWrites = 1;
+        primaryWrites = 0;
+        fetches = 1;
+        lists = lists ([]) (0 ∷ []) ([]) ([]) ([]) 0;
+        box = record { rows = clean 0 0 ∷ []; free = []; used = blockRow 0 0 ∷ []; flash = 0 ∷ []; disk = 0 ∷ 1 ∷ 2 ∷ [] };
+      };
+    }
+    -- a repeat that misses, a hit in B1: it takes the block that its first read put in the buffer, and isn't fetched
+    ∷ record {
+      C = 1;
+      X = 0;
+      from = noLists;
+      over = new 1 (0 ∷ 1 ∷ 2 ∷ []);
+      asked = 0 ∷ 1 ∷ 0 ∷ [];
+      seen = record {
+        blocks = 0 ∷ 1 ∷ 0 ∷ [];
+        hits = 0;
+        misses = 3;
+        flashWrites = 3;
+        primaryWrites = 0;
+        fetches = 2;
+        lists = lists ([]) (0 ∷ []) (1 ∷ []) ([]) ([]) 1;
+        box = record { rows = clean 1 1 ∷ clean 0 0 ∷ []; free = []; used = blockRow 0 0 ∷ []; flash = 0 ∷ []; disk = 0 ∷ 1 ∷ 2 ∷ [] };
+      };
+    }
+    -- a dirty block is taken between the reads: the disk's block is fetched at its own turn
+    ∷ record {
+      C = 1;
+      X = 1;
+      from = lists (0 ∷ []) ([]) ([]) ([]) ([]) 0;
+      over = record { rows = dirty 0 5 ∷ []; free = []; used = blockRow 5 0 ∷ []; flash = 5 ∷ []; disk = 0 ∷ 1 ∷ 2 ∷ [] };
+      asked = 1 ∷ 0 ∷ [];
+      seen = record {
+        blocks = 1 ∷ 5 ∷ [];
+        hits = 0;
+        misses = 2;
+        flashWrites = 2;
+        primaryWrites = 1;
+        fetches = 2;
+        lists = lists ([]) (0 ∷ []) (1 ∷ []) ([]) ([]) 1;
+        box = record { rows = clean 1 1 ∷ clean 0 5 ∷ []; free = []; used = blockRow 5 0 ∷ []; flash = 5 ∷ []; disk = 5 ∷ 1 ∷ 2 ∷ [] };
+      };
+    }
+    ∷ []
+
+pub worked-folders : map playFolder folders ≡ map (λ e. e .seen) folders
+unfolding folder folderRead answeredBy readBy freed oldestUnknown takenUsed stored ifCached answer listOf newP takesT1 topRows rowOut evicted roomInB replace manage check hasRow cleared takenBy storedIn blockNewest inserted parted checked toT2 joined arcStepAs arcStep
+worked-folders = refl
