@@ -1,6 +1,6 @@
 -- Demand 3 for D-ARC boxes, proved: for every list of calls from a fresh box over any bytes.
 use mathlib.Core.Path.{_≡_, refl, sym, ap, ap₂, _∙_, subst, subst₂}
-use mathlib.Core.Bool.{Bool, true, false, true≢false, not, _&&_, _||_, cond}
+use mathlib.Core.Bool.{false, true≢false, not, _&&_, _||_, cond}
 use mathlib.Core.List.{List, [], _∷_, _++_, map, append-nil, List·Memᴰ}
 use mathlib.Core.Logic.{_≢_}
 use mathlib.Core.Option.{Option, none, some}
@@ -12,13 +12,13 @@ use borrow.Author.Tests.{eqb-true, eqb-false, eq-eqb, leb-true, leb-false, ltb-f
 use Rattle.tables.specs.Rows.{zeros}
 use Rattle.tables.specs.ShiftLaws.{length-zeros}
 use Rattle.tables.specs.Records.{addressTable, blockTable, freeRow, slotsFrom, freshAddresses, freshBlocks}
-use Rattle.tables.specs.Unsound.{elem, addressesUnsound, blocksUnsound, dirtyUncached}
+use Rattle.tables.specs.Unsound.{elem, addressesUnsound, dirtyUncached}
 use Rattle.paper.specs.Cache as Paper
 use Rattle.paper.specs.Cache.{Numbers, Hashing, Box, Below, Within, rowWithBlock, noCounts, Counters, counted, isRead, isHit}
 use Rattle.paper.specs.KeyedLaws.{All, by-test, all-left, all-right, all-map, or-false-left, or-false-right, or-both, and-left, and-right}
 use Rattle.paper.specs.Engine.{Fixed, engine}
 use Rattle.paper.specs.Lent as Base
-use Rattle.paper.specs.Lent.{Lent, Ask, opening, calling, callOf, addressOf, lentBlock, between, otherLength, wrongBuffers, wrongBlock, outside, over, counts, boxIn, lentOf, blockAfter, partAfter, refused, join, split}
+use Rattle.paper.specs.Lent.{Ask, opening, calling, callOf, addressOf, lentBlock, between, otherLength, wrongBuffers, wrongBlock, outside, over, counts, boxIn, lentOf, blockAfter, partAfter, refused, join, split}
 use Rattle.paper.specs.Machines.{plainNext, plainBlock, writtenBy, TrueFingerprints}
 use Rattle.paper.specs.Faithful.{at, BlockTrue, Faithful}
 use Rattle.paper.specs.PlainDisk.{clean-is-plain}
@@ -26,7 +26,7 @@ use Rattle.paper.specs.FewWrites.{one-if-le}
 use Rattle.paper.specs.Parts.{length-split, join-split}
 use Rattle.paper.specs.LentLaws.{Lengths, right-lengths, Passes, passes-sound, sound-passes, lent-back}
 use Rattle.paper.specs.CallLaws.{about-call, Grown, In64, not-over}
-use Rattle.paper.specs.Batch.{Batched, start, firstRead, source, blocksIn}
+use Rattle.paper.specs.Batch.{start, firstRead, source, blocksIn}
 use Rattle.paper.specs.BatchLent as Folders
 use Rattle.paper.specs.BatchLent.{Asking, one, many, badCount, anyOutside}
 use Rattle.paper.specs.BatchLaws.{GrownBy}
@@ -38,12 +38,12 @@ use Rattle.arc.specs.ArcStep.{ArcSound}
 use Rattle.arc.specs.ArcSays.{top-has-block, named-once}
 use Rattle.arc.specs.ArcLaws.{arc-promises, arc-fresh}
 use Rattle.arc.specs.Folder.{FolderBy, nextRead, folderRead, folder, ownRead, folderInTurn}
-use Rattle.arc.specs.FolderLaws.{butBy, folder-inv, folder-in-turn, folder-good, folder-blocks}
+use Rattle.arc.specs.FolderLaws.{folder-inv, folder-in-turn, folder-good, folder-blocks}
 use Rattle.arc.specs.ArcFew.{arc-read-few, arc-serve-few}
-use Rattle.arc.specs.ArcLent.{ListRecord, ArcLent, wordBytes, endToEnd, listsIn, listBytes, recordOf, unfitArc, listsUnsound, topUncached, topsIn, wrongArcBuffers, arcRefusal, ArcAfter, arcLentOf, arcServed, arcCall, arcOpened, noSizes}
+use Rattle.arc.specs.ArcLent.{ArcLent, wordBytes, endToEnd, listBytes, recordOf, unfitArc, listsUnsound, topUncached, topsIn, wrongArcBuffers, arcRefusal, arcLentOf, arcServed, arcCall, arcOpened, noSizes}
 use Rattle.arc.specs.ArcLentLaws.{lists-back, lists-pass, tops-pass, passes-arc, total-end, length-words}
 use Rattle.arc.specs.ArcExactly.{arc-exactly, arc-exactly-opening, arc-exactly-folder}
-use Rattle.arc.specs.ArcFolder.{folderStart, folderFrom, folderLent, arcFolderRefusal, ArcFolderAfter, arcServedFolder, arcFolderCall, arcServedInTurn}
+use Rattle.arc.specs.ArcFolder.{folderStart, folderFrom, folderLent, arcFolderRefusal, arcServedFolder, arcFolderCall, arcServedInTurn}
 use Rattle.arc.specs.ArcDemand.{listsOf, boxOf, diskOf, arcNext, arcPlain, ArcThroughout, ArcEachServed, ArcInList, arcNumber, arcRefusals, arcWrites, arcWritten, ArcShows, ArcAsReads, ArcFlushes, ArcCleanIsPlain, ArcStateLaw, ArcDemand}
 
 -- numbers that pass 11

@@ -1,15 +1,14 @@
 -- The lists end to end: an address leaves from its place, joins at a place, and each move of Algorithm 3 takes the address at one place to a later
 -- one. This is what code can do on their bytes.
-use mathlib.Core.Path.{_≡_, refl, sym, ap, ap₂, _∙_, subst}
+use mathlib.Core.Path.{_≡_, refl, sym, ap, ap₂, _∙_}
 use mathlib.Core.List.{List, [], _∷_, _++_, append-assoc, append-nil}
-use Prim.Native.Nat.{ℕ, suc, _+_}
-use native.Mathlib.Omega.{arith}
+use Prim.Native.Nat.{ℕ, suc}
 use lib.Dec.{eqb}
-use lib.ListN.{length, take, drop, getD, length-append}
+use lib.ListN.{length, take, drop, getD}
 use lib.Seq.{take-append-seam, drop-append-seam}
 use Rattle.tables.specs.Rows.{removeAt}
 use Rattle.paper.specs.KeyedLaws.{without-append}
-use Rattle.arc.specs.Arc.{Lists, out, left, t1b1, t2b2, t1b3, b1b3, b2b3, b1Out, b2Out, b3Out, joinT1, joinT2}
+use Rattle.arc.specs.Arc.{Lists, out, left, t1b1, t2b2, t1b3, b1b3, b2b3, b1Out, b2Out}
 use Rattle.arc.specs.ArcLent.{endToEnd}
 
 abbrev pub insertAt : ℕ → ℕ → List ℕ → List ℕ

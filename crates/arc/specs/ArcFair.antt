@@ -1,21 +1,20 @@
 -- The parts of a D-ARC step and the plain disk, where no two different blocks of a set share a fingerprint.
-use mathlib.Core.Path.{_≡_, refl, sym, ap, _∙_, subst}
-use mathlib.Core.Bool.{Bool, true, false, not, _&&_, _||_, cond, true≢false, false≢true}
+use mathlib.Core.Path.{_≡_, refl, _∙_, subst}
+use mathlib.Core.Bool.{Bool, true, false, _&&_, cond, true≢false}
 use mathlib.Core.List.{List, [], _∷_, _++_, map, List·Permᴰ, List·Permᴰ·trans, Permᴰ·symm}
-use mathlib.Core.Logic.{_⊎_, inl, inr, _≢_}
-use mathlib.Core.Option.{Option, none, some}
-use Prim.Native.Nat.{ℕ, _≤_, _<_}
+use mathlib.Core.Logic.{inl, inr, _≢_}
+use mathlib.Core.Option.{none, some}
+use Prim.Native.Nat.{ℕ, _<_}
 use lib.Dec.{eqb}
-use lib.ListN.{length, set, getD}
+use lib.ListN.{set}
 use Rattle.tables.specs.Records.{slotsFrom}
-use Rattle.paper.specs.Cache.{Hashing, AddressRow, BlockRow, Box, Stepped, newest, blockRow, held, rowOf, withoutAddress, cached, withoutBlock, slotOf, blockOf, cleaned, copied, isLost, stored}
-use Rattle.paper.specs.KeyedLaws.{by-test, either, clash, or-cases, or-left, or-right, or-both, or-false-left, or-false-right, and-left, and-right, eqb→≡, eqb-self, eqb-swap, All, Distinct, all-right, all-of-map, all-append, all-map, all-without, all-both, find-some}
-use Rattle.paper.specs.Sound.{Sound, DirtyCached, perm-take, unknown-slot, all-cleaned}
+use Rattle.paper.specs.Cache.{Hashing, AddressRow, BlockRow, Box, newest, blockRow, held, withoutBlock, slotOf, blockOf, copied, isLost, stored}
+use Rattle.paper.specs.KeyedLaws.{by-test, either, clash, or-left, or-both, or-false-left, or-false-right, and-left, and-right, eqb→≡, eqb-self, All, all-right, all-of-map, all-append, all-map, all-without, all-both, find-some}
+use Rattle.paper.specs.Sound.{DirtyCached, perm-take, unknown-slot, all-cleaned}
 use Rattle.paper.specs.Faithful.{at, at-set-other, any, dirtyAt, dirty-without, dirty-split, copied-good, CopyTrue, all-absent, slot-taken, slot-true, row-block, RowTrue, BlockTrue, Faithful, FaithfulBut}
-use Rattle.arc.specs.Policy.{Ran}
 use Rattle.arc.specs.PlainRows.{Only, and-false-cases, dirty-snoc, row-clean, stored-true}
-use Rattle.arc.specs.Arc.{Sizes, numbersOf, mOf, Lists, topRows, rowOut, storedIn, blockNewest}
-use Rattle.arc.specs.ArcMid.{Mid, OutlastsOut}
+use Rattle.arc.specs.Arc.{Sizes, topRows, rowOut, blockNewest}
+use Rattle.arc.specs.ArcMid.{OutlastsOut}
 use Rattle.arc.specs.ArcStore.{by-storedIn}
 use Rattle.arc.specs.ArcStep.{OutlastsStore, OutlastsNewest}
 

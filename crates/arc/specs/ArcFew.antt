@@ -1,25 +1,25 @@
 -- A D-ARC call adds at most one flash write and m + 1 primary writes.
-use mathlib.Core.Path.{_≡_, refl, sym, ap, _∙_, subst}
-use mathlib.Core.Bool.{Bool, true, false, not, _&&_, _||_, cond}
-use mathlib.Core.List.{List, [], _∷_, _++_}
+use mathlib.Core.Path.{_≡_, subst}
+use mathlib.Core.Bool.{Bool, true, false, _&&_}
+use mathlib.Core.List.{List, [], _∷_}
 use mathlib.Core.Option.{Option, none, some, Option·none-ne-some, Option·some-injective}
-use Prim.Native.Nat.{ℕ, _+_, _≤_, _<_}
+use Prim.Native.Nat.{ℕ, _+_, _≤_}
 use native.Mathlib.Omega.{arith}
 use lib.Dec.{eqb}
 use lib.ListN.{length, getD}
-use Rattle.paper.specs.Cache.{Hashing, AddressRow, Box, Stepped, Request, Outcome, Word, hit, miss, rowOf, withoutAddress, copies, cleaned, isLost, blockOf}
-use Rattle.paper.specs.Cache.{stored, Call, read, through, back, invalidate, look, flush, Within, onDisk, rowWithBlock, sameOrNew, answer, backRequest, reach}
+use Rattle.paper.specs.Cache.{Hashing, AddressRow, Box, Stepped, Request, Word, hit, miss, rowOf, withoutAddress, copies, cleaned, isLost, blockOf}
+use Rattle.paper.specs.Cache.{stored, Call, read, through, back, invalidate, look, flush, onDisk, rowWithBlock, sameOrNew, answer, backRequest, reach}
 use Rattle.paper.specs.Cache.{lookAs, writeInvalidate, flushed}
 use Rattle.arc.specs.Policy.{serveBy, readBy, throughBy, backBy, answeredBy}
 use Rattle.paper.specs.Partly.{parts-sum}
-use Rattle.paper.specs.KeyedLaws.{by-test, All}
+use Rattle.paper.specs.KeyedLaws.{by-test}
 use Rattle.paper.specs.Sound.{Sound}
 use Rattle.paper.specs.FewWrites.{FewBy}
 use Rattle.arc.specs.Promise.{inv-onDisk}
-use Rattle.arc.specs.Arc.{Sizes, numbersOf, mOf, Lists, rowOut, storedIn, blockNewest, parted, joined, listOf, arcStepAs, arcStep, arc}
+use Rattle.arc.specs.Arc.{Sizes, numbersOf, mOf, Lists, rowOut, blockNewest, parted, joined, arcStepAs, arcStep, arc}
 use Rattle.arc.specs.ArcMid.{OutlastsOut}
 use Rattle.arc.specs.ArcStore.{by-storedIn}
-use Rattle.arc.specs.ArcStep.{ArcSound, OutlastsStore, OutlastsNewest, ready, upTo}
+use Rattle.arc.specs.ArcStep.{ArcSound, OutlastsStore, OutlastsNewest, ready}
 use Rattle.arc.specs.ArcLaws.{arc-promises}
 
 module _ {F X : Type 0} (H : Hashing F X) where

@@ -1,6 +1,6 @@
 -- U2 on the lent bytes of a D-ARC box: which folder reads are refused, and what each answers and leaves.
 -- Assumes nothing.
-use mathlib.Core.Bool.{Bool, _||_, cond}
+use mathlib.Core.Bool.{_||_, cond}
 use mathlib.Core.List.{List, [], _∷_}
 use Prim.Native.Nat.{ℕ, _*_}
 use lib.Dec.{eqb}

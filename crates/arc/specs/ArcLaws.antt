@@ -1,24 +1,23 @@
 -- D-ARC keeps what a policy must promise; the laws of every list of calls from a fresh D-ARC box.
 use mathlib.Core.Path.{_≡_, refl, sym, ap, _∙_, subst}
-use mathlib.Core.Bool.{Bool, true, false, not, _&&_, _||_, cond}
-use mathlib.Core.List.{List, [], _∷_, _++_, Permᴰ·append-nil}
+use mathlib.Core.Bool.{true, false, cond}
+use mathlib.Core.List.{List, [], _∷_}
 use mathlib.Core.Option.{Option, none, some}
-use Prim.Native.Nat.{ℕ, suc, _+_, _≤_, _<_}
+use Prim.Native.Nat.{ℕ, suc, _≤_, _<_}
 use native.Mathlib.Omega.{arith}
 use lib.Dec.{eqb}
 use lib.ListN.{length}
-use Rattle.paper.specs.Cache.{Hashing, AddressRow, BlockRow, BlockRows, Box, Stepped, Request, held, known, rowOf, withoutAddress, cached, dropped, freed, invalidate, writeInvalidate, serve, Call, Within, fresh}
+use Rattle.paper.specs.Cache.{Hashing, AddressRow, BlockRow, BlockRows, Box, Stepped, Request, known, rowOf, withoutAddress, cached, dropped, freed, invalidate, writeInvalidate, serve, Call, Within, fresh}
 use Rattle.paper.specs.KeyedLaws.{by-test, eqb→≡, All, all-map, all-both, all-without, has-without}
 use Rattle.paper.specs.Sound.{Sound, all-known, sound-serve, sound-fresh}
 use Rattle.paper.specs.Orphans.{apart}
 use Rattle.paper.specs.Faithful.{at, dirty-without, RowTrue, Faithful, FaithfulBut}
-use Rattle.arc.specs.Policy.{Ran}
 use Rattle.arc.specs.PlainRows.{Only}
 use Rattle.arc.specs.Promise.{Alike, True, Promise, OnCalls, on-calls}
-use Rattle.arc.specs.Arc.{Sizes, numbersOf, mOf, Lists, noLists, onTop, Was, listOf, left, rowOut, parted, joined, arcStepAs, arcStep, arc}
+use Rattle.arc.specs.Arc.{Sizes, numbersOf, Lists, noLists, onTop, Was, listOf, left, parted, joined, arcStepAs, arcStep, arc}
 use Rattle.arc.specs.Tally.{tally, tally-without-self, tally-without-other, length-without}
-use Rattle.arc.specs.ArcMid.{named, total, TopCached, Mid}
-use Rattle.arc.specs.ArcStep.{ArcSound, left-names, left-none, left-total, left-fit, left-few, left-top, mid-joined, upTo, Ready, ready}
+use Rattle.arc.specs.ArcMid.{named, TopCached}
+use Rattle.arc.specs.ArcStep.{ArcSound, left-names, left-none, left-total, left-fit, left-few, left-top, mid-joined, upTo, ready}
 use Rattle.arc.specs.ArcFair.{Fair, fair-out, fair-newest, fair-store, fair-joins}
 
 module _ {F X : Type 0} (H : Hashing F X) (Z : Sizes) where

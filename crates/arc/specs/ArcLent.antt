@@ -1,17 +1,17 @@
 -- A D-ARC box in lent bytes: the lists' buffer, which calls are refused, and what each answers and leaves.
 -- Assumes nothing.
-use mathlib.Core.Bool.{Bool, true, false, not, _&&_, _||_, cond}
+use mathlib.Core.Bool.{Bool, not, _&&_, _||_, cond}
 use mathlib.Core.List.{List, [], _∷_, _++_, map}
-use mathlib.Core.Option.{Option, none, some}
+use mathlib.Core.Option.{Option}
 use Prim.Native.Nat.{ℕ, zero, suc, _+_, _-_, _*_}
-use lib.Dec.{eqb, leb, ltb}
+use lib.Dec.{eqb, ltb}
 use lib.ListN.{length, take, drop}
 use Rattle.tables.specs.Rows.{zeros, le4}
 use Rattle.tables.specs.Records.{bytes4}
 use Rattle.tables.specs.Find.{any}
 use Rattle.tables.specs.Unsound.{elem, nonzero, addressesUnsound, blocksUnsound, dirtyUncached}
 use Rattle.paper.specs.Cache.{Hashing, AddressRow, Box, cached, counted}
-use Rattle.paper.specs.Engine.{Fixed, engine}
+use Rattle.paper.specs.Engine.{engine}
 use Rattle.paper.specs.Lent as Base
 use Rattle.paper.specs.Lent.{Lent, Ask, Asked, opening, calling, callOf, addressOf, lentBlock, between, otherLength, wrongBuffers, wrongBlock, outside, over}
 use Rattle.paper.specs.Lent.{counts, boxIn, lentOf, Test, test, first, Answer, refused, answered, blockAfter, partAfter}

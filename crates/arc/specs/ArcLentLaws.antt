@@ -2,27 +2,23 @@
 use mathlib.Core.Path.{_≡_, refl, sym, ap, ap₂, _∙_, subst}
 use mathlib.Core.Bool.{Bool, true, false, not, _&&_, _||_, cond, true≢false, false≢true}
 use mathlib.Core.List.{List, [], _∷_, _++_, map, append-assoc}
-use mathlib.Core.Logic.{_⊎_, inl, inr}
-use mathlib.Core.Option.{Option, none, some}
 use Prim.Native.Nat.{ℕ, zero, suc, _+_, _-_, _*_, _^_, _≤_, _<_}
 use native.Mathlib.Omega.{arith}
 use lib.Dec.{eqb, ltb}
 use lib.ListN.{length, take, drop, length-append, length-drop, take-append-drop}
 use lib.Seq.{take-append-seam, drop-append-seam, take-append-add}
-use borrow.Author.Tests.{ltb-false, le-ltb, eqb-true, eq-eqb, not-true, not-false}
+use borrow.Author.Tests.{ltb-false, le-ltb, eqb-true, eq-eqb, not-false}
 use Rattle.tables.specs.Rows.{zeros, le4}
-use Rattle.tables.specs.Records.{bytes4}
 use Rattle.tables.specs.OperationLaws.{le4-bytes4}
 use Rattle.tables.specs.Find.{any}
 use Rattle.tables.specs.Unsound.{nonzero}
 use Rattle.paper.specs.Keyed.{has, without}
-use Rattle.paper.specs.Cache.{Hashing, AddressRow, BlockRow, Box, held, cached, fresh}
-use Rattle.paper.specs.KeyedLaws.{by-test, either, clash, or-cases, or-left, or-right, or-both, or-false-left, or-false-right, and-left, and-right, eqb→≡, eqb-self, All, all-map, all-both, all-append, all-left, all-right, all-maps, all-of-map, has-append}
+use Rattle.paper.specs.Cache.{Hashing, AddressRow, Box, held, cached}
+use Rattle.paper.specs.KeyedLaws.{by-test, either, clash, or-cases, or-left, or-right, or-both, or-false-left, or-false-right, eqb→≡, eqb-self, All, all-map, has-append}
 use Rattle.paper.specs.Sound.{Sound}
-use Rattle.arc.specs.Arc.{Sizes, numbersOf, mOf, Lists, noLists, isIn, out, onTop, arc}
-use Rattle.arc.specs.Tally.{tally, count, tally-append, tally-has, tally-none, tally-some, tally-distinct, tally-without-self, tally-without-other, length-without}
-use Rattle.arc.specs.ArcMid.{named, total, TopCached}
-use Rattle.arc.specs.ArcRuns.{tops, history}
+use Rattle.arc.specs.Arc.{Sizes, numbersOf, Lists, isIn, out, onTop}
+use Rattle.arc.specs.Tally.{tally, count, tally-append, tally-has, tally-none, tally-distinct, tally-without-self, tally-without-other, length-without}
+use Rattle.arc.specs.ArcMid.{named, TopCached}
 use Rattle.arc.specs.ArcStep.{ArcSound}
 use Rattle.arc.specs.ArcSays.{named-once}
 use Rattle.arc.specs.ArcLent.{ListRecord, words, wordBytes, totalOf, parts, listsIn, endToEnd, listBytes, recordOf, misnamed, oversized, listsUnsound, topUncached, topsIn}

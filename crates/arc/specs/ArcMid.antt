@@ -1,20 +1,18 @@
 -- The box and the lists between the first and the last part of a step: the requested address a has left and hasn't joined.
-use mathlib.Core.Path.{_≡_, refl, sym, ap, _∙_, subst}
-use mathlib.Core.Bool.{Bool, true, false, not, _&&_, _||_, cond, true≢false, false≢true}
+use mathlib.Core.Path.{_≡_, sym, ap, _∙_, subst}
+use mathlib.Core.Bool.{true, false, _||_, cond}
 use mathlib.Core.List.{List, [], _∷_, _++_}
-use mathlib.Core.Logic.{_⊎_, inl, inr}
-use mathlib.Core.Option.{Option, none, some}
-use Prim.Native.Nat.{ℕ, zero, suc, _+_, _≤_, _<_}
+use mathlib.Core.Option.{some}
+use Prim.Native.Nat.{ℕ, _+_, _≤_, _<_}
 use native.Mathlib.Omega.{arith}
 use lib.Dec.{eqb}
 use lib.ListN.{length, take, drop, length-append}
-use Rattle.paper.specs.Keyed.{has, without}
-use Rattle.paper.specs.Cache.{Hashing, AddressRow, BlockRow, Box, Stepped, held, rowOf, withoutAddress, cached, copied}
-use Rattle.paper.specs.KeyedLaws.{by-test, by-option, either, clash, or-cases, or-left, or-right, eqb→≡, eqb-self, eqb-swap, All, Distinct, all-map, all-without, has-without-other, distinct-without, find-none}
+use Rattle.paper.specs.Cache.{Hashing, AddressRow, BlockRow, Stepped, held, rowOf, withoutAddress, cached}
+use Rattle.paper.specs.KeyedLaws.{by-test, by-option, either, clash, or-cases, or-left, or-right, eqb→≡, eqb-self, eqb-swap, All, all-map, all-without, has-without-other, distinct-without, find-none}
 use Rattle.paper.specs.Sound.{Sound, DirtyCached, length-copied, length-without-le}
 use Rattle.arc.specs.Policy.{Ran}
-use Rattle.arc.specs.Arc.{Sizes, numbersOf, mOf, Lists, isIn, onTop, rowOut, evicted, listed, t1b1, t2b2, t1b3, b1b3, b2b3, b1Out, b2Out, b3Out, b1Evicted, b2Evicted, b3Evicted}
-use Rattle.arc.specs.Tally.{tally, count, tally-append, tally-has, tally-none, tally-some, tally-distinct, tally-without-self, tally-without-other, length-without, tally-first, length-first, in-drop}
+use Rattle.arc.specs.Arc.{Sizes, numbersOf, Lists, isIn, onTop, rowOut, evicted, listed, t1b1, t2b2, t1b3, b1b3, b2b3, b1Out, b2Out, b3Out, b1Evicted, b2Evicted, b3Evicted}
+use Rattle.arc.specs.Tally.{tally, count, tally-append, tally-some, tally-distinct, tally-without-self, tally-without-other, length-without, tally-first, length-first, in-drop}
 
 -- how often the lists name x, and how many names they have
 abbrev pub named : ℕ → Lists → ℕ

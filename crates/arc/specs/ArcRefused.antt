@@ -1,27 +1,26 @@
 -- Which D-ARC calls are refused and with which number, and a call that is served, in bytes: tables, by computation.
 -- Assumes nothing.
 use mathlib.Core.Path.{_≡_, refl}
-use mathlib.Core.Bool.{true, false}
 use mathlib.Core.List.{List, [], _∷_, _++_, map}
-use mathlib.Core.Option.{Option, none, some}
-use Prim.Native.Nat.{ℕ, _+_}
+use mathlib.Core.Option.{some}
+use Prim.Native.Nat.{ℕ}
 use lib.ListN.{replicate, set, take}
 use Rattle.tables.specs.Rows as Rows
 use Rattle.tables.specs.Records as Records
-use Rattle.tables.specs.Records.{AddressRow, BlockRow, addressRow, blockRow, freeRow, addressTable, blockTable}
+use Rattle.tables.specs.Records.{AddressRow, addressRow, blockRow, addressTable, blockTable}
 use Rattle.tables.specs.Find as Find
 use Rattle.tables.specs.Unsound as Unsound
 use Rattle.paper.specs.Cache as Cache
-use Rattle.paper.specs.Cache.{hit, noCounts, Counters}
+use Rattle.paper.specs.Cache.{hit, noCounts}
 use Rattle.paper.specs.Engine as Engine
 use Rattle.paper.specs.Lent as Lent
-use Rattle.paper.specs.Lent.{Lent, Ask, Asked, opening, calling, refused, answered}
+use Rattle.paper.specs.Lent.{Lent, Ask, Asked, opening, calling, answered}
 use Rattle.arc.specs.Policy as Policy
 use Rattle.arc.specs.Arc as Arc
 use Rattle.arc.specs.Arc.{Sizes}
 use Rattle.arc.specs.ArcLent as Bytes
 use Rattle.arc.specs.ArcFolder.{arcFolderRefusal}
-use Rattle.arc.specs.ArcLent.{ListRecord, ArcLent, ArcAfter, arcRefusal, arcCall, wordBytes}
+use Rattle.arc.specs.ArcLent.{ListRecord, ArcLent, arcRefusal, arcCall, wordBytes}
 
 abbrev numbers : ℕ → ℕ → ℕ → ℕ → Sizes
 numbers B P C X = record { B = B; P = P; C = C; X = X }

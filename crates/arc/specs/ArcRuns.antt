@@ -1,21 +1,19 @@
 -- REPLACE, MANAGE, CHECK and the loop: what they keep, what they do to the sizes, and that the loop ends with a row.
 use mathlib.Core.Path.{_≡_, refl, sym, ap, _∙_, subst}
-use mathlib.Core.Bool.{Bool, true, false, not, _&&_, _||_, cond, true≢false, false≢true}
+use mathlib.Core.Bool.{Bool, true, false, not, _&&_, _||_, true≢false}
 use mathlib.Core.List.{List, [], _∷_, _++_}
-use mathlib.Core.Logic.{_⊎_, inl, inr}
-use mathlib.Core.Option.{Option, none, some}
-use Prim.Native.Nat.{ℕ, zero, suc, _+_, _≤_, _<_}
+use Prim.Native.Nat.{ℕ, zero, suc, _+_, _≤_}
 use native.Mathlib.Omega.{arith}
 use lib.Dec.{eqb, leb, ltb}
 use lib.ListN.{length, take, drop, length-append}
 use borrow.Author.Tests.{leb-true, leb-false, ltb-true, ltb-false, eqb-true, eqb-false, not-true}
-use Rattle.paper.specs.Cache.{Hashing, AddressRow, BlockRow, Box, Stepped, known, oldestUnknown}
+use Rattle.paper.specs.Cache.{Hashing, AddressRow, BlockRow, Box, Stepped, oldestUnknown}
 use Rattle.paper.specs.KeyedLaws.{by-test, clash, and-left, and-right}
 use Rattle.paper.specs.Sound.{Sound, some-slot}
 use Rattle.arc.specs.Policy.{Ran}
-use Rattle.arc.specs.Arc.{Sizes, numbersOf, mOf, Lists, isNil, isIn, onTop, topRows, takesT1, listed, t1b1, t2b2, t1b3, b1b3, b2b3, b1Out, b2Out, b3Out, b1Evicted, b2Evicted, b3Evicted, roomInB, replace, manage, check, isSome, victimOf, hasRow, again, cleared}
+use Rattle.arc.specs.Arc.{Sizes, numbersOf, Lists, isNil, isIn, onTop, topRows, takesT1, listed, b1b3, b2b3, roomInB, replace, manage, check, isSome, hasRow, again, cleared}
 use Rattle.arc.specs.Tally.{length-first, first-one, nil-no, nil-yes, length-none}
-use Rattle.arc.specs.ArcMid.{Mid, OutlastsOut, Both, mid-t1b1, mid-t2b2, mid-t1b3, mid-b1b3, mid-b2b3, mid-b1Out, mid-b2Out, mid-b3Out}
+use Rattle.arc.specs.ArcMid.{OutlastsOut, Both, mid-t1b1, mid-t2b2, mid-t1b3, mid-b1b3, mid-b2b3, mid-b1Out, mid-b2Out, mid-b3Out}
 
 -- the sizes: T1 and T2, B1 and B2
 abbrev pub tops : Lists → ℕ

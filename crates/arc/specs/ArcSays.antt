@@ -1,19 +1,18 @@
 -- What the definitions and the invariant say, in the request's own words.
-use mathlib.Core.Path.{_≡_, refl, sym, ap, ap₂, _∙_, subst}
-use mathlib.Core.Bool.{Bool, true, false, not, _&&_, _||_, cond, true≢false, false≢true}
-use mathlib.Core.List.{List, [], _∷_}
-use mathlib.Core.Option.{Option, none, some}
-use Prim.Native.Nat.{ℕ, zero, suc, _+_, _≤_}
+use mathlib.Core.Path.{_≡_, refl, sym, ap₂, _∙_, subst}
+use mathlib.Core.Bool.{Bool, true, false, _&&_, cond}
+use mathlib.Core.List.{[]}
+use mathlib.Core.Option.{some}
+use Prim.Native.Nat.{ℕ, zero, suc, _≤_}
 use native.Mathlib.Omega.{arith}
 use lib.Dec.{eqb}
-use lib.ListN.{length}
 use borrow.Author.Tests.{eqb-true, eqb-false}
-use Rattle.paper.specs.Cache.{Hashing, AddressRow, Box, Stepped, held, rowOf, cached, ifCached, rowWithBlock}
-use Rattle.paper.specs.KeyedLaws.{by-test, by-option, either, clash, or-cases, eqb→≡, eqb-self, All, find-none, find-some}
+use Rattle.paper.specs.Cache.{Hashing, AddressRow, Box, Stepped, held, rowOf, ifCached, rowWithBlock}
+use Rattle.paper.specs.KeyedLaws.{by-test, by-option, either, clash, or-cases, eqb→≡, find-none, find-some}
 use Rattle.arc.specs.Policy.{Ran}
-use Rattle.arc.specs.Arc.{Sizes, numbersOf, mOf, Lists, isNil, isIn, onTop, hasRow, replace, again, cleared, cleared! }
-use Rattle.arc.specs.Tally.{tally, count, tally-has, tally-none, tally-distinct}
-use Rattle.arc.specs.ArcMid.{named, total, TopCached, Mid, OutlastsOut, Both}
+use Rattle.arc.specs.Arc.{Sizes, Lists, isNil, isIn, onTop, hasRow, replace, again, cleared, cleared! }
+use Rattle.arc.specs.Tally.{tally-has, tally-none, tally-distinct}
+use Rattle.arc.specs.ArcMid.{named, TopCached, Mid, OutlastsOut}
 use Rattle.arc.specs.ArcRuns.{tops, history, again-sheds, row-at-last}
 use Rattle.arc.specs.ArcStep.{ArcSound}
 

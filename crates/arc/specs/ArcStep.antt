@@ -1,25 +1,24 @@
 -- The whole step of D-ARC: what holds of the box and the lists before it holds after it.
-use mathlib.Core.Path.{_≡_, refl, sym, ap, _∙_, subst}
-use mathlib.Core.Bool.{Bool, true, false, not, _&&_, _||_, cond, true≢false, false≢true}
+use mathlib.Core.Path.{_≡_, sym, ap, _∙_, subst}
+use mathlib.Core.Bool.{Bool, true, false}
 use mathlib.Core.List.{List, [], _∷_, _++_}
 use mathlib.Core.Logic.{_⊎_, inl, inr}
-use mathlib.Core.Option.{Option, none, some}
-use Prim.Native.Nat.{ℕ, zero, suc, _+_, _-_, _/_, _≤_, _<_}
+use Prim.Native.Nat.{ℕ, _+_, _/_, _≤_, _<_}
 use native.Mathlib.Omega.{arith}
 use lib.Dec.{eqb, ltb}
 use lib.ListN.{length, length-append}
-use borrow.Author.Tests.{ltb-true, ltb-false}
-use Rattle.paper.specs.Keyed.{has, without}
-use Rattle.paper.specs.Cache.{Hashing, AddressRow, BlockRow, Box, Request, Stepped, newest, held, rowOf, withoutAddress, cached}
-use Rattle.paper.specs.KeyedLaws.{by-test, either, clash, or-cases, or-left, or-right, eqb→≡, eqb-self, eqb-swap, All, Distinct, all-append, all-map, all-both, all-without, has-without-other, has-without-self, distinct-without, distinct-snoc, has-snoc-cases}
+use borrow.Author.Tests.{ltb-false}
+use Rattle.paper.specs.Keyed.{has}
+use Rattle.paper.specs.Cache.{Hashing, AddressRow, Box, Stepped, newest, withoutAddress, cached}
+use Rattle.paper.specs.KeyedLaws.{by-test, either, clash, or-cases, or-left, or-right, eqb→≡, eqb-self, All, all-append, all-map, all-both, all-without, has-without-other, has-without-self, distinct-without, distinct-snoc, has-snoc-cases}
 use Rattle.paper.specs.Sound.{Sound, DirtyCached, length-without-le}
 use Rattle.paper.specs.Faithful.{all-absent}
 use Rattle.arc.specs.Policy.{Ran}
-use Rattle.arc.specs.Arc.{Sizes, numbersOf, mOf, Lists, isIn, out, onTop, Was, inT1, inT2, inB1, inB2, inB3, unheld, listOf, wasB2, left, withP, newP, larger, smaller, hasRow, rowOut, storedIn, blockNewest, cleared, cleared!, inserted, parted, check, checked, toT2, joinT1, joinT2, joined, arcStepAs, arcStep}
-use Rattle.arc.specs.Tally.{tally, count, tally-append, tally-has, tally-none, tally-some, tally-without-self, tally-without-other, length-without}
+use Rattle.arc.specs.Arc.{Sizes, numbersOf, Lists, isIn, out, onTop, Was, inT1, inT2, inB1, inB2, inB3, unheld, listOf, wasB2, left, withP, newP, larger, hasRow, rowOut, storedIn, blockNewest, cleared, inserted, parted, check, checked, toT2, joinT1, joinT2, joined}
+use Rattle.arc.specs.Tally.{tally, count, tally-append, tally-has, tally-without-self, tally-without-other, length-without}
 use Rattle.arc.specs.ArcMid.{named, total, TopCached, Mid, OutlastsOut, Both}
-use Rattle.arc.specs.ArcRuns.{tops, history, Checked, check-done, Ended, cleared-ends}
-use Rattle.arc.specs.ArcStore.{Stored, mid-stored, mid-newest}
+use Rattle.arc.specs.ArcRuns.{tops, history, check-done, cleared-ends}
+use Rattle.arc.specs.ArcStore.{mid-stored, mid-newest}
 
 -- What holds of lists and box in every state reached. "After every list of calls, each address of T1 and T2 has its block, T1, T2 and B3 hold at most
 -- C + X together, B1 and B2 together at most C"; the lists name each held address once and no other; p is at most C.

@@ -1,24 +1,22 @@
 -- The insertion of a block between the first and the last part of a step.
 use mathlib.Core.Path.{_≡_, refl, sym, ap, _∙_, subst}
-use mathlib.Core.Bool.{Bool, true, false, not, _&&_, _||_, cond, true≢false, false≢true}
+use mathlib.Core.Bool.{Bool, true, false, not, cond, false≢true}
 use mathlib.Core.List.{List, [], _∷_, _++_, map, List·Permᴰ, List·Permᴰ·trans, Permᴰ·symm, Permᴰ·append-left, Permᴰ·middle}
-use mathlib.Core.Logic.{_⊎_, inl, inr}
-use mathlib.Core.Option.{Option, none, some}
-use Prim.Native.Nat.{ℕ, zero, suc, _+_, _≤_, _<_}
-use native.Mathlib.Omega.{arith}
+use mathlib.Core.Option.{none, some}
+use Prim.Native.Nat.{ℕ, suc, _<_}
 use lib.Dec.{eqb}
-use lib.ListN.{length, set, length-set}
+use lib.ListN.{length-set}
 use borrow.Author.Tests.{not-true}
 use Rattle.tables.specs.Records.{slotsFrom}
-use Rattle.paper.specs.Cache.{Hashing, AddressRow, BlockRow, Box, Stepped, Taken, blockRow, held, known, cached, withoutBlock, slotOf, cleaned, copied, isLost, takenUsed, stored}
-use Rattle.paper.specs.KeyedLaws.{by-test, by-option, either, clash, or-left, or-right, and-left, and-right, All, Distinct, all-map, all-both, has-without-other, has-without-self, distinct-without, distinct-snoc}
+use Rattle.paper.specs.Cache.{Hashing, AddressRow, BlockRow, Taken, blockRow, known, cached, withoutBlock, slotOf, cleaned, isLost, takenUsed, stored}
+use Rattle.paper.specs.KeyedLaws.{by-test, by-option, clash, or-left, or-right, and-left, and-right, All, all-map, all-both, has-without-other, has-without-self, distinct-without, distinct-snoc}
 use Rattle.paper.specs.Cases.{takenFree, takenRow}
 use Rattle.paper.specs.Orphans.{apart, cached-in, cached-add, cached-self, oldestUnknown-some}
-use Rattle.paper.specs.Sound.{Sound, DirtyCached, perm-take, unknown-slot, slots-newest, all-cleaned, held-cleaned, distinct-cleaned, length-cleaned, length-copied}
+use Rattle.paper.specs.Sound.{DirtyCached, perm-take, unknown-slot, slots-newest, all-cleaned, held-cleaned, distinct-cleaned, length-cleaned, length-copied}
 use Rattle.arc.specs.Policy.{Ran}
-use Rattle.arc.specs.Arc.{Sizes, numbersOf, mOf, Lists, isNil, onTop, topRows, isSome, victimOf, hasRow, takenBy, storedIn, blockNewest}
+use Rattle.arc.specs.Arc.{Sizes, Lists, onTop, topRows, victimOf, hasRow, takenBy, storedIn, blockNewest}
 use Rattle.arc.specs.Tally.{tally}
-use Rattle.arc.specs.ArcMid.{named, total, TopCached, Mid}
+use Rattle.arc.specs.ArcMid.{TopCached, Mid}
 
 module _ {F X : Type 0} (H : Hashing F X) where
   abbrev pub put : Ran F X Lists → F → X → Taken F → Ran F X Lists

@@ -1,17 +1,16 @@
 -- The test for 6 in one pass over the names: each ticks off a held address. This is what code can do with a set of bits, in time m.
 use mathlib.Core.Path.{_≡_, refl, sym, ap, _∙_, subst}
-use mathlib.Core.Bool.{Bool, true, false, not, _&&_, _||_, cond, false≢true, true≢false}
+use mathlib.Core.Bool.{Bool, true, false, not, _&&_, cond, false≢true}
 use mathlib.Core.List.{List, [], _∷_}
-use mathlib.Core.Logic.{_⊎_, inl, inr}
-use Prim.Native.Nat.{ℕ, zero, suc, _+_, _≤_}
+use Prim.Native.Nat.{ℕ, suc, _+_}
 use native.Mathlib.Omega.{arith}
 use lib.Dec.{eqb}
 use lib.ListN.{length}
 use borrow.Author.Tests.{eqb-true, eq-eqb, not-false}
 use Rattle.tables.specs.Find.{any}
-use Rattle.paper.specs.KeyedLaws.{by-test, either, clash, or-cases, or-left, or-both, or-false-left, or-false-right, and-left, and-right, eqb→≡, eqb-self, eqb-swap, All, all-map, Distinct, distinct-without}
+use Rattle.paper.specs.KeyedLaws.{by-test, either, clash, or-cases, or-both, or-false-left, or-false-right, and-left, and-right, eqb→≡, eqb-self, eqb-swap, All, all-map, Distinct, distinct-without}
 use Rattle.arc.specs.Arc.{isIn, out}
-use Rattle.arc.specs.Tally.{tally, count, tally-has, tally-none, tally-some, tally-distinct, tally-without-self, tally-without-other, length-without, length-none}
+use Rattle.arc.specs.Tally.{count, tally-has, tally-none, tally-some, tally-distinct, tally-without-self, tally-without-other, length-without, length-none}
 use Rattle.arc.specs.ArcLent.{misnamed}
 use Rattle.arc.specs.ArcLentLaws.{any-none, none-any, all-in, same-length}
 

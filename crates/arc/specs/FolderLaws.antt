@@ -3,13 +3,13 @@ use mathlib.Core.Path.{_≡_, refl, sym, ap, ap₂, _∙_, subst}
 use mathlib.Core.Bool.{Bool, true, false, not, _&&_}
 use mathlib.Core.List.{List, [], _∷_, _++_, map, append-assoc, append-nil}
 use mathlib.Core.Option.{Option, none, some, Option·some-injective, Option·none-ne-some}
-use Prim.Native.Nat.{ℕ, _≤_, _<_, _+_}
+use Prim.Native.Nat.{ℕ, _≤_, _<_}
 use native.Mathlib.Omega.{arith}
 use lib.Dec.{eqb}
-use Rattle.paper.specs.Cache.{Numbers, Hashing, AddressRow, Box, Word, Call, read, oneIf, rowWithBlock}
+use Rattle.paper.specs.Cache.{Numbers, Hashing, AddressRow, Box, Word, read, oneIf, rowWithBlock}
 use Rattle.paper.specs.KeyedLaws.{by-test, All, all-append, eqb→≡}
-use Rattle.paper.specs.Faithful.{at, Faithful}
-use Rattle.paper.specs.Batch.{Filled, Batched, addressesIn, blocksIn, isMiss, seen, firstRead, start, source, blockIn, added, batchRead, batch}
+use Rattle.paper.specs.Faithful.{at}
+use Rattle.paper.specs.Batch.{Filled, Batched, addressesIn, blocksIn, isMiss, seen, firstRead, source, blockIn, added, batchRead, batch}
 use Rattle.paper.specs.BatchLaws.{map-last, butFetches}
 use Rattle.arc.specs.Policy.{Policy, Served, readBy, serveBy, lru}
 use Rattle.arc.specs.LruServes.{lru-reads}

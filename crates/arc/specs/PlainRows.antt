@@ -1,6 +1,6 @@
 -- Rows, blocks and the plain disk, for any policy's step: what the paper's own proofs of them use.
 use mathlib.Core.Path.{_≡_, refl, sym, ap, _∙_, subst}
-use mathlib.Core.Bool.{Bool, true, false, not, _&&_, _||_, true≢false}
+use mathlib.Core.Bool.{Bool, true, false, not, _&&_, true≢false}
 use mathlib.Core.List.{List, [], _∷_, _++_}
 use mathlib.Core.Logic.{_⊎_, inl, inr, _≢_}
 use mathlib.Core.Option.{Option, none, some, Option·some-injective}
@@ -9,7 +9,7 @@ use lib.Dec.{eqb}
 use lib.ListN.{length, set, length-set}
 use lib.Seq.{getD-set-other}
 use borrow.Author.Tests.{not-false}
-use Rattle.paper.specs.Cache.{Numbers, Hashing, AddressRow, BlockRow, Box, blockRow, held, rowOf, cached, blockOf, rowWithBlock, dirtied}
+use Rattle.paper.specs.Cache.{Numbers, Hashing, AddressRow, BlockRow, Box, blockRow, held, rowOf, blockOf, rowWithBlock, dirtied}
 use Rattle.paper.specs.KeyedLaws.{by-test, either, clash, or-both, or-false-left, or-false-right, eqb→≡, eqb-swap, All, Distinct, all-append, all-map, all-both, find-some, find-none}
 use Rattle.paper.specs.Sound.{Sound, DirtyCached}
 use Rattle.paper.specs.Faithful.{at, at-set-same, at-set-other, any, dirtyAt, all-at, all-set, RowTrue, BlockTrue, Faithful, FaithfulBut, row-block}

@@ -1,12 +1,12 @@
 -- What a policy must promise of its step, and the laws of the calls and of every list of calls that follow for every policy.
 use mathlib.Core.Path.{_≡_, refl, sym, ap, _∙_, subst}
-use mathlib.Core.Bool.{Bool, true, false, true≢false}
+use mathlib.Core.Bool.{false}
 use mathlib.Core.List.{List, [], _∷_, _++_, List·Memᴰ, List·Memᴰ·head, List·Memᴰ·tail}
 use mathlib.Core.Option.{Option, none, some}
 use Prim.Native.Nat.{ℕ, zero, suc, _≤_, _<_}
 use lib.Dec.{eqb}
 use lib.ListN.{length, set, getD}
-use Rattle.paper.specs.Cache.{Numbers, Hashing, AddressRow, Box, Request, blockOf, cleaned, partly, reach, cleanTo, rowOf, Call, read, through, back}
+use Rattle.paper.specs.Cache.{Numbers, Hashing, AddressRow, Box, Request, blockOf, partly, reach, cleanTo, rowOf, Call, read, through, back}
 use Rattle.paper.specs.Cache.{invalidate, look, flush, Within, onDisk, rowWithBlock, answer, backRequest, writeInvalidate, lookAs, flushed, serve, fresh}
 use Rattle.paper.specs.KeyedLaws.{eqb→≡, eqb-swap, All, all-left, all-right, all-map, find-some}
 use Rattle.paper.specs.Machines.{plainNext, plainBlock, writtenBy, TrueFingerprints, NoTwoShare}
@@ -14,7 +14,7 @@ use Rattle.paper.specs.Sound.{Sound, sound-onDisk, sound-cleanTo, sound-step, s
 use Rattle.paper.specs.Faithful.{at, at-set-same, at-set-other, all-at, RowTrue, BlockTrue, Faithful, FaithfulBut, faithful-step}
 use Rattle.paper.specs.PlainDisk.{ifCached-some, clean-is-plain, flush-whole, faithful-serve}
 use Rattle.arc.specs.PlainRows.{Only, row-clean, miss-clean, but, but-set, hit-block, still-clean}
-use Rattle.arc.specs.Policy.{Ran, Policy, Served, serveBy, readBy, throughBy, backBy, answeredBy, ThroughoutBy, EachBy, ReturnsPlain}
+use Rattle.arc.specs.Policy.{Policy, serveBy, readBy, throughBy, backBy, answeredBy, ThroughoutBy, EachBy, ReturnsPlain}
 use Rattle.arc.specs.Policy.{FlushesPlain, writtenIn, lru}
 
 -- A request that tells the truth: its fingerprint is its block's, its block is the plain disk's, and it is clean only where the disk is up to date
