@@ -1,20 +1,20 @@
 -- What the definitions and the claims mean: each call by its name, the machines and the claims by example, computed, and the case of reads alone.
 -- Assumes nothing.
 use mathlib.Core.Path.{_≡_, refl, ap, _∙_, sym}
-use mathlib.Core.Bool.{true, false, false≢true, not}
+use mathlib.Core.Bool.{true, false, false≢true, true≢false, not}
 use mathlib.Core.List.{List, [], _∷_, map, List·Memᴰ·head, List·Memᴰ·tail}
 use mathlib.Core.Option.{Option, none, some}
 use Prim.Native.Nat.{ℕ}
 use native.Mathlib.Omega.{arith}
 use lib.Dec.{eqb}
 use Rattle.paper.specs.KeyedLaws.{All, eqb→≡, eqb-self}
-use Rattle.paper.specs.Cache.{Numbers, Hashing, Box, Call, newest, blockRow, Word, hit, miss, someUncached}
+use Rattle.paper.specs.Cache.{Numbers, Hashing, Box, Call, newest, blockRow, Word, hit, miss}
 use Rattle.paper.specs.Worked.{labels}
 use Rattle.paper.specs.Engine.{Fixed, fit, engine}
 use Rattle.paper.specs.Lent.{Lent, Ask, After, opening, calling, refusal, callOf, lentBlock, blockAfter, partAfter, boxIn, call, opened}
 use Rattle.paper.specs.BatchLent.{one}
 use Rattle.paper.specs.Machines.{plainNext, plainBlock, NoWrite, Read, Compared, seenIn, printedNext, printedHit, put, printedTrace, contentOf}
-use Rattle.paper.specs.Machines.{someUnknown, TrueFingerprints, NoTwoShare}
+use Rattle.paper.specs.Machines.{OrphanLaw, TrueFingerprints, NoTwoShare}
 use Rattle.paper.specs.Demand3.{next, firstPlain, InList, returned, wordOf, readsOf, seenAfter}
 use Rattle.paper.specs.Demand3Laws.{demand-3}
 
@@ -113,17 +113,21 @@ printed-by-example = refl
 
 -- ---- the claims by example
 
--- a box in which address 1 is without its block, and block 2 without an address
+-- a box that holds address 1, whose content is 1, and has block k
+abbrev holding : ℕ → Box ℕ ℕ
+holding k = record { rows = newest 1 1 false ∷ []; free = []; used = blockRow k 0 ∷ []; flash = k ∷ []; disk = 0 ∷ 1 ∷ [] }
+
+-- the one in which address 1 is without its block, and block 2 without an address
 abbrev wasteful : Box ℕ ℕ
-wasteful = record { rows = newest 1 1 false ∷ []; free = []; used = blockRow 2 0 ∷ []; flash = 2 ∷ []; disk = 0 ∷ 1 ∷ [] }
+wasteful = holding 2
 
 -- what is compared of it after a hit
 pub seen-by-example : seenIn wasteful (some hit) ≡ compared (1 ∷ []) (2 ∷ []) (some hit)
 seen-by-example = refl
 
--- the orphan law does not hold of it: both tests are true
-pub orphans-by-example : (someUncached labels (wasteful .rows) (wasteful .used) ≡ true) × (someUnknown labels (wasteful .rows) (wasteful .used) ≡ true)
-orphans-by-example = (refl, refl)
+-- the orphan law does not hold of it; with block 1 it does
+pub orphans-by-example : (OrphanLaw labels wasteful → ⊥) × OrphanLaw labels (holding 1)
+orphans-by-example = (λ h. true≢false h, refl)
 
 -- its fingerprints are true where the plain disk has 1 at address 1, not where it has 3
 pub fingerprints-by-example : TrueFingerprints labels wasteful (0 ∷ 1 ∷ []) × (TrueFingerprints labels wasteful (0 ∷ 3 ∷ []) → ⊥)

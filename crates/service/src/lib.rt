@@ -270,7 +270,7 @@ pub extern "C" fn mindavehu_flush_some(
         ≡ leaves (Ask.flush most) (now (state .entry)) (now (disk .entry)) (now (flash .entry)) (now (addresses .entry)) (now (blocks .entry))
         (now (answer .entry)) ⌝ }
 {
-    if !fields::fit(state, answer) {
+    if !fields::fit(24, state, answer) {
         return 2;
     }
     let b = fields::record_in(state);

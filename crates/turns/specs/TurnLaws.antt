@@ -1,7 +1,7 @@
 -- The turns of a folder read. Assumes nothing.
 use mathlib.Core.Path.{_≡_, refl, sym, ap, ap₂, _∙_, subst}
-use mathlib.Core.Bool.{Bool, true, false, not, _&&_, _||_, cond}
-use mathlib.Core.List.{List, [], _∷_, _++_, append-assoc, append-nil}
+use mathlib.Core.Bool.{Bool, true, false, not, _&&_, cond}
+use mathlib.Core.List.{List, [], _∷_, _++_, map, append-assoc, append-nil}
 use mathlib.Core.Option.{Option, none, some}
 use Prim.Native.Nat.{ℕ, _+_, _-_, _*_, _<_, _≤_}
 use native.Mathlib.Omega.{arith}
@@ -10,17 +10,20 @@ use native.Mathlib.Numerals.{add-one}
 use lib.Dec.{eqb, ltb, leb}
 use lib.ListN.{length, getD, take, drop, length-append, length-map, length-drop, take-append-drop}
 use lib.Seq.{paste, take-append-seam, take-append-le, drop-append-le, length-take-le, take-suc, take-all, take-at, drop-at}
-use borrow.Author.Tests.{ltb-true, ltb-false, lt-ltb, le-leb, lt-leb, eq-eqb}
+use borrow.Author.Tests.{ltb-true, ltb-false, lt-ltb, le-leb, lt-leb, not-false}
 use borrow.Rule.Slice.PartMut.{putMid}
-use Rattle.tables.specs.Rows.{tableBytes}
-use Rattle.tables.specs.Sound.{blocksFit}
+use Rattle.tables.specs.Rows.{tableBytes, rows}
+use Rattle.tables.specs.Find.{every}
+use Rattle.tables.specs.Index.{unique, rowOk}
+use Rattle.tables.specs.Sound.{distinct, rowSlot}
 use Rattle.tables.specs.Unsound.{blocksUnsound}
+use Rattle.table_laws.specs.Checked.{blocks-checked}
 use Rattle.block.specs.Blocks.{part, splice}
 use Rattle.block.specs.Laws.{length-part, length-splice, put-mid}
 use Rattle.parts.specs.declared.BoxRecord.{BoxRecord}
 use Rattle.serve.specs.declared.Served.{Served}
 use Rattle.turns.specs.declared.Sums.{Sums}
-use Rattle.paper.specs.KeyedLaws.{by-test}
+use Rattle.paper.specs.KeyedLaws.{by-test, and-right}
 use Rattle.paper.specs.Cache.{Numbers, Hashing, AddressRow, Box, Counters, noCounts, Outcome, counted, oneIf, isHit, rowWithBlock, readAs, answer}
 use Rattle.paper.specs.Engine.{Fixed, engine}
 use Rattle.paper.specs.Lent.{join, lentOf}
@@ -37,15 +40,22 @@ use Rattle.step.specs.Steps.{Sure, out4}
 use Rattle.serve.specs.Calls.{Leaves, left, leaves, isYes, returned}
 use Rattle.turns.specs.Turns.{countedBy, Turned, Lends}
 
--- the bytes of a sound box pass 7, so that they have an index
-pub passes-7 : (b : BoxRecord) (disk flash addrs blocks : List ℕ) (s : Box (Fixed 32) (Fixed (b .size))) → Rep b disk flash addrs blocks s → Sure b s
-    → (not (blocksFit (b .slots) blocks) || blocksUnsound (b .slots) blocks) ≡ false
-unfolding blocksFit lentOf blocksOf
-passes-7 b disk flash addrs blocks s h sd =
+-- the bytes of a sound box have an index: the table's length, and no fingerprint used twice
+pub indexable : (b : BoxRecord) (disk flash addrs blocks : List ℕ) (s : Box (Fixed 32) (Fixed (b .size))) → Rep b disk flash addrs blocks s → Sure b s
+    → (length blocks ≡ tableBytes (b .slots)) × (b .slots ≤ 256) × (every unique (rows (b .slots) blocks) ≡ true)
+unfolding lentOf blocksOf
+indexable b disk flash addrs blocks s h sd =
     let p = sound-passes (numbersOf b) s sd noCounts (h .rows-are .small) (h .blocks-are .small) in
-    let lb : length blocks ≡ tableBytes (b .slots) = ap (length {A = ℕ}) (h .blocks-are .is) ∙ p .lengths .blocks in
-    let eb : blocksUnsound (b .slots) blocks ≡ false = ap (blocksUnsound (b .slots)) (h .blocks-are .is) ∙ p .blocks in
-    rw (le-leb (b .slots) 256 (h .blocks-are .small), eq-eqb (length blocks) (tableBytes (b .slots)) lb, eb) refl
+    let rs = rows (b .slots) blocks in
+    let ok = every (rowOk (b .slots)) rs in
+    let once = every unique rs in
+    let slots = distinct (map rowSlot rs) in
+    let passed : blocksUnsound (b .slots) blocks ≡ false = ap (blocksUnsound (b .slots)) (h .blocks-are .is) ∙ p .blocks in
+    let all = not-false (ok && (slots && once)) (sym (blocks-checked (b .slots) blocks) ∙ passed) in (
+      ap (length {A = ℕ}) (h .blocks-are .is) ∙ p .lengths .blocks,
+      h .blocks-are .small,
+      and-right slots once (and-right ok (slots && once) all),
+    )
 
 -- a folder read, its last read apart
 batch-last : {F X : Type 0} (H : Hashing F X) (N : Numbers) (t : Batched F X) (l : List ℕ) (a : ℕ)

@@ -1,6 +1,5 @@
 // One read of a folder: a hit asks no index, a miss makes it anew.
 use checks::index;
-use checks::sound;
 use parts::BoxRecord;
 use parts::rows;
 use serve::Served;
@@ -24,7 +23,7 @@ pub(crate) fn index_rows(b: BoxRecord, blocks: &[u8], heads: &mut [u16])
     requires { ⌜ ((disk : List ℕ) × (flash : List ℕ) × (addrs : List ℕ) × LentSound b disk flash addrs (now blocks)) ⌝ }
     ensures { λ _. ⌜ Indexed (b .slots) (now (blocks .entry)) (now (heads .exit)) ⌝ }
 {
-    sound::blocks_unsound(blocks, b.slots, heads);
+    index::build(blocks, b.slots, heads);
 }
 
 // A miss: the first read of an address takes the disk's block, a repeat the lent one.

@@ -90,7 +90,7 @@ pub fn option(asked: &[u32]) -> String {
 pub fn folder(input: &[u8], asked: &[u32]) -> String {
     let mut output = states(input, false);
     let (mut last, mut calls) = (None, 0);
-    follow(input, |_, line, cache| {
+    follow(input, false, |_, line, cache| {
         last = cache.cloned();
         calls += line.is_some() as usize;
     });

@@ -12,7 +12,7 @@ use Rattle.service.proofs.mindavehu_flush_some.Tie as tie
 abbrev start : tie.After-fit → tie.Start
 start c = c .before .before .before .before .before .before .before .before .before
 
-fits : (c : tie.Else1) → (let a = start (c .before) .args in fitting (a .state .now) (a .answer .now) ≡ true)
+fits : (c : tie.Else1) → (let a = start (c .before) .args in fitting 24 (a .state .now) (a .answer .now) ≡ true)
 fits c = sym (c .before .fit .ensures) ∙ not-false _ (c .if1 .left)
 
 returns : tie.Need-returns
@@ -22,10 +22,10 @@ returns c =
     (sym (c .before .fit .ensures) ∙ not-true _ (c .if1 .taken)) _ refl
 
 record-in-requires : tie.Need-record-in-requires
-record-in-requires c κs = lengths _ _ (fits (c .before)) .0
+record-in-requires c κs = lengths _ _ _ (fits (c .before)) .0
 
 counters-in-requires : tie.Need-counters-in-requires
-counters-in-requires c κs = lengths _ _ (fits (c .before .before .before)) .0
+counters-in-requires c κs = lengths _ _ _ (fits (c .before .before .before)) .0
 
 -- the place after the cache's call
 abbrev called-at : tie.After-write-outcome-arg2 → tie.After-flush-some
@@ -35,7 +35,7 @@ abbrev read-at : tie.After-flush-some → tie.After-counters-in
 read-at c = c .before .before .before
 
 write-outcome-requires : tie.Need-write-outcome-requires
-write-outcome-requires c κs = lengths _ _ (fits (read-at (called-at c) .before .before .before .before))
+write-outcome-requires c κs = lengths _ _ _ (fits (read-at (called-at c) .before .before .before .before))
 
 returns-2 : tie.Need-returns-2
 returns-2 c =
