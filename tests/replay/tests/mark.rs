@@ -104,7 +104,8 @@ fn reasons() {
     );
     let several = told("week", "7 B 5 new 1 1", "7 B 5 new 1 0");
     let why = "    why           B 5 0A: content 10 is not in flash yet; address 5 becomes dirty\n                  \
-               flash is full and each of its blocks has an address: content 9, the oldest, leaves; address 2 is dirty, so content 9 is copied to the disk first\n\
+               flash is full and each of its blocks has an address: content 9, the oldest, leaves; address 2 is dirty, so content 9 is \
+               copied to the disk first\n\
                \x20                 content 10 is stored in flash\n    state before  ";
     assert!(several.contains(why), "{several}");
     println!("reasons of a refused line, of line 1, and three of one line");
