@@ -10,7 +10,7 @@
  *     8 of 9 lines are right
  *
  * An answer is right where it is the line of the key byte for byte, but for spaces and a carriage return at its end. An answer belongs to the line of the key
- * with its call number (the sums to the sums), so a line left out or put in makes no later line wrong; empty lines at the end count as none.
+ * with its call number (the sums to the sums), so a line left out or put in makes no later line wrong; empty lines count as none.
  * Exit status: 0 where every line is right and none is too many, 1 where not, or where reading or writing failed, 2 for wrong usage. */
 #include <errno.h>
 #include <stdint.h>
@@ -61,13 +61,16 @@ static char *next_line(FILE *file)
     return text;
 }
 
+/* The next line of the answers that is not empty, without spaces and carriage returns at its end. */
 static void next_answer(FILE *file)
 {
-    free(answer);
-    answer = next_line(file);
-    size_t length = answer ? strlen(answer) : 0;
-    while (length > 0 && (answer[length - 1] == ' ' || answer[length - 1] == '\r'))
-        answer[--length] = 0;
+    do {
+        free(answer);
+        answer = next_line(file);
+        size_t length = answer ? strlen(answer) : 0;
+        while (length > 0 && (answer[length - 1] == ' ' || answer[length - 1] == '\r'))
+            answer[--length] = 0;
+    } while (answer && !answer[0]);
 }
 
 /* The number that a line begins with, the sums' place, or `here` where it has none. */
@@ -132,22 +135,16 @@ static void mark(FILE *answers, const char *key)
         next_answer(answers);
 }
 
-/* The rest of the answers, but for empty lines at the end. */
+/* The rest of the answers. */
 static void mark_rest(FILE *answers)
 {
-    unsigned long long empty = 0;
     for (; answer; next_answer(answers)) {
-        if (answer[0] == 0) {
-            empty++;
-            continue;
-        }
         if (!told) {
             printf("The first difference is after the key's end\n    the answer    ");
             print_shown(answer);
             told = 1;
         }
-        more += empty + 1;
-        empty = 0;
+        more++;
     }
 }
 

@@ -26,7 +26,7 @@ fn right_answers() {
         let key = key(&name);
         let lines = key.lines().count();
         let right = (Some(0), format!("{lines} of {lines} lines are right\n"));
-        for answers in [key.clone(), key.replace('\n', "\r\n"), key.replace('\n', "  \n"), key.trim_end().to_string(), format!("{key}\n\n")] {
+        for answers in [key.clone(), key.replace('\n', "\r\n"), key.replace('\n', "  \n"), key.trim_end().to_string(), key.replace('\n', "\n \n\r\n")] {
             assert_eq!(marked("mark-right", answers.as_bytes(), &format!("{lesson}.txt")), right, "{lesson}");
         }
         count += 1;
@@ -60,6 +60,10 @@ fn wrong_answers() {
         (
             with(13, "14 R 1 hit 0 0"),
             "The first difference is after the key's end\n    the answer    14 R 1 hit 0 0\n13 of 13 lines are right, and 1 line is too many\n".into(),
+        ),
+        (
+            format!("{week}\n14 R 1 hit 0 0\n\nmore\n"),
+            "The first difference is after the key's end\n    the answer    14 R 1 hit 0 0\n13 of 13 lines are right, and 2 lines are too many\n".into(),
         ),
         (
             week.replace("hits 1", "hits 2"),
@@ -100,7 +104,8 @@ fn reasons() {
     );
     let several = told("week", "7 B 5 new 1 1", "7 B 5 new 1 0");
     let why = "    why           B 5 0A: content 10 is not in flash yet; address 5 becomes dirty\n                  \
-               flash is full and each of its blocks has an address: content 9, the oldest, leaves; address 2 is dirty, so content 9 is copied to the disk first\n\
+               flash is full and each of its blocks has an address: content 9, the oldest, leaves; address 2 is dirty, so content 9 is \
+               copied to the disk first\n\
                \x20                 content 10 is stored in flash\n    state before  ";
     assert!(several.contains(why), "{several}");
     println!("reasons of a refused line, of line 1, and three of one line");
