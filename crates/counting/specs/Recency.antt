@@ -59,21 +59,30 @@ module _ {K : Type 0} (same : K → K → Bool) (same→≡ : (j k : K) → same
       (λ e. rw e (λ h. ap suc (one-out k xs (d .1) h)))
 
   -- the list after one more key
-  pub newest-put : (n : ℕ) (k : K) (r s : List K) → 1 ≤ n → Distinct same (λ x. x) r → Newest same n r s → Newest same n (without same (λ x. x) k r ++ (k ∷ [])) (put same n k s)
+  pub newest-put : (n : ℕ) (k : K) (r s : List K) → 1 ≤ n → Distinct same (λ x. x) r → Newest same n r s
+      → Newest same n (without same (λ x. x) k r ++ (k ∷ [])) (put same n k s)
   unfolding put
   newest-put n k r s n1 d v =
       let o = v .older in
       let d′ : Distinct same (λ x. x) (o ++ s) = subst (Distinct same (λ x. x)) (v .whole) d in
       let out : without same (λ x. x) k r ++ (k ∷ []) ≡ without same (λ x. x) k o ++ (without same (λ x. x) k s ++ (k ∷ []))
-      = ap (λ l. without same (λ x. x) k l ++ (k ∷ [])) (v .whole) ∙ ap (λ l. l ++ (k ∷ [])) (without-append same (λ x. x) k o s) ∙ append-assoc (without same (λ x. x) k o) (without same (λ x. x) k s) (k ∷ []) in
+      = ap (λ l. without same (λ x. x) k l ++ (k ∷ [])) (v .whole) ∙ ap (λ l. l ++ (k ∷ [])) (without-append same (λ x. x) k o s)
+      ∙ append-assoc (without same (λ x. x) k o) (without same (λ x. x) k s) (k ∷ []) in
       by-test (occurs same k s)
       (λ h. rw h (
       let a : without same (λ x. x) k o ≡ o = without-absent same (λ x. x) k o (apart k o s d′ h) in
-      let l : length (without same (λ x. x) k s ++ (k ∷ [])) ≡ length s = omega (arith, length-append (without same (λ x. x) k s) (k ∷ []), one-out k s (distinct-right o s d′) h) in
-      record { older = o; whole = out ∙ ap (λ z. z ++ (without same (λ x. x) k s ++ (k ∷ []))) a; most = omega (arith, v .most); full = either (v .full) (λ e. inl (l ∙ e)) (λ e. inr e) }))
+      let l : length (without same (λ x. x) k s ++ (k ∷ [])) ≡ length s
+      = omega (arith, length-append (without same (λ x. x) k s) (k ∷ []), one-out k s (distinct-right o s d′) h) in
+      record {
+        older = o;
+        whole = out ∙ ap (λ z. z ++ (without same (λ x. x) k s ++ (k ∷ []))) a;
+        most = omega (arith, v .most);
+        full = either (v .full) (λ e. inl (l ∙ e)) (λ e. inr e);
+      }))
       (λ h. rw h (
       let w : without same (λ x. x) k s ≡ s = without-absent same (λ x. x) k s h in
-      let out′ : without same (λ x. x) k r ++ (k ∷ []) ≡ without same (λ x. x) k o ++ (s ++ (k ∷ [])) = out ∙ ap (λ z. without same (λ x. x) k o ++ (z ++ (k ∷ []))) w in
+      let out′ : without same (λ x. x) k r ++ (k ∷ []) ≡ without same (λ x. x) k o ++ (s ++ (k ∷ []))
+      = out ∙ ap (λ z. without same (λ x. x) k o ++ (z ++ (k ∷ []))) w in
       by-test (eqb (length s) n)
       (λ e. rw e (taken n k (without same (λ x. x) k r ++ (k ∷ [])) (without same (λ x. x) k o) s n1 (eqb→≡ (length s) n e) out′))
       (λ e. rw e (either (v .full) (λ f. absurd (eqb-false (length s) n e f))
@@ -105,19 +114,28 @@ module _ {K : Type 0} (same : K → K → Bool) (same→≡ : (j k : K) → same
       let s : since same k (x ∷ xs) ≡ since same k xs = rw h (rw (and-false (same k x)) refl) in
       by-test (occurs same x xs)
       (λ i. record { before = p .before; place = rw i (p .place ∙ ap (λ z. p .before ++ (k ∷ order same z)) (sym s)); others = rw s (p .others) })
-      (λ i. record { before = x ∷ p .before; place = rw i (ap {B = List K} (λ z. x ∷ z) (p .place ∙ ap (λ z. p .before ++ (k ∷ order same z)) (sym s))); others = rw s (p .others) }))
+      (λ i. record {
+        before = x ∷ p .before;
+        place = rw i (ap {B = List K} (λ z. x ∷ z) (p .place ∙ ap (λ z. p .before ++ (k ∷ order same z)) (sym s)));
+        others = rw s (p .others);
+      }))
       (λ h t.
       let e : same k x ≡ true = sym (or-false (same k x)) ∙ ap (λ b. same k x || b) (sym h) ∙ t in
       let s : since same k (x ∷ xs) ≡ xs = rw (e, h) refl in
       let i : occurs same x xs ≡ false = rw (← same→≡ k x e) h in
-      record { before = []; place = rw i (ap {B = List K} (λ z. z ∷ order same xs) (sym (same→≡ k x e)) ∙ ap {B = List K} (λ z. k ∷ order same z) (sym s)); others = rw s h })
+      record {
+        before = [];
+        place = rw i (ap {B = List K} (λ z. z ∷ order same xs) (sym (same→≡ k x e)) ∙ ap {B = List K} (λ z. k ∷ order same z) (sym s));
+        others = rw s h;
+      })
 
   -- "present": it occurred, with fewer than n distinct others since
   pub present : (n : ℕ) (k : K) (l s : List K) → Newest same n (order same l) s → occurs same k s ≡ (occurs same k l && ltb (distinct same (since same k l)) n)
   present n k l s v =
       by-test (occurs same k l)
       (λ h. rw h (there (placed k l h)))
-      (λ h. rw h (or-false-right (occurs same k (v .older)) (occurs same k s) (sym (has-append same (λ x. x) k (v .older) s) ∙ sym (ap (occurs same k) (v .whole)) ∙ has-order same same→≡ same-refl k l ∙ h)))
+      (λ h. rw h (or-false-right (occurs same k (v .older)) (occurs same k s)
+      (sym (has-append same (λ x. x) k (v .older) s) ∙ sym (ap (occurs same k) (v .whole)) ∙ has-order same same→≡ same-refl k l ∙ h)))
     where
       there : Placed k l → occurs same k s ≡ ltb (distinct same (since same k l)) n
       there p =
@@ -128,11 +146,13 @@ module _ {K : Type 0} (same : K → K → Bool) (same→≡ : (j k : K) → same
           let absent : occurs same k q ≡ false = has-order same same→≡ same-refl k (since same k l) ∙ p .others in
           let long : suc (length q) ≤ length s → occurs same k s ≡ true
           = λ g. let w = ends (v .older) s b (k ∷ q) both g in
-          ap (occurs same k) (w .1) ∙ has-append same (λ x. x) k (w .0) (k ∷ q) ∙ or-right (occurs same k (w .0)) (occurs same k (k ∷ q)) (rw (same-refl k) refl) in
+          ap (occurs same k) (w .1) ∙ has-append same (λ x. x) k (w .0) (k ∷ q)
+          ∙ or-right (occurs same k (w .0)) (occurs same k (k ∷ q)) (rw (same-refl k) refl) in
           by-test (ltb (distinct same (since same k l)) n)
           (λ t. long (either (v .full) (λ f. omega (arith, ltb-true (distinct same (since same k l)) n t))
           (λ f. omega (arith, ap length (ap (λ z. z ++ s) (sym f) ∙ both), length-append b (k ∷ q)))) ∙ sym t)
           (λ t.
           let g : length s ≤ length q = omega (arith, ltb-false (distinct same (since same k l)) n t, v .most) in
           let w = ends (b ++ (k ∷ [])) q (v .older) s (append-assoc b (k ∷ []) q ∙ sym both) g in
-          or-false-right (occurs same k (w .0)) (occurs same k s) (sym (has-append same (λ x. x) k (w .0) s) ∙ sym (ap (occurs same k) (w .1)) ∙ absent) ∙ sym t)
+          or-false-right (occurs same k (w .0)) (occurs same k s)
+          (sym (has-append same (λ x. x) k (w .0) s) ∙ sym (ap (occurs same k) (w .1)) ∙ absent) ∙ sym t)

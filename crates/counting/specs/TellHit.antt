@@ -22,7 +22,8 @@ use Rattle.counting.specs.Told.{occurs, since, distinct, tellHit, tell}
 use Rattle.counting.specs.Recency.{Newest, distinct-order, newest-put, present}
 
 -- The printed D-LRU: after the reads `past` its two lists are the newest of their addresses and of their contents
-module _ {F : Type 0} (same : F → F → Bool) (same→≡ : (f g : F) → same f g ≡ true → f ≡ g) (same-refl : (f : F) → same f f ≡ true) (m d : ℕ) (content : ℕ → F) where
+module _ {F : Type 0} (same : F → F → Bool) (same→≡ : (f g : F) → same f g ≡ true → f ≡ g) (same-refl : (f : F) → same f f ≡ true)
+    (m d : ℕ) (content : ℕ → F) where
   pub record Follows (past : List ℕ) (p : Printed F) : Type 0 where
     pub addresses : Newest eqb m (order eqb past) (p .addresses)
     pub fingerprints : Newest same d (order same (map content past)) (p .fingerprints)
@@ -42,16 +43,20 @@ module _ {F : Type 0} (same : F → F → Bool) (same→≡ : (f g : F) → same
   pub printed-told : (past : List ℕ) (p : Printed F) (a : ℕ) → Follows past p → printedHit same content p a ≡ tellHit same m d content past a
   unfolding printedHit tellHit
   printed-told past p a v =
-      ap₂ _&&_ (present eqb eqb→≡ eqb-self m a past (p .addresses) (v .addresses)) (present same same→≡ same-refl d (content a) (map content past) (p .fingerprints) (v .fingerprints))
-      ∙ and-three (occurs eqb a past) (ltb (distinct eqb (since eqb a past)) m) (occurs same (content a) (map content past)) (ltb (distinct same (since same (content a) (map content past))) d) (content-occurs a past)
+      ap₂ _&&_ (present eqb eqb→≡ eqb-self m a past (p .addresses) (v .addresses))
+      (present same same→≡ same-refl d (content a) (map content past) (p .fingerprints) (v .fingerprints))
+      ∙ and-three (occurs eqb a past) (ltb (distinct eqb (since eqb a past)) m) (occurs same (content a) (map content past))
+      (ltb (distinct same (since same (content a) (map content past))) d) (content-occurs a past)
 
   pub follows-next : (past : List ℕ) (p : Printed F) (a : ℕ) → 1 ≤ m → 1 ≤ d → Follows past p → Follows (past ++ (a ∷ [])) (printedNext same m d content p a)
   unfolding printedNext
   follows-next past p a m1 d1 v =
       record {
-        addresses = rw (order-snoc eqb eqb→≡ eqb-self a past) (newest-put eqb eqb→≡ eqb-self m a (order eqb past) (p .addresses) m1 (distinct-order eqb eqb→≡ eqb-self past) (v .addresses));
+        addresses = rw (order-snoc eqb eqb→≡ eqb-self a past)
+            (newest-put eqb eqb→≡ eqb-self m a (order eqb past) (p .addresses) m1 (distinct-order eqb eqb→≡ eqb-self past) (v .addresses));
         fingerprints = rw (map-append content past (a ∷ []), order-snoc same same→≡ same-refl (content a) (map content past))
-            (newest-put same same→≡ same-refl d (content a) (order same (map content past)) (p .fingerprints) d1 (distinct-order same same→≡ same-refl (map content past)) (v .fingerprints));
+            (newest-put same same→≡ same-refl d (content a) (order same (map content past)) (p .fingerprints) d1
+            (distinct-order same same→≡ same-refl (map content past)) (v .fingerprints));
       }
 
   pub follows-none : Follows [] (record { addresses = []; fingerprints = [] })
@@ -63,7 +68,8 @@ module _ {F : Type 0} (same : F → F → Bool) (same→≡ : (f g : F) → same
 
   -- the whole list of reads, none refused
   pub trace-told : (past rest : List ℕ) (p : Printed F) → 1 ≤ m → 1 ≤ d → Follows past p
-      → map (λ c. c .answer) (printedTrace same m d content p (map (λ a. record { address = a; refused = false }) rest)) ≡ map some (tell same m d content past rest)
+      → map (λ c. c .answer) (printedTrace same m d content p (map (λ a. record { address = a; refused = false }) rest))
+      ≡ map some (tell same m d content past rest)
   unfolding printedTrace tell
   trace-told past [] p m1 d1 v = refl
   trace-told past (a ∷ rest) p m1 d1 v =

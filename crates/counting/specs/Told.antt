@@ -65,9 +65,10 @@ pub record List-of : Type 0 where
 
 abbrev counted : (disk : List ℕ) (past : List ℕ) → List Row → List (Option ℕ × Option ℕ)
 counted disk past [] = []
-counted disk past (r ∷ rs) =
-    (cond (occurs eqb (r .address) past) (some (otherAddresses past (r .address))) none,
-      cond (occurs eqb (getD disk (r .address) 0) (map (λ a. getD disk a 0) past)) (some (otherContents eqb (λ a. getD disk a 0) past (r .address))) none)
+counted disk past (r ∷ rs) = (
+  cond (occurs eqb (r .address) past) (some (otherAddresses past (r .address))) none,
+  cond (occurs eqb (getD disk (r .address) 0) (map (λ a. getD disk a 0) past)) (some (otherContents eqb (λ a. getD disk a 0) past (r .address))) none,
+)
     ∷ counted disk (past ++ (r .address ∷ [])) rs
 
 -- the counts and the answers written down are those of the definitions
