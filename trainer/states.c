@@ -37,8 +37,17 @@
  *
  * Where the one call is refused, that is printed, and nothing after it.
  *
- * Exit status: 0 when the list was read to its end, refusals included; 1 when reading or writing failed, or where the two ways differ; 2 for an unknown
- * option, or addresses that are not of the form. */
+ * With --counts, no state is printed but, beside each read, what can be counted in the list alone: the distinct other addresses since the last read
+ * of its address, the distinct other contents since the last read of its content by any address, and whether these two numbers tell a hit:
+ *
+ *     3 R 1 hit 0 0
+ *         other addresses 1, other contents 1: hit
+ *
+ * `-` stands where the address, or the content, was not read before. With --counts CONTENTS (decimals with commas between them) the first blocks of the
+ * disk have these contents. The list must be one of reads, none refused.
+ *
+ * Exit status: 0 when the list was read to its end, refusals included; 1 when reading or writing failed, where the two ways differ, where what is counted
+ * and the engine differ, or where a list that is counted has a line that is not a served read; 2 for an unknown option, or words that are not of the form. */
 #include <errno.h>
 #include <stdio.h>
 #include <stdlib.h>
@@ -66,7 +75,15 @@ static uint8_t state[MINDAVEHU_STATE], answer[MINDAVEHU_ANSWER];
 static uint8_t disk[MOST_BYTES], flash[MOST_BYTES], block[MOST_B];
 static uint8_t addresses[MOST_M * MINDAVEHU_ROW], blocks[MOST_D * MINDAVEHU_ROW];
 static size_t B, P, m, d;
-static int full, parts, explains;
+static int full, parts, explains, counting;
+
+/* The contents of the first disk blocks, where they are given; the reads so far, and what stopped the counting. */
+static uint32_t given[MOST_P];
+static size_t given_count;
+static uint32_t *past;
+static size_t past_count, past_room;
+static uint64_t stopped;
+static const char *why;
 
 /* The folder that is opened after the list, where one is asked for; the blocks read of it, and the answer of the one call. */
 static int has_folder, differs;
@@ -96,6 +113,58 @@ struct call {
 #define MEMORY disk, P *B, flash, d *B, TABLES
 #define STATE state, sizeof state
 #define ANSWER answer, sizeof answer
+
+/* ---- Counting, from the list alone. */
+
+/* The content of disk block k at first: k itself, or the one that was given. */
+static uint32_t first_content(size_t k) { return k < given_count ? given[k] : (uint32_t)k; }
+
+static uint32_t address_itself(uint32_t a) { return a; }
+static uint32_t content_at(uint32_t a) { return first_content(a); }
+
+/* Counts the distinct others since the last read with the same `key` as address a. Gives -1 where there is none. */
+static long count_since(uint32_t (*key)(uint32_t), uint32_t a)
+{
+    static uint8_t seen[MOST_P];
+    long distinct = 0;
+    memset(seen, 0, sizeof seen);
+    for (size_t k = past_count; k-- > 0;) {
+        uint32_t other = key(past[k]);
+        if (other == key(a))
+            return distinct;
+        distinct += !seen[other];
+        seen[other] = 1;
+    }
+    return -1;
+}
+
+static void print_count(const char *name, long count)
+{
+    printf("%s ", name);
+    if (count < 0)
+        printf("-");
+    else
+        printf("%ld", count);
+}
+
+/* What the counts tell of a read of address a, beside the engine's answer. */
+static void print_counts(uint32_t a)
+{
+    long others = count_since(address_itself, a), contents = count_since(content_at, a);
+    int hit = others >= 0 && others < (long)m && contents < (long)d;
+    print_count("    other addresses", others);
+    print_count(", other contents", contents);
+    printf(": %s\n", hit ? "hit" : "miss");
+    if (hit != (mindavehu_get(answer, MINDAVEHU_WORD) == MINDAVEHU_HIT))
+        why = "the engine answers otherwise than the counts tell, which it is proved not to do";
+    if (past_count == past_room) {
+        past_room = past_room ? 2 * past_room : 64;
+        past = realloc(past, past_room * sizeof *past);
+        if (!past)
+            abort();
+    }
+    past[past_count++] = a;
+}
 
 /* ---- The list: lines and their form. */
 
@@ -193,7 +262,7 @@ static uint32_t open_box(const uint32_t numbers[4])
     B = numbers[0], P = numbers[1], m = numbers[2], d = numbers[3];
     if (P <= MOST_P && P * B <= MOST_BYTES && d * B <= MOST_BYTES && m <= MOST_M && d <= MOST_D) {
         for (size_t k = 0; k < P; k++)
-            memset(disk + k * B, (int)k, B);
+            memset(disk + k * B, (int)first_content(k), B);
         return mindavehu_open(STATE, MEMORY);
     }
     /* More than there is memory for. Opened with no memory at all, the engine tells numbers outside their sets from a length that isn't right. */
@@ -725,18 +794,28 @@ static void replay(void)
         if (explains)
             see(&before);
         refusal = is_call(&line, &call) ? carry_out(&call) : NOT_THE_FORM;
+        if (counting && (refusal || call.letter != 'R')) {
+            stopped = number + 1;
+            why = call.letter == 'R' && refusal == MINDAVEHU_NO_ADDRESS ? "is a read of an address that the disk has not; counts are of reads that are served"
+                                                                     : "is no read; counts are of a list of reads alone";
+            return;
+        }
         if (refusal)
             printf("%llu refused %u\n", (unsigned long long)number, refusal);
         else
             print_answer(number, &call);
         if (explains)
             explain_line(&before, &line, &call, refusal);
-        print_state();
+        if (counting)
+            print_counts(call.address);
+        else
+            print_state();
     }
     if (ferror(stdin))
         return;
     print_counters();
-    print_state();
+    if (!counting)
+        print_state();
     if (has_folder)
         open_folder(number);
 }
@@ -759,18 +838,41 @@ static int take_folder(const char *word)
     return 1;
 }
 
+/* Takes the contents of the first disk blocks, in the same form. Gives 0 where they are not of that form. */
+static int take_contents(const char *word)
+{
+    while (*word) {
+        size_t digits = strspn(word, "0123456789");
+        if (digits == 0 || digits > 3 || (digits > 1 && *word == '0') || given_count == MOST_P || strtoul(word, NULL, 10) > 255)
+            return 0;
+        given[given_count++] = (uint32_t)strtoul(word, NULL, 10);
+        word += digits;
+        if (*word == ',' && word[1])
+            word++;
+        else if (*word)
+            return 0;
+    }
+    return 1;
+}
+
 int main(int count, char **words)
 {
     full = count == 2 && strcmp(words[1], "--full") == 0;
     parts = count == 2 && strcmp(words[1], "--parts") == 0;
     explains = count == 2 && strcmp(words[1], "--explain") == 0;
-    if (count == 3 && strcmp(words[1], "--folder") == 0) {
+    counting = (count == 2 || count == 3) && strcmp(words[1], "--counts") == 0;
+    if (counting) {
+        if (count == 3 && !take_contents(words[2])) {
+            fprintf(stderr, "states: --counts takes at most %d contents from 0 to 255 with commas between them, such as 0,7,7: %s\n", MOST_P, words[2]);
+            return 2;
+        }
+    } else if (count == 3 && strcmp(words[1], "--folder") == 0) {
         if (!take_folder(words[2])) {
             fprintf(stderr, "states: --folder takes at most %d addresses with commas between them, such as 2,5,2: %s\n", MOST_FOLDER, words[2]);
             return 2;
         }
     } else if (count > 1 && !full && !parts && !explains) {
-        fprintf(stderr, "states: unknown option %s; there are --full, --parts, --explain and --folder ADDRESSES\n", words[1]);
+        fprintf(stderr, "states: unknown option %s; there are --full, --parts, --explain, --counts and --folder ADDRESSES\n", words[1]);
         return 2;
     }
     replay();
@@ -782,6 +884,12 @@ int main(int count, char **words)
         fprintf(stderr, "states: the output cannot be written: %s\n", strerror(errno));
         return 1;
     }
+    if (stopped)
+        fprintf(stderr, "states: line %llu of the list %s\n", (unsigned long long)stopped, why);
+    else if (why)
+        fprintf(stderr, "states: %s\n", why);
+    if (why)
+        return 1;
     if (differs)
         fprintf(stderr, "states: one call and single reads differ, which the engine is proved not to do\n");
     return differs;

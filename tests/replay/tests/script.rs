@@ -53,10 +53,20 @@ fn a_folder() {
     println!("./replay --folder, of a file and of standard input");
 }
 
+#[test]
+fn counts() {
+    let counted = written(&["--counts", "counting.txt"], None);
+    assert!(counted.contains("\n3 R 1 hit 0 0\n    other addresses 1, other contents 1: hit\n"), "{counted}");
+    assert_eq!(written(&["--counts"], Some("counting.txt")), counted);
+    assert_eq!(written(&["--disk", "0,1,2", "counting.txt"], None), counted);
+    assert_ne!(written(&["--disk", "0,7,7", "counting.txt"], None), counted);
+    println!("./replay --counts and --disk, of a file and of standard input");
+}
+
 /// Nothing on standard output, the words on standard error, and the status.
 #[test]
 fn what_cannot_be_done() {
-    let cases: [(&[&str], i32, &str); 20] = [
+    let cases: [(&[&str], i32, &str); 22] = [
         (&["no-such-list.txt"], 1, "there is no file no-such-list.txt"),
         (&["--states", "no-such-list.txt"], 1, "there is no file no-such-list.txt"),
         (&["."], 1, ". is a folder, not a list of requests"),
@@ -64,6 +74,8 @@ fn what_cannot_be_done() {
         (&["week.txt", "refused-3.txt"], 2, "more than one file is named"),
         (&["--folder"], 2, "--folder wants the addresses of the folder"),
         (&["--folder", "folder.txt"], 2, "this is no such list: folder.txt"),
+        (&["--disk"], 2, "--disk wants the contents"),
+        (&["--disk", "counting.txt"], 2, "this is no such list: counting.txt"),
         (&["--folder", "1, 2", "folder.txt"], 2, "with commas between them and no spaces"),
         (&["week.txt", "--stats"], 2, "unknown option --stats"),
         (&["week.txt", "--states", "--page"], 2, "--states and --page contradict each other"),
