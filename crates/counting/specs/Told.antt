@@ -57,7 +57,7 @@ abbrev row : ℕ → Option ℕ → Option ℕ → Word → Row
 row a x y w = record { address = a; addresses = x; contents = y; word = w }
 
 -- a list with its m and d, and the contents of addresses 0, 1, ..
-pub record List-of : Type 0 where
+pub record Worked : Type 0 where
   pub m : ℕ
   pub d : ℕ
   pub disk : List ℕ
@@ -72,13 +72,13 @@ counted disk past (r ∷ rs) = (
     ∷ counted disk (past ++ (r .address ∷ [])) rs
 
 -- the counts and the answers written down are those of the definitions
-abbrev Right : List-of → Type 0
+abbrev Right : Worked → Type 0
 Right l =
     (counted (l .disk) [] (l .rows) ≡ map (λ r. (r .addresses, r .contents)) (l .rows))
     × (tell eqb (l .m) (l .d) (λ a. getD (l .disk) a 0) [] (map (λ r. r .address) (l .rows)) ≡ map (λ r. r .word) (l .rows))
 
 -- each address has a content of its own; three addresses, two blocks: a block leaves before its address
-abbrev pub ownContents : List-of
+abbrev pub ownContents : Worked
 ownContents =
     record {
       m = 3;
@@ -95,7 +95,7 @@ ownContents =
     }
 
 -- fewer than m: the m-th other address is one too many; an address that comes twice in between is one
-abbrev pub fewAddresses : List-of
+abbrev pub fewAddresses : Worked
 fewAddresses =
     record {
       m = 2;
@@ -113,7 +113,7 @@ fewAddresses =
     }
 
 -- addresses 1 and 2 have one content: contents are counted from its last read, by either address; a first read by address 2 is a miss all the same
-abbrev pub sharedContent : List-of
+abbrev pub sharedContent : Worked
 sharedContent =
     record {
       m = 3;

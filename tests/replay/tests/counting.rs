@@ -1,4 +1,5 @@
-//! Hits told from a list of reads alone: what `--counts` prints, held to the rule as document 02 says it, and to the engine; and the lesson, held to the program.
+//! Hits told from a list of reads alone: what `--counts` prints, held to the rule as document 02 says it and to the engine, and the lesson, held to the
+//! program.
 use common::{Progress, Random};
 use replay::lists::Shape;
 use replay::programs::{root, Program, Writing, PLAIN};
