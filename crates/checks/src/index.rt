@@ -3,12 +3,12 @@ use tables::Found;
 use tables::find;
 use tables::row;
 ghost use mathlib.Core.Path.{_≡_};
-ghost use mathlib.Core.Bool.{true, cond};
+ghost use mathlib.Core.Bool.{true};
 ghost use Prim.Native.Nat.{ℕ, suc, _+_, _<_, _≤_};
 ghost use lib.ListN.{length, drop};
 ghost use Rattle.tables.specs.Rows.{tableBytes, HasRows, IsPrint, rows, rowAt};
 ghost use Rattle.tables.specs.Records.{readBlock};
-ghost use Rattle.tables.specs.Find.{every, findFrom, caches, absent, isUsed};
+ghost use Rattle.tables.specs.Find.{every, findFrom, caches, absent};
 ghost use Rattle.tables.specs.Index.{headsLength, BlockTable, Blank, bucket, choice, In, Goes, onward, Linked, Indexed, unique};
 
 // The entries of an index: of 4,096 buckets, of 256 rows, and which bytes of a fingerprint give its bucket.

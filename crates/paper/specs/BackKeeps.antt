@@ -1,17 +1,17 @@
 -- "Write back: .. Disk address a isn't written by this call.": whatever is in the box, the disk's block at a stays. Assumes nothing.
-use mathlib.Core.Path.{_≡_, refl, sym, ap, _∙_, subst}
-use mathlib.Core.Bool.{Bool, true, false, _&&_, _||_, cond}
+use mathlib.Core.Path.{_≡_, refl, ap, _∙_, subst}
+use mathlib.Core.Bool.{Bool, true, false, _&&_, cond}
 use mathlib.Core.List.{List, [], _∷_, _++_}
 use mathlib.Core.Logic.{_⊎_, inl, inr}
-use mathlib.Core.Option.{Option, none, some}
+use mathlib.Core.Option.{none, some}
 use Prim.Native.Nat.{ℕ}
 use lib.Dec.{eqb}
-use lib.ListN.{length, set}
+use lib.ListN.{set}
 use borrow.Author.Tests.{eqb-true, eqb-false}
-use Rattle.paper.specs.KeyedLaws.{All, by-test, either, clash, and-right, or-false-left, or-false-right, all-append, all-map, has-without-self}
+use Rattle.paper.specs.KeyedLaws.{All, by-test, either, clash, and-right, or-false-left, or-false-right, all-append, has-without-self}
 use Rattle.paper.specs.Cache.{backRequest, Numbers, Hashing, AddressRow, BlockRow, Box, RowOut, BlockRows, Call}
 use Rattle.paper.specs.Cache.{newest, held, cached, blockOf, copied, isLost}
-use Rattle.paper.specs.Cache.{stored, step1, step3, step4, step, answer, writeBack, serve}
+use Rattle.paper.specs.Cache.{stored, step3, step4, step, answer, writeBack, serve}
 use Rattle.paper.specs.Cases.{ownOut, eldestOut, noneOut, by-step1, by-step4}
 use Rattle.paper.specs.Sound.{chosen-slot}
 use Rattle.paper.specs.Faithful.{at, at-set-other}

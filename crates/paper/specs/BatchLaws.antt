@@ -54,7 +54,8 @@ module _ {F X : Type 0} (H : Hashing F X) (N : Numbers) where
   turnOf t a = readAs H (N .m) (t .box) a (source H (t .box) a (firstRead a (t .filled))) (rowWithBlock H (t .box) a)
 
   -- "A disk fetch is made for the first read of each distinct address .. exactly where that read is a miss, and for no other read."
-  pub fetches-exactly : (t : Batched F X) (a : ℕ) → (batchRead H N t a) .fetches ≡ t .fetches + oneIf (not (seen a (t .filled)) && missed (rowWithBlock H (t .box) a))
+  pub fetches-exactly : (t : Batched F X) (a : ℕ) → (batchRead H N t a) .fetches ≡ t .fetches + oneIf
+      (not (seen a (t .filled)) && missed (rowWithBlock H (t .box) a))
   unfolding batchRead readAs answer
   fetches-exactly t a =
       ap (λ (w : Bool). t .fetches + oneIf (not (seen a (t .filled)) && w))

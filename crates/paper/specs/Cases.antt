@@ -7,7 +7,9 @@ use mathlib.Core.Option.{Option, none, some, Option·map}
 use Prim.Native.Nat.{ℕ}
 use lib.Dec.{eqb}
 use lib.ListN.{length}
-use Rattle.paper.specs.Cache.{Hashing, AddressRow, BlockRow, Box, RowOut, BlockRows, Taken, Stepped, blockRow, held, rowOf, withoutAddress, known, cached, withoutBlock, slotOf, copied, copies, someUncached, step1, step3, step4, oldestOut, freed, oldestUnknown, victim, takenUsed, taken, stored}
+use Rattle.paper.specs.Cache.{Hashing, AddressRow, BlockRow, Box, RowOut, BlockRows, Taken, Stepped, blockRow, held, rowOf, withoutAddress}
+use Rattle.paper.specs.Cache.{known, cached, withoutBlock, slotOf, copied, copies, someUncached, step1, step3, step4, oldestOut, freed}
+use Rattle.paper.specs.Cache.{oldestUnknown, victim, takenUsed, taken, stored}
 use Rattle.paper.specs.KeyedLaws.{by-test}
 
 module _ {F X : Type 0} (H : Hashing F X) where
@@ -16,7 +18,12 @@ module _ {F X : Type 0} (H : Hashing F X) where
 
   abbrev pub eldestOut : Box F X → AddressRow F → List (AddressRow F) → RowOut F X
   eldestOut s r rs =
-      record { rows = rs; gone = some (r .fingerprint); disk = copied H (λ f. true) (r ∷ []) (s .used) (s .flash) (s .disk); primary = copies H (λ f. true) (r ∷ []) }
+      record {
+        rows = rs;
+        gone = some (r .fingerprint);
+        disk = copied H (λ f. true) (r ∷ []) (s .used) (s .flash) (s .disk);
+        primary = copies H (λ f. true) (r ∷ []);
+      }
 
   abbrev pub noneOut : Box F X → RowOut F X
   noneOut s = record { rows = s .rows; gone = none; disk = s .disk; primary = 0 }
@@ -56,7 +63,11 @@ module _ {F X : Type 0} (H : Hashing F X) where
 
   abbrev pub moved : List (AddressRow F) → List ℕ → List (BlockRow F) → List X → List X → F → ℕ → Stepped F X
   moved rows free used flash disk g w =
-      record { box = record { rows = rows; free = free; used = withoutBlock H g used ++ (blockRow g (slotOf H g used) ∷ []); flash = flash; disk = disk }; flashWrites = 0; primaryWrites = w }
+      record {
+        box = record { rows = rows; free = free; used = withoutBlock H g used ++ (blockRow g (slotOf H g used) ∷ []); flash = flash; disk = disk };
+        flashWrites = 0;
+        primaryWrites = w;
+      }
 
   abbrev pub takenFree : ℕ → List ℕ → List (BlockRow F) → Taken F
   takenFree k free used = record { slot = k; lost = none; free = free; used = used }
@@ -68,7 +79,8 @@ module _ {F X : Type 0} (H : Hashing F X) where
   abbrev pub Chosen : List (AddressRow F) → List (BlockRow F) → BlockRow F → Type 0
   Chosen rows used u = (oldestUnknown H rows used ≡ some u) ⊎ ((oldestUnknown H rows used ≡ none) × ((us : List (BlockRow F)) × (used ≡ u ∷ us)))
 
-  pub by-step4 : (rows : List (AddressRow F)) (free : List ℕ) (used : List (BlockRow F)) (flash disk : List X) (g : F) (b : X) (w : ℕ) (G : Stepped F X → Type 0)
+  pub by-step4 : (rows : List (AddressRow F)) (free : List ℕ) (used : List (BlockRow F)) (flash disk : List X) (g : F) (b : X) (w : ℕ)
+      (G : Stepped F X → Type 0)
       → (cached H g used ≡ true → G (moved rows free used flash disk g w))
       → (cached H g used ≡ false → (k : ℕ) (ks : List ℕ) → free ≡ k ∷ ks → G (stored H rows used flash disk g b w (takenFree k ks used)))
       → (cached H g used ≡ false → free ≡ [] → (u : BlockRow F) → Chosen rows used u → G (stored H rows used flash disk g b w (takenRow u used)))

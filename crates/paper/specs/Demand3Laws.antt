@@ -13,13 +13,15 @@ use Rattle.paper.specs.Cache as Paper
 use Rattle.paper.specs.Cache.{Numbers, Hashing, Box, Counters, noCounts}
 use Rattle.paper.specs.KeyedLaws.{All, all-left, all-right, all-map, by-test}
 use Rattle.paper.specs.Engine.{Fixed, engine}
-use Rattle.paper.specs.Lent.{Lent, Ask, opening, calling, callOf, lentBlock, addressOf, wrongBuffers, wrongBlock, otherLength, outside, counts, over, unfit, refusal}
+use Rattle.paper.specs.Lent.{Lent, Ask, opening, calling, callOf, lentBlock, addressOf, wrongBuffers, wrongBlock, otherLength, outside, counts}
+use Rattle.paper.specs.Lent.{over, unfit, refusal}
 use Rattle.paper.specs.Lent.{served, call, boxIn, lentOf, join, split, fresh, opened, blockAfter, partAfter}
 use Rattle.paper.specs.Batch.{Batched, start}
 use Rattle.paper.specs.BatchLent.{Asking, one, many, badCount, anyOutside, batchRefusal, batchedFrom, servedBatch, callBatch}
 use Rattle.paper.specs.Machines.{plainNext, plainBlock, writtenBy, NoWrite, Compared, ifRead, seenIn, printedTrace, contentOf, OrphanLaw}
 use Rattle.paper.specs.Machines.{TrueFingerprints}
-use Rattle.paper.specs.Demand3.{numberOf, next, plainStep, Throughout, EachServed, InList, refusals, writtenIn, written, ShowsPlain, AsReads, OrphansWithin}
+use Rattle.paper.specs.Demand3.{numberOf, next, plainStep, Throughout, EachServed, InList, refusals, writtenIn, written, ShowsPlain, AsReads}
+use Rattle.paper.specs.Demand3.{OrphansWithin}
 use Rattle.paper.specs.Demand3.{FlushesWhole, CleanIsPlain, readsOf, wordOf, seenAfter, firstPlain, Demand3}
 use Rattle.paper.specs.Events.{Event}
 use Rattle.paper.specs.Sound.{Sound, sound-fresh}
@@ -318,10 +320,12 @@ module _ (N : Numbers) where
     fresh-sound = sound-fresh H N flash disk (length-split (N .B) (N .d) (t .flash)) (length-split (N .B) (N .P) (t .disk))
 
     fresh-box : boxIn N (opened N t) ≡ Paper.fresh (N .d) flash disk
-    fresh-box = let f = fits N fits-numbers in ap (boxIn N) fresh-lent ∙ lent-back N (Paper.fresh (N .d) flash disk) fresh-sound noCounts (f .P-most) (f .d-most)
+    fresh-box = let f = fits N fits-numbers in ap (boxIn N) fresh-lent
+        ∙ lent-back N (Paper.fresh (N .d) flash disk) fresh-sound noCounts (f .P-most) (f .d-most)
 
     fresh-passes : Passes N (opened N t)
-    fresh-passes = let f = fits N fits-numbers in subst (Passes N) (sym fresh-lent) (sound-passes N (Paper.fresh (N .d) flash disk) fresh-sound noCounts (f .P-most) (f .d-most))
+    fresh-passes = let f = fits N fits-numbers in subst (Passes N) (sym fresh-lent)
+        (sound-passes N (Paper.fresh (N .d) flash disk) fresh-sound noCounts (f .P-most) (f .d-most))
 
     fresh-disk : split (N .B) (N .P) ((opened N t) .disk) ≡ disk
     unfolding fresh disk
@@ -344,7 +348,8 @@ module _ (N : Numbers) where
     -- a list of single calls with no write
     printed-reads : (rs : List Ask) → All (λ q. NoWrite (callOf (N .B) q)) rs
         → seenAfter N (opened N t) rs
-        ≡ printedTrace (H .same) (N .m) (N .d) (contentOf H (firstPlain N (opened N t))) (record { addresses = []; fingerprints = [] }) (readsOf N (opened N t) rs)
+        ≡ printedTrace (H .same) (N .m) (N .d) (contentOf H (firstPlain N (opened N t))) (record { addresses = []; fingerprints = [] })
+        (readsOf N (opened N t) rs)
     unfolding flash disk
     printed-reads rs w =
         let f = fits N fits-numbers in
@@ -353,14 +358,17 @@ module _ (N : Numbers) where
         (no-writes (opened N t) rs w) (events-within (opened N t) rs) in
         same-seen (opened N t) rs
         ∙ subst₂ (λ b p. traceOf H N b es
-        ≡ printedTrace (H .same) (N .m) (N .d) (contentOf H p) (record { addresses = []; fingerprints = [] }) (Quiet.readsOf es)) (sym fresh-box) (sym fresh-disk) quiet
-        ∙ ap (printedTrace (H .same) (N .m) (N .d) (contentOf H (firstPlain N (opened N t))) (record { addresses = []; fingerprints = [] })) (sym (same-reads (opened N t) rs))
+        ≡ printedTrace (H .same) (N .m) (N .d) (contentOf H p) (record { addresses = []; fingerprints = [] }) (Quiet.readsOf es)) (sym fresh-box)
+        (sym fresh-disk) quiet
+        ∙ ap (printedTrace (H .same) (N .m) (N .d) (contentOf H (firstPlain N (opened N t))) (record { addresses = []; fingerprints = [] }))
+        (sym (same-reads (opened N t) rs))
 
     module _ (qs : List Asking) where
       -- "In every state reached, the fresh one included": addresses distinct and below P, at most m of them, fingerprints of used rows distinct,
       -- slots each of 0 to d − 1 once, a dirty row's fingerprint cached
       pub structure-throughout : Throughout N (λ x plain. Sound (engine (N .B)) N (boxIn N x)) (opened N t) (firstPlain N (opened N t)) qs
-      structure-throughout = kept-throughout (λ x. Sound H N (boxIn N x)) (λ x k. passes-sound N x (k .passes)) (opened N t) (firstPlain N (opened N t)) qs fresh-kept
+      structure-throughout = kept-throughout (λ x. Sound H N (boxIn N x)) (λ x k. passes-sound N x (k .passes)) (opened N t)
+          (firstPlain N (opened N t)) qs fresh-kept
 
       demand-3-from : Demand3 N (opened N t) qs
       demand-3-from =
@@ -373,7 +381,8 @@ module _ (N : Numbers) where
             numbers = numbers-are (opened N t) qs fits-numbers fresh-kept;
             orphans = kept-throughout (λ x. OrphanLaw H (boxIn N x)) orphan (opened N t) plain qs fresh-kept;
             orphansWithin = within-each (opened N t) plain qs fresh-kept;
-            fingerprints = λ only. throughout In only (λ x p. TrueFingerprints H (boxIn N x) p) (fingerprints In only) (opened N t) plain qs (fresh-held In only i₀) i₁;
+            fingerprints = λ only. throughout In only (λ x p. TrueFingerprints H (boxIn N x) p) (fingerprints In only) (opened N t) plain qs
+                (fresh-held In only i₀) i₁;
             blocks = λ only. each-served In only (ShowsPlain N) (shown In only) (opened N t) plain qs (fresh-held In only i₀) i₁;
             asReads = λ only. each-served In only (AsReads N) (as-reads In only) (opened N t) plain qs (fresh-held In only i₀) i₁;
             flushes = λ only. each-served In only (FlushesWhole N) (flushed In only) (opened N t) plain qs (fresh-held In only i₀) i₁;

@@ -37,7 +37,8 @@ module _ {F X : Type 0} (H : Hashing F X) where
   abbrev pub Few : ℕ → Stepped F X → Type 0
   Few n t = (t .flashWrites ≤ 1) × (t .primaryWrites ≤ n)
 
-  step4-few : (rows : List (AddressRow F)) (t : BlockRows F) (flash disk : List X) (g : F) (b : X) (w n : ℕ) → ((c : F → Bool) → copies H c rows ≤ n) → Few (w + n) (step4 H rows t flash disk g b w)
+  step4-few : (rows : List (AddressRow F)) (t : BlockRows F) (flash disk : List X) (g : F) (b : X) (w n : ℕ) → ((c : F → Bool) → copies H c rows ≤ n)
+      → Few (w + n) (step4 H rows t flash disk g b w)
   unfolding stored
   step4-few rows t flash disk g b w n h =
       by-step4 H rows (t .free) (t .used) flash disk g b w (Few (w + n))

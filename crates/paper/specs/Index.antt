@@ -27,7 +27,8 @@ module _ {A : Type 0} (p : A → Bool) where
   index-holds [] z = λ h. absurd (omega arith)
   index-holds (x ∷ xs) z = by-test (p x) (λ e. rw e (λ h. e)) (λ e. rw e (λ h. index-holds xs z (le-of-suc-le-suc h)))
 
-pub index-map : {A C : Type 0} (f : A → C) (p : C → Bool) (q : A → Bool) (Q : A → Type 0) → ((x : A) → Q x → p (f x) ≡ q x) → (xs : List A) → All Q xs → indexWhere p (map f xs) ≡ indexWhere q xs
+pub index-map : {A C : Type 0} (f : A → C) (p : C → Bool) (q : A → Bool) (Q : A → Type 0) → ((x : A) → Q x → p (f x) ≡ q x) → (xs : List A) → All Q xs
+    → indexWhere p (map f xs) ≡ indexWhere q xs
 unfolding indexWhere
 index-map f p q Q e [] a = refl
 index-map f p q Q e (x ∷ xs) a = rw (e x (a .0), index-map f p q Q e xs (a .1))
@@ -70,7 +71,8 @@ module _ {K R : Type 0} (same : K → K → Bool) (key : R → K) where
   has-at k (x ∷ xs) (suc i) z h e = or-right (same k (key x)) (has same key k xs) (has-at k xs i z (omega arith) e)
 
   -- where keys are distinct, the rows without that of row i
-  pub without-at : (same→≡ : (j k : K) → same j k ≡ true → j ≡ k) (k : K) (l : List R) (i : ℕ) (z : R) → Distinct same key l → i < length l → same k (key (getD l i z)) ≡ true
+  pub without-at : (same→≡ : (j k : K) → same j k ≡ true → j ≡ k) (k : K) (l : List R) (i : ℕ) (z : R) → Distinct same key l → i < length l
+      → same k (key (getD l i z)) ≡ true
       → without same key k l ≡ take i l ++ drop (suc i) l
   without-at eq k [] i z d h e = absurd (omega arith)
   without-at eq k (x ∷ xs) zero z d h e = rw e (without-absent same key k xs (rw (← eq k (key x) e) at (d .0)))
@@ -92,13 +94,16 @@ module _ {F X : Type 0} (H : Hashing F X) where
   slotOf-no g (x ∷ xs) = by-test (H .same g (x .fingerprint)) (λ e. rw e (λ h. absurd (omega arith))) (λ e. rw e (λ h. slotOf-no g xs (le-of-suc-le-suc h)))
 
   -- the oldest row whose fingerprint no address row has
-  pub unknown-yes : (rows : List (AddressRow F)) (used : List (BlockRow F)) (z : BlockRow F) → indexWhere (λ u. not (known H (u .fingerprint) rows)) used < length used
+  pub unknown-yes : (rows : List (AddressRow F)) (used : List (BlockRow F)) (z : BlockRow F)
+      → indexWhere (λ u. not (known H (u .fingerprint) rows)) used < length used
       → oldestUnknown H rows used ≡ some (getD used (indexWhere (λ u. not (known H (u .fingerprint) rows)) used) z)
   unfolding indexWhere oldestUnknown
   unknown-yes rows [] z = λ h. absurd (omega arith)
   unknown-yes rows (x ∷ xs) z = by-test (known H (x .fingerprint) rows) (λ e. rw e (λ h. unknown-yes rows xs z (le-of-suc-le-suc h))) (λ e. rw e (λ h. refl))
 
-  pub unknown-no : (rows : List (AddressRow F)) (used : List (BlockRow F)) → length used ≤ indexWhere (λ u. not (known H (u .fingerprint) rows)) used → oldestUnknown H rows used ≡ none
+  pub unknown-no : (rows : List (AddressRow F)) (used : List (BlockRow F)) → length used ≤ indexWhere (λ u. not (known H (u .fingerprint) rows)) used
+      → oldestUnknown H rows used ≡ none
   unfolding indexWhere oldestUnknown
   unknown-no rows [] = λ h. refl
-  unknown-no rows (x ∷ xs) = by-test (known H (x .fingerprint) rows) (λ e. rw e (λ h. unknown-no rows xs (le-of-suc-le-suc h))) (λ e. rw e (λ h. absurd (omega arith)))
+  unknown-no rows (x ∷ xs) = by-test (known H (x .fingerprint) rows) (λ e. rw e (λ h. unknown-no rows xs (le-of-suc-le-suc h)))
+      (λ e. rw e (λ h. absurd (omega arith)))

@@ -179,7 +179,8 @@ module _ {K R : Type 0} (same : K → K → Bool) (key : R → K) (same→≡ : 
   distinct-snoc r [] d h = (refl, tt)
   distinct-snoc r (x ∷ xs) d h = (
     has-append same key (key x) xs (r ∷ [])
-        ∙ or-both (has same key (key x) xs) (same (key x) (key r) || false) (d .0) (or-false (same (key x) (key r)) ∙ same-sym-false (key r) (key x) (or-false-left (same (key r) (key x)) (has same key (key r) xs) h)),
+        ∙ or-both (has same key (key x) xs) (same (key x) (key r) || false) (d .0)
+        (or-false (same (key x) (key r)) ∙ same-sym-false (key r) (key x) (or-false-left (same (key r) (key x)) (has same key (key r) xs) h)),
     distinct-snoc r xs (d .1) (or-false-right (same (key r) (key x)) (has same key (key r) xs) h),
   )
 
@@ -188,7 +189,8 @@ module _ {K R : Type 0} (same : K → K → Bool) (key : R → K) (same→≡ : 
   has-without j k [] n = refl
   has-without j k (x ∷ xs) n =
       by-test (same k (key x))
-      (λ e. rw e (has-without j k xs n ∙ sym (ap (λ b. b || has same key j xs) (by-test (same j (key x)) (λ t. clash (rw (← same→≡ j (key x) t) at e) n) (λ f. f)))))
+      (λ e. rw e (has-without j k xs n ∙ sym (ap (λ b. b || has same key j xs) (by-test (same j (key x)) (λ t. clash (rw (← same→≡ j (key x) t) at e) n)
+      (λ f. f)))))
       (λ e. rw e (ap (λ b. same j (key x) || b) (has-without j k xs n)))
 
   -- after a row is added as newest
@@ -201,10 +203,12 @@ module _ {K R : Type 0} (same : K → K → Bool) (key : R → K) (same→≡ : 
   has-snoc-left k l r h = has-append same key k l (r ∷ []) ∙ or-left (has same key k l) (same k (key r) || false) h
 
   pub has-snoc-self : (l : List R) (r : R) → has same key (key r) (l ++ (r ∷ [])) ≡ true
-  has-snoc-self l r = has-append same key (key r) l (r ∷ []) ∙ or-right (has same key (key r) l) (same (key r) (key r) || false) (or-left (same (key r) (key r)) false (same-refl (key r)))
+  has-snoc-self l r = has-append same key (key r) l (r ∷ [])
+      ∙ or-right (has same key (key r) l) (same (key r) (key r) || false) (or-left (same (key r) (key r)) false (same-refl (key r)))
 
   -- where keys are distinct, what is lost with the row of k is the row found
-  pub lost-with : {J : Type 0} (sameJ : J → J → Bool) (keyJ : R → J) (J→≡ : (i j : J) → sameJ i j ≡ true → i ≡ j) (j : J) (k : K) (l : List R) → Distinct same key l
+  pub lost-with : {J : Type 0} (sameJ : J → J → Bool) (keyJ : R → J) (J→≡ : (i j : J) → sameJ i j ≡ true → i ≡ j) (j : J) (k : K) (l : List R)
+      → Distinct same key l
       → has sameJ keyJ j l ≡ true → (has sameJ keyJ j (without same key k l) ≡ true) ⊎ (Option·map keyJ (find same key k l) ≡ some j)
   lost-with sameJ keyJ J→≡ j k [] d h = inl h
   lost-with sameJ keyJ J→≡ j k (x ∷ xs) d h =

@@ -43,13 +43,15 @@ held-forth P (r ∷ rs) w h =
     λ i. Table.addressRow (rowAddress r) (f i) (y i) ∷ more i
 
 -- the rows of a block table that passes 7
-used-forth : (r : List ℕ) → length r ≡ rowBytes → isUsed r ≡ true → usedRow (record { fingerprint = fit 32 (readBlock r .fingerprint); slot = rowSlot r }) ≡ readBlock r
+used-forth : (r : List ℕ) → length r ≡ rowBytes → isUsed r ≡ true
+    → usedRow (record { fingerprint = fit 32 (readBlock r .fingerprint); slot = rowSlot r }) ≡ readBlock r
 used-forth r l u =
     let f = print-is r l in
     let y = sym (eqb-true (readBlock r .used) 1 u) in
     λ i. Table.blockRow (f i) (rowSlot r) (y i)
 
-free-forth : (r : List ℕ) → length r ≡ rowBytes → isUsed r ≡ false → tailOk r ≡ true → all isZero (readBlock r .fingerprint) ≡ true → freeRow (rowSlot r) ≡ readBlock r
+free-forth : (r : List ℕ) → length r ≡ rowBytes → isUsed r ≡ false → tailOk r ≡ true → all isZero (readBlock r .fingerprint) ≡ true
+    → freeRow (rowSlot r) ≡ readBlock r
 free-forth r l u ok z =
     let low = low-byte r ok .1 in
     let n = eqb-false (readBlock r .used) 1 u in
@@ -57,7 +59,8 @@ free-forth r l u ok z =
     let f = sym (zeros-all (readBlock r .fingerprint) z ∙ ap zeros (block-print-length r l)) in
     λ i. Table.blockRow (f i) (rowSlot r) (y i)
 
-all-used : (rs : List (List ℕ)) → Wide rs → all isUsed rs ≡ true → (freeSlots (map readBlock rs) ≡ []) × (map usedRow (usedRows (map readBlock rs)) ≡ map readBlock rs)
+all-used : (rs : List (List ℕ)) → Wide rs → all isUsed rs ≡ true
+    → (freeSlots (map readBlock rs) ≡ []) × (map usedRow (usedRows (map readBlock rs)) ≡ map readBlock rs)
 unfolding all freeSlots usedRows
 all-used [] w h = (refl, refl)
 all-used (r ∷ rs) w h =
@@ -65,7 +68,8 @@ all-used (r ∷ rs) w h =
     let more = all-used rs (w .1) (and-right (isUsed r) (all isUsed rs) h) in
     (rw u (more .0), rw u (ap₂ {C = List Table.BlockRow} (λ x l. x ∷ l) (used-forth r (w .0) u) (more .1)))
 
-rows-forth : (d : ℕ) (rs : List (List ℕ)) → Wide rs → every (rowOk d) rs ≡ true → tableRows (freeSlots (map readBlock rs)) (usedRows (map readBlock rs)) ≡ map readBlock rs
+rows-forth : (d : ℕ) (rs : List (List ℕ)) → Wide rs → every (rowOk d) rs ≡ true
+    → tableRows (freeSlots (map readBlock rs)) (usedRows (map readBlock rs)) ≡ map readBlock rs
 unfolding every freeSlots usedRows
 rows-forth d [] w h = refl
 rows-forth d (r ∷ rs) w h =

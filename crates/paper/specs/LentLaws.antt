@@ -27,8 +27,10 @@ use Rattle.paper.specs.Lent.{Lent, bit, heldRow, usedRow, asHeld, freeSl
 use Rattle.paper.specs.Sound.{Sound, length-perm, length-slotsFrom}
 use Rattle.paper.specs.Faithful.{slots-below-0}
 use Rattle.paper.specs.Parts.{length-split, length-join, split-join}
-use Rattle.table_laws.specs.Written.{address-wide, block-wide, block-used, block-read, block-passes, held-rows, held-rest, held-length, block-rows, blocks-length}
-use Rattle.paper.specs.SoundTests.{addresses-good, good-addresses, blocks-good, good-blocks, addresses-below, addresses-apart, addresses-once, fit-is, used-apart, used-once, slots-each, each-slots, dirty-cached, cached-dirty}
+use Rattle.table_laws.specs.Written.{address-wide, block-wide, block-used, block-read, block-passes, held-rows, held-rest, held-length, block-rows}
+use Rattle.table_laws.specs.Written.{blocks-length}
+use Rattle.paper.specs.SoundTests.{addresses-good, good-addresses, blocks-good, good-blocks, addresses-below, addresses-apart, addresses-once}
+use Rattle.paper.specs.SoundTests.{fit-is, used-apart, used-once, slots-each, each-slots, dirty-cached, cached-dirty}
 
 -- a row of the paper as a row of the tables and back
 pub bit-back : (b : Bool) → eqb (bit b) 1 ≡ b
@@ -84,21 +86,25 @@ rows-blocks : (d : ℕ) (free : List ℕ) (used : List (BlockRow (Fixed 32))) �
 rows-blocks d free used e = block-rows (tableRows free used) (table-wide free used) d (table-length free used ∙ e)
 
 -- what the tables that are written hold
-held-read : (m : ℕ) (rs : List (AddressRow (Fixed 32))) → All (λ r. r .address < 2 ^ 32) rs → map asHeld (heldRows (length rs) (addressTable m (map heldRow rs))) ≡ rs
+held-read : (m : ℕ) (rs : List (AddressRow (Fixed 32))) → All (λ r. r .address < 2 ^ 32) rs
+    → map asHeld (heldRows (length rs) (addressTable m (map heldRow rs))) ≡ rs
 unfolding heldRows
 held-read m rs q = ap (λ l. map asHeld (map readAddress l)) (rows-held m rs) ∙ back rs q
   where
     back : (rs : List (AddressRow (Fixed 32))) → All (λ r. r .address < 2 ^ 32) rs → map asHeld (map readAddress (map addressBytes (map heldRow rs))) ≡ rs
     back [] q = refl
     back (r ∷ rs) q =
-        ap₂ {C = List (AddressRow (Fixed 32))} (λ x l. x ∷ l) (ap asHeld (addr-forth (r .address) (r .fingerprint .0) (bit (r .dirty)) (q .0) (r .fingerprint .1)) ∙ held-back r) (back rs (q .1))
+        ap₂ {C = List (AddressRow (Fixed 32))} (λ x l. x ∷ l)
+        (ap asHeld (addr-forth (r .address) (r .fingerprint .0) (bit (r .dirty)) (q .0) (r .fingerprint .1)) ∙ held-back r) (back rs (q .1))
 
-blocks-read : (d : ℕ) (free : List ℕ) (used : List (BlockRow (Fixed 32))) → length free + length used ≡ d → All (λ k. k < 2 ^ 32) free → All (λ u. u .slot < 2 ^ 32) used
+blocks-read : (d : ℕ) (free : List ℕ) (used : List (BlockRow (Fixed 32))) → length free + length used ≡ d → All (λ k. k < 2 ^ 32) free
+    → All (λ u. u .slot < 2 ^ 32) used
     → blockRows d (blockTable (tableRows free used)) ≡ tableRows free used
 unfolding blockRows
 blocks-read d free used e p q = ap (map readBlock) (rows-blocks d free used e) ∙ back free used p q
   where
-    back : (free : List ℕ) (used : List (BlockRow (Fixed 32))) → All (λ k. k < 2 ^ 32) free → All (λ u. u .slot < 2 ^ 32) used → map readBlock (map blockBytes (tableRows free used)) ≡ tableRows free used
+    back : (free : List ℕ) (used : List (BlockRow (Fixed 32))) → All (λ k. k < 2 ^ 32) free → All (λ u. u .slot < 2 ^ 32) used
+        → map readBlock (map blockBytes (tableRows free used)) ≡ tableRows free used
     back [] [] p q = refl
     back [] (u ∷ us) p q = ap₂ {C = List Table.BlockRow} (λ x l. x ∷ l) (block-read (usedRow u) (u .fingerprint .1) (q .0)) (back [] us p (q .1))
     back (k ∷ ks) used p q = ap₂ {C = List Table.BlockRow} (λ x l. x ∷ l) (block-read (freeRow k) (length-zeros 32) (p .0)) (back ks used (p .1) q)
@@ -108,7 +114,8 @@ bit-low : (b : Bool) → bit b ≤ 1
 bit-low true = omega arith
 bit-low false = omega arith
 
-held-each : (P : ℕ) → P ≤ 65536 → (rs : List (AddressRow (Fixed 32))) → All (λ r. r .address < P) rs → all (addressOk P) (map addressBytes (map heldRow rs)) ≡ true
+held-each : (P : ℕ) → P ≤ 65536 → (rs : List (AddressRow (Fixed 32))) → All (λ r. r .address < P) rs
+    → all (addressOk P) (map addressBytes (map heldRow rs)) ≡ true
 unfolding all
 held-each P p [] q = refl
 held-each P p (r ∷ rs) q =
@@ -120,15 +127,18 @@ unfolding all
 all-used [] = refl
 all-used (u ∷ us) = rw (block-used (usedRow u) (u .fingerprint .1)) (all-used us)
 
-table-each : (d : ℕ) → d ≤ 256 → (free : List ℕ) (used : List (BlockRow (Fixed 32))) → All (λ k. k < d) free → All (λ u. u .slot < d) used → every (rowOk d) (map blockBytes (tableRows free used)) ≡ true
+table-each : (d : ℕ) → d ≤ 256 → (free : List ℕ) (used : List (BlockRow (Fixed 32))) → All (λ k. k < d) free → All (λ u. u .slot < d) used
+    → every (rowOk d) (map blockBytes (tableRows free used)) ≡ true
 unfolding every
 table-each d e [] [] p q = refl
 table-each d e [] (u ∷ us) p q =
     let rs = map blockBytes (map usedRow us) in
-    both (rowOk d (blockBytes (usedRow u)) rs) (every (rowOk d) rs) (block-passes (usedRow u) (u .fingerprint .1) d rs (q .0) (omega arith) refl (all-used us)) (table-each d e [] us p (q .1))
+    both (rowOk d (blockBytes (usedRow u)) rs) (every (rowOk d) rs)
+    (block-passes (usedRow u) (u .fingerprint .1) d rs (q .0) (omega arith) refl (all-used us)) (table-each d e [] us p (q .1))
 table-each d e (k ∷ ks) used p q =
     let rs = map blockBytes (tableRows ks used) in
-    both (rowOk d (blockBytes (freeRow k)) rs) (every (rowOk d) rs) (block-passes (freeRow k) (length-zeros 32) d rs (p .0) (omega arith) refl (zeros-zero 32)) (table-each d e ks used (p .1) q)
+    both (rowOk d (blockBytes (freeRow k)) rs) (every (rowOk d) rs)
+    (block-passes (freeRow k) (length-zeros 32) d rs (p .0) (omega arith) refl (zeros-zero 32)) (table-each d e ks used (p .1) q)
 
 -- the lengths that 2 asks for
 pub record Lengths (N : Numbers) (t : Lent) : Type 0 where
@@ -182,7 +192,8 @@ passes-sound N t p =
       few = subst (λ k. k ≤ N .m) (sym (length-map (map readAddress held) asHeld ∙ length-map held readAddress ∙ rows-length (t .n) (t .addresses))) few;
       fingerprints = used-apart (N .B) cached cw (b .once);
       slots = slots-each (N .d) cached (rows-length (N .d) (t .blocks)) (b .each) (b .apart);
-      dirtyCached = dirty-cached (N .B) cached cw held hw (not-false (all (dirtyOk cached) held) (sym (dirty-checked (t .n) (N .d) (t .addresses) (t .blocks)) ∙ p .dirty));
+      dirtyCached = dirty-cached (N .B) cached cw held hw
+          (not-false (all (dirtyOk cached) held) (sym (dirty-checked (t .n) (N .d) (t .addresses) (t .blocks)) ∙ p .dirty));
       flashLength = length-split (N .B) (N .d) (t .flash);
       diskLength = length-split (N .B) (N .P) (t .disk);
     }
@@ -200,7 +211,8 @@ module _ (N : Numbers) (s : Box (Fixed 32) (Fixed (N .B))) (h : Sound (engine (N
 
   pub block-count : length (s .free) + length (s .used) ≡ N .d
   block-count =
-      sym (length-append (s .free) (map (λ u. u .slot) (s .used)) ∙ ap (λ k. length (s .free) + k) (length-map (s .used) (λ u. u .slot))) ∙ length-perm (h .slots) ∙ length-slotsFrom 0 (N .d)
+      sym (length-append (s .free) (map (λ u. u .slot) (s .used)) ∙ ap (λ k. length (s .free) + k) (length-map (s .used) (λ u. u .slot)))
+      ∙ length-perm (h .slots) ∙ length-slotsFrom 0 (N .d)
 
   pub sound-lengths : (k : Counters) → Lengths N (lentOf N s k)
   unfolding lentOf
@@ -251,7 +263,8 @@ module _ (N : Numbers) (s : Box (Fixed 32) (Fixed (N .B))) (h : Sound (engine (N
             few = h .few;
             each = ap (all (addressOk (N .P))) hr ∙ held-each (N .P) P1 (s .rows) (h .below);
             apart = addresses-once held (sound-again .addresses);
-            rest = ap (all isZero) (held-rest (N .m) (map heldRow (s .rows)) (held-wide (s .rows)) n (length-map (s .rows) heldRow)) ∙ zeros-zero (tableBytes (N .m - n));
+            rest = ap (all isZero) (held-rest (N .m) (map heldRow (s .rows)) (held-wide (s .rows)) n (length-map (s .rows) heldRow))
+                ∙ zeros-zero (tableBytes (N .m - n));
           });
           blocks = good-blocks (N .d) b (record {
             each = ap (every (rowOk (N .d))) br ∙ table-each (N .d) d1 (s .free) (s .used) free-below used-below;

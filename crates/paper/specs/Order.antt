@@ -45,9 +45,17 @@ module _ {F : Type 0} (same : F → F → Bool) where
   -- the two lists after g becomes newest in both
   pub nested-newest : (g : F) (D R : List F) → Nested D R → Nested (without same (λ x. x) g D ++ (g ∷ [])) (without same (λ x. x) g R ++ (g ∷ []))
   nested-newest g D R (inl p) =
-      inl (without same (λ x. x) g (p .0), rw (p .1) (rw (without-append same (λ x. x) g (p .0) R) (append-assoc (without same (λ x. x) g (p .0)) (without same (λ x. x) g R) (g ∷ []))))
+      inl (
+        without same (λ x. x) g (p .0),
+        rw (p .1) (rw (without-append same (λ x. x) g (p .0) R)
+            (append-assoc (without same (λ x. x) g (p .0)) (without same (λ x. x) g R) (g ∷ []))),
+      )
   nested-newest g D R (inr p) =
-      inr (without same (λ x. x) g (p .0), rw (p .1) (rw (without-append same (λ x. x) g (p .0) D) (append-assoc (without same (λ x. x) g (p .0)) (without same (λ x. x) g D) (g ∷ []))))
+      inr (
+        without same (λ x. x) g (p .0),
+        rw (p .1) (rw (without-append same (λ x. x) g (p .0) D)
+            (append-assoc (without same (λ x. x) g (p .0)) (without same (λ x. x) g D) (g ∷ []))),
+      )
 
   -- different fingerprints in the order of their newest use
   abbrev pub order : List F → List F
@@ -69,8 +77,18 @@ module _ {F : Type 0} (same : F → F → Bool) (same→≡ : (f g : F) → same
       by-test (has same (λ x. x) x xs)
       (λ h. rw (has-append same (λ x. x) x xs (g ∷ []) ∙ or-left (has same (λ x. x) x xs) (same x g || false) h, h) (order-snoc g xs))
       (λ h. by-test (same g x)
-      (λ e. rw (has-append same (λ x. x) x xs (g ∷ []) ∙ or-right (has same (λ x. x) x xs) (same x g || false) (or-left (same x g) false (rw (same→≡ g x e) (same-refl x))), h, e) (order-snoc g xs))
-      (λ e. rw (has-append same (λ x. x) x xs (g ∷ []) ∙ or-both (has same (λ x. x) x xs) (same x g || false) h (or-both (same x g) false (same-sym-false same (λ x. x) same→≡ same-refl g x e) refl), h, e)
+      (λ e. rw (
+        has-append same (λ x. x) x xs (g ∷ []) ∙ or-right (has same (λ x. x) x xs) (same x g || false)
+            (or-left (same x g) false (rw (same→≡ g x e) (same-refl x))),
+        h,
+        e,
+      ) (order-snoc g xs))
+      (λ e. rw (
+        has-append same (λ x. x) x xs (g ∷ []) ∙ or-both (has same (λ x. x) x xs) (same x g || false) h
+            (or-both (same x g) false (same-sym-false same (λ x. x) same→≡ same-refl g x e) refl),
+        h,
+        e,
+      )
       (ap {B = List F} (λ l. x ∷ l) (order-snoc g xs))))
 
   -- a fingerprint that is taken out anyway

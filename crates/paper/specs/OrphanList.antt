@@ -10,27 +10,31 @@ use lib.ListN.{length, getD}
 use Rattle.paper.specs.Cache.{Numbers, Hashing, AddressRow, BlockRow, Box, BlockRows, rowOf, withoutAddress, known, cached, blockOf}
 use Rattle.paper.specs.Cache.{someUncached, Call, read, through, back, invalidate, look, flush, onDisk, rowWithBlock, answer, readAs, writeThrough}
 use Rattle.paper.specs.Cache.{backRequest, writeBack, dropped, writeInvalidate, lookAs, flushed, reach, partly, serve, fresh, freed}
-use Rattle.paper.specs.KeyedLaws.{by-test, either, clash, or-left, or-right, or-both, eqb→≡, eqb-self, All, Distinct, has-without-other, has-without, has-without-self, lost-with}
+use Rattle.paper.specs.KeyedLaws.{by-test, either, clash, or-left, or-right, or-both, eqb→≡, eqb-self, All, Distinct, has-without-other}
+use Rattle.paper.specs.KeyedLaws.{has-without, has-without-self, lost-with}
 use Rattle.paper.specs.Machines.{someUnknown, OrphanLaw, plainNext}
 use Rattle.paper.specs.Orphans.{NoWaste, noWaste-step, apart}
 use Rattle.paper.specs.Partly.{known-partly}
 
 module _ {F X : Type 0} (H : Hashing F X) where
-  pub noWaste-readAs : (m : ℕ) (s : Box F X) (a : ℕ) (x : X) (o : Option (AddressRow F)) → Distinct eqb (λ r. r .address) (s .rows) → NoWaste H (s .rows) (s .used)
+  pub noWaste-readAs : (m : ℕ) (s : Box F X) (a : ℕ) (x : X) (o : Option (AddressRow F)) → Distinct eqb (λ r. r .address) (s .rows)
+      → NoWaste H (s .rows) (s .used)
       → NoWaste H ((readAs H m s a x o) .box .rows) ((readAs H m s a x o) .box .used)
   unfolding readAs answer
   noWaste-readAs m s a x (some r) d l =
       noWaste-step H m s (record { address = a; fingerprint = r .fingerprint; block = blockOf H (r .fingerprint) (s .used) (s .flash); dirty = r .dirty }) d l
   noWaste-readAs m s a x none d l = noWaste-step H m s (record { address = a; fingerprint = H .hash x; block = x; dirty = false }) d l
 
-  noWaste-lookAs : (s : Box F X) (a : ℕ) (o : Option (AddressRow F)) → NoWaste H (s .rows) (s .used) → NoWaste H ((lookAs H s a o) .box .rows) ((lookAs H s a o) .box .used)
+  noWaste-lookAs : (s : Box F X) (a : ℕ) (o : Option (AddressRow F)) → NoWaste H (s .rows) (s .used)
+      → NoWaste H ((lookAs H s a o) .box .rows) ((lookAs H s a o) .box .used)
   unfolding lookAs
   noWaste-lookAs s a (some r) l = l
   noWaste-lookAs s a none l = l
 
   -- the row of a is taken out, and its block is freed if no row has it now
   noWaste-dropped : (rows rows′ : List (AddressRow F)) (b : BlockRows F) (o : Option (AddressRow F)) → NoWaste H rows (b .used)
-      → ((f : F) → known H f rows′ ≡ true → known H f rows ≡ true) → ((f : F) → known H f rows ≡ true → (known H f rows′ ≡ true) ⊎ (Option·map (λ r. r .fingerprint) o ≡ some f))
+      → ((f : F) → known H f rows′ ≡ true → known H f rows ≡ true)
+      → ((f : F) → known H f rows ≡ true → (known H f rows′ ≡ true) ⊎ (Option·map (λ r. r .fingerprint) o ≡ some f))
       → NoWaste H rows′ ((dropped H rows′ b o) .used)
   unfolding dropped freed
   noWaste-dropped rows rows′ b none (inl l) sub lost = inl (λ f h. l f (sub f h))
@@ -73,14 +77,16 @@ module _ {F X : Type 0} (H : Hashing F X) where
   noWaste-serve N s (flush k) d l = noWaste-partly (reach H k (s .rows)) (s .rows) (s .used) l
 
   -- the law as the document states it: never both
-  pub uncached-not : (rows : List (AddressRow F)) (used : List (BlockRow F)) → ((r : AddressRow F) → known H (r .fingerprint) rows ≡ true → cached H (r .fingerprint) used ≡ true) → someUncached H rows used ≡ false
+  pub uncached-not : (rows : List (AddressRow F)) (used : List (BlockRow F))
+      → ((r : AddressRow F) → known H (r .fingerprint) rows ≡ true → cached H (r .fingerprint) used ≡ true) → someUncached H rows used ≡ false
   uncached-not [] used l = refl
   uncached-not (r ∷ rs) used l =
       or-both (not (cached H (r .fingerprint) used)) (someUncached H rs used)
       (ap not (l r (or-left (H .same (r .fingerprint) (r .fingerprint)) (known H (r .fingerprint) rs) (H .same-refl (r .fingerprint)))))
       (uncached-not rs used (λ x h. l x (or-right (H .same (x .fingerprint) (r .fingerprint)) (known H (x .fingerprint) rs) h)))
 
-  pub unknown-not : (rows : List (AddressRow F)) (used : List (BlockRow F)) → ((u : BlockRow F) → cached H (u .fingerprint) used ≡ true → known H (u .fingerprint) rows ≡ true) → someUnknown H rows used ≡ false
+  pub unknown-not : (rows : List (AddressRow F)) (used : List (BlockRow F))
+      → ((u : BlockRow F) → cached H (u .fingerprint) used ≡ true → known H (u .fingerprint) rows ≡ true) → someUnknown H rows used ≡ false
   unknown-not rows [] l = refl
   unknown-not rows (u ∷ us) l =
       or-both (not (known H (u .fingerprint) rows)) (someUnknown H rows us)

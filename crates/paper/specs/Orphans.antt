@@ -7,8 +7,10 @@ use mathlib.Core.Option.{Option, none, some, Option·none-ne-some, Option·some-
 use Prim.Native.Nat.{ℕ}
 use lib.Dec.{eqb}
 use borrow.Author.Tests.{not-false}
-use Rattle.paper.specs.Cache.{Hashing, AddressRow, BlockRow, Box, Request, newest, blockRow, known, cached, withoutBlock, slotOf, cleaned, isLost, someUncached, step, step1, step3, step4, freed, oldestUnknown, stored}
-use Rattle.paper.specs.KeyedLaws.{by-test, either, clash, or-cases, or-right, or-false-left, or-false-right, eqb→≡, eqb-self, Distinct, has-without-other, has-without, has-without-self, has-snoc-cases, has-snoc-left, has-snoc-self, lost-with}
+use Rattle.paper.specs.Cache.{Hashing, AddressRow, BlockRow, Box, Request, newest, blockRow, known, cached, withoutBlock, slotOf, cleaned}
+use Rattle.paper.specs.Cache.{isLost, someUncached, step, step1, step3, step4, freed, oldestUnknown, stored}
+use Rattle.paper.specs.KeyedLaws.{by-test, either, clash, or-cases, or-right, or-false-left, or-false-right, eqb→≡, eqb-self, Distinct}
+use Rattle.paper.specs.KeyedLaws.{has-without-other, has-without, has-without-self, has-snoc-cases, has-snoc-left, has-snoc-self, lost-with}
 use Rattle.paper.specs.Cases.{by-step1, by-step3, by-step4}
 
 module _ {F X : Type 0} (H : Hashing F X) where
@@ -31,7 +33,8 @@ module _ {F X : Type 0} (H : Hashing F X) where
   allCached [] used e f h = absurd (false≢true h)
   allCached (r ∷ rs) used e f h =
       either (or-cases (H .same f (r .fingerprint)) (known H f rs) h)
-      (λ t. rw (H .same→≡ f (r .fingerprint) t) (not-false (cached H (r .fingerprint) used) (or-false-left (not (cached H (r .fingerprint) used)) (someUncached H rs used) e)))
+      (λ t. rw (H .same→≡ f (r .fingerprint) t) (not-false (cached H (r .fingerprint) used)
+      (or-false-left (not (cached H (r .fingerprint) used)) (someUncached H rs used) e)))
       (λ t. allCached rs used (or-false-right (not (cached H (r .fingerprint) used)) (someUncached H rs used) e) f t)
 
   pub oldestUnknown-none : (rows : List (AddressRow F)) (used : List (BlockRow F)) → oldestUnknown H rows used ≡ none → AllKnown rows used
@@ -44,7 +47,8 @@ module _ {F X : Type 0} (H : Hashing F X) where
       (λ t. oldestUnknown-none rows us e f t)))
       (λ k. rw k (λ e. absurd (Option·some-ne-none u e)))
 
-  pub oldestUnknown-some : (rows : List (AddressRow F)) (used : List (BlockRow F)) (v : BlockRow F) → oldestUnknown H rows used ≡ some v → known H (v .fingerprint) rows ≡ false
+  pub oldestUnknown-some : (rows : List (AddressRow F)) (used : List (BlockRow F)) (v : BlockRow F) → oldestUnknown H rows used ≡ some v
+      → known H (v .fingerprint) rows ≡ false
   unfolding oldestUnknown
   oldestUnknown-some rows [] v = λ e. absurd (Option·none-ne-some v e)
   oldestUnknown-some rows (u ∷ us) v =
@@ -57,13 +61,15 @@ module _ {F X : Type 0} (H : Hashing F X) where
   known-cleaned c f (r ∷ rs) = ap (λ b. H .same f (r .fingerprint) || b) (known-cleaned c f rs)
 
   -- cached after a row is taken out and the row of g becomes newest
-  pub cached-out : (v f g : F) (k : ℕ) (used : List (BlockRow F)) → cached H f (withoutBlock H v used ++ (blockRow g k ∷ [])) ≡ true → (cached H f used ≡ true) ⊎ (f ≡ g)
+  pub cached-out : (v f g : F) (k : ℕ) (used : List (BlockRow F)) → cached H f (withoutBlock H v used ++ (blockRow g k ∷ [])) ≡ true
+      → (cached H f used ≡ true) ⊎ (f ≡ g)
   cached-out v f g k used h =
       either (has-snoc-cases (H .same) (λ u. u .fingerprint) (H .same→≡) (H .same-refl) f (withoutBlock H v used) (blockRow g k) h)
       (λ t. inl (has-without-other (H .same) (λ u. u .fingerprint) (H .same) (λ u. u .fingerprint) f v used t))
       (λ t. inr t)
 
-  pub cached-in : (v f g : F) (k : ℕ) (used : List (BlockRow F)) → cached H f used ≡ true → H .same v f ≡ false → cached H f (withoutBlock H v used ++ (blockRow g k ∷ [])) ≡ true
+  pub cached-in : (v f g : F) (k : ℕ) (used : List (BlockRow F)) → cached H f used ≡ true → H .same v f ≡ false
+      → cached H f (withoutBlock H v used ++ (blockRow g k ∷ [])) ≡ true
   cached-in v f g k used h n =
       has-snoc-left (H .same) (λ u. u .fingerprint) (H .same→≡) (H .same-refl) f (withoutBlock H v used) (blockRow g k)
       (has-without (H .same) (λ u. u .fingerprint) (H .same→≡) (H .same-refl) f v used n ∙ h)
@@ -112,9 +118,11 @@ module _ {F X : Type 0} (H : Hashing F X) where
   -- Step 1 loses no fingerprint of a row but that of the row taken out
   known-step1 : (m : ℕ) (s : Box F X) (a : ℕ) → Distinct eqb (λ r. r .address) (s .rows)
       → let o = step1 H m s a in
-      ((f : F) → known H f (o .rows) ≡ true → known H f (s .rows) ≡ true) × ((f : F) → known H f (s .rows) ≡ true → (known H f (o .rows) ≡ true) ⊎ (o .gone ≡ some f))
+      ((f : F) → known H f (o .rows) ≡ true → known H f (s .rows) ≡ true) ×
+      ((f : F) → known H f (s .rows) ≡ true → (known H f (o .rows) ≡ true) ⊎ (o .gone ≡ some f))
   known-step1 m s a d =
-      by-step1 H m s a (λ o. ((f : F) → known H f (o .rows) ≡ true → known H f (s .rows) ≡ true) × ((f : F) → known H f (s .rows) ≡ true → (known H f (o .rows) ≡ true) ⊎ (o .gone ≡ some f)))
+      by-step1 H m s a (λ o. ((f : F) → known H f (o .rows) ≡ true → known H f (s .rows) ≡ true) ×
+      ((f : F) → known H f (s .rows) ≡ true → (known H f (o .rows) ≡ true) ⊎ (o .gone ≡ some f)))
       (λ e. (
         λ f h. has-without-other eqb (λ r. r .address) (H .same) (λ r. r .fingerprint) f a (s .rows) h,
         λ f h. lost-with eqb (λ r. r .address) eqb→≡ eqb-self (H .same) (λ r. r .fingerprint) (H .same→≡) f a (s .rows) d h,
@@ -134,8 +142,10 @@ module _ {F X : Type 0} (H : Hashing F X) where
   noWaste-step3 m s a g w d law =
       let o = step1 H m s a in
       let rows = o .rows ++ (newest a g w ∷ []) in
-      let into : (f : F) → known H f rows ≡ true → (known H f (o .rows) ≡ true) ⊎ (f ≡ g) = λ f. has-snoc-cases (H .same) (λ r. r .fingerprint) (H .same→≡) (H .same-refl) f (o .rows) (newest a g w) in
-      let up : (f : F) → known H f (o .rows) ≡ true → known H f rows ≡ true = λ f. has-snoc-left (H .same) (λ r. r .fingerprint) (H .same→≡) (H .same-refl) f (o .rows) (newest a g w) in
+      let into : (f : F) → known H f rows ≡ true → (known H f (o .rows) ≡ true) ⊎ (f ≡ g)
+      = λ f. has-snoc-cases (H .same) (λ r. r .fingerprint) (H .same→≡) (H .same-refl) f (o .rows) (newest a g w) in
+      let up : (f : F) → known H f (o .rows) ≡ true → known H f rows ≡ true
+      = λ f. has-snoc-left (H .same) (λ r. r .fingerprint) (H .same→≡) (H .same-refl) f (o .rows) (newest a g w) in
       let sub = (known-step1 m s a d) .0 in
       let lost = (known-step1 m s a d) .1 in
       by-step3 H (o .gone) (o .rows) rows (record { free = s .free; used = s .used }) (λ t. AllCachedBut g rows (t .used) ⊎ AllKnown rows (t .used))

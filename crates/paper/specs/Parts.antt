@@ -27,7 +27,8 @@ split-join n k bs e = subst (λ j. split n j (join bs) ≡ bs) e (ap (split n (l
     go [] rest = refl
     go (b ∷ bs) rest =
         rw (append-assoc (b .0) (join bs) rest)
-        (ap₂ {C = List (Fixed n)} (λ x l. x ∷ l) (fit-front n b (join bs ++ rest)) (ap (split n (length bs)) (drop-at (b .0) (join bs ++ rest) n (b .1)) ∙ go bs rest))
+        (ap₂ {C = List (Fixed n)} (λ x l. x ∷ l) (fit-front n b (join bs ++ rest))
+        (ap (split n (length bs)) (drop-at (b .0) (join bs ++ rest) n (b .1)) ∙ go bs rest))
 
 pub join-split : (n k : ℕ) (l : List ℕ) → length l ≡ k * n → join (split n k l) ≡ l
 unfolding split fit
@@ -40,7 +41,8 @@ join-split n (suc k) l e =
     ap₂ {C = List ℕ} _++_ (take-append-le n l (zeros n) (omega arith)) (join-split n k (drop n l) (length-drop n l ∙ omega arith)) ∙ take-append-drop n l
 
 -- setting part k replaces the n bytes from k × n
-pub join-set : (n : ℕ) (bs : List (Fixed n)) (k : ℕ) (b : Fixed n) → k < length bs → join (set bs k b) ≡ take (k * n) (join bs) ++ (b .0 ++ drop (k * n + n) (join bs))
+pub join-set : (n : ℕ) (bs : List (Fixed n)) (k : ℕ) (b : Fixed n) → k < length bs
+    → join (set bs k b) ≡ take (k * n) (join bs) ++ (b .0 ++ drop (k * n + n) (join bs))
 join-set n [] k b h = absurd (omega arith)
 join-set n (x ∷ xs) zero b h =
     let z : 0 * n ≡ 0 = omega arith in

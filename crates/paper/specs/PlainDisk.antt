@@ -13,21 +13,25 @@ use borrow.Author.Tests.{not-false}
 use Rattle.paper.specs.Cache.{Numbers, Hashing, AddressRow, BlockRow, Box, BlockRows, held, rowOf, withoutAddress, known, cached, blockOf, copied, Call}
 use Rattle.paper.specs.Cache.{read, through, back, invalidate, look, flush, Within, onDisk, rowWithBlock, ifCached, answer, readAs, writeThrough}
 use Rattle.paper.specs.Cache.{dirtied, backRequest, writeBack, dropped, writeInvalidate, lookAs, flushed, reach, partly, cleanTo, serve, fresh, freed}
-use Rattle.paper.specs.KeyedLaws.{by-test, either, clash, or-both, or-false-left, or-false-right, and-left, eqb→≡, eqb-swap, All, Distinct, all-left, all-right, all-map, all-without, all-both, find-some, find-none}
+use Rattle.paper.specs.KeyedLaws.{by-test, either, clash, or-both, or-false-left, or-false-right, and-left, eqb→≡, eqb-swap, All, Distinct}
+use Rattle.paper.specs.KeyedLaws.{all-left, all-right, all-map, all-without, all-both, find-some, find-none}
 use Rattle.paper.specs.Machines.{plainNext, plainBlock, writtenBy}
 use Rattle.paper.specs.Events.{Event}
 use Rattle.paper.specs.Sound.{Sound, DirtyCached, sound-onDisk, sound-cleanTo, sound-fresh}
 use Rattle.paper.specs.Partly.{all-partly, all-take, left-dirty, dirty-few, none-dirty}
-use Rattle.paper.specs.Faithful.{at, at-set-same, at-set-other, any, dirtyAt, dirty-without, copied-good, CopyTrue, all-at, all-set, all-without-strict, RowTrue, BlockTrue, Faithful, FaithfulBut, row-block, faithful-step}
+use Rattle.paper.specs.Faithful.{at, at-set-same, at-set-other, any, dirtyAt, dirty-without, copied-good, CopyTrue, all-at, all-set}
+use Rattle.paper.specs.Faithful.{all-without-strict, RowTrue, BlockTrue, Faithful, FaithfulBut, row-block, faithful-step}
 
 module _ {F X : Type 0} (H : Hashing F X) where
   -- an address that is not held is not dirty; one whose row is clean is not
   absent-clean : (a : ℕ) (rows : List (AddressRow F)) → held a rows ≡ false → dirtyAt any a rows ≡ false
   absent-clean a [] h = refl
   absent-clean a (r ∷ rs) h =
-      or-both (eqb a (r .address) && (r .dirty && true)) (dirtyAt any a rs) (rw (or-false-left (eqb a (r .address)) (held a rs) h) refl) (absent-clean a rs (or-false-right (eqb a (r .address)) (held a rs) h))
+      or-both (eqb a (r .address) && (r .dirty && true)) (dirtyAt any a rs) (rw (or-false-left (eqb a (r .address)) (held a rs) h) refl)
+      (absent-clean a rs (or-false-right (eqb a (r .address)) (held a rs) h))
 
-  row-clean : (a : ℕ) (rows : List (AddressRow F)) (r : AddressRow F) → Distinct eqb (λ r. r .address) rows → rowOf a rows ≡ some r → r .dirty ≡ false → dirtyAt any a rows ≡ false
+  row-clean : (a : ℕ) (rows : List (AddressRow F)) (r : AddressRow F) → Distinct eqb (λ r. r .address) rows → rowOf a rows ≡ some r → r .dirty ≡ false
+      → dirtyAt any a rows ≡ false
   row-clean a [] r d = λ e c. refl
   row-clean a (x ∷ xs) r d =
       by-test (eqb a (x .address))
@@ -36,7 +40,8 @@ module _ {F X : Type 0} (H : Hashing F X) where
       (absent-clean a xs (rw (← eqb→≡ a (x .address) y) at (d .0)))))
       (λ y. rw y (λ e c. row-clean a xs r (d .1) e c))
 
-  pub ifCached-some : (used : List (BlockRow F)) (o : Option (AddressRow F)) (r : AddressRow F) → ifCached H used o ≡ some r → (o ≡ some r) × (cached H (r .fingerprint) used ≡ true)
+  pub ifCached-some : (used : List (BlockRow F)) (o : Option (AddressRow F)) (r : AddressRow F) → ifCached H used o ≡ some r
+      → (o ≡ some r) × (cached H (r .fingerprint) used ≡ true)
   unfolding ifCached
   ifCached-some used none r = λ e. absurd (Option·none-ne-some r e)
   ifCached-some used (some x) r =
@@ -44,7 +49,8 @@ module _ {F X : Type 0} (H : Hashing F X) where
       (λ c. rw c (λ e. (e, subst (λ z. cached H (z .fingerprint) used ≡ true) (Option·some-injective x r e) c)))
       (λ c. rw c (λ e. absurd (Option·none-ne-some r e)))
 
-  pub ifCached-none : (used : List (BlockRow F)) (o : Option (AddressRow F)) → ifCached H used o ≡ none → (o ≡ none) ⊎ ((r : AddressRow F) × (o ≡ some r) × (cached H (r .fingerprint) used ≡ false))
+  pub ifCached-none : (used : List (BlockRow F)) (o : Option (AddressRow F)) → ifCached H used o ≡ none
+      → (o ≡ none) ⊎ ((r : AddressRow F) × (o ≡ some r) × (cached H (r .fingerprint) used ≡ false))
   unfolding ifCached
   ifCached-none used none = λ e. inl refl
   ifCached-none used (some x) =
@@ -106,7 +112,8 @@ module _ {F X : Type 0} (H : Hashing F X) (In : X → Type 0) where
   but-set : (a P : ℕ) (b : X) (plain : List X) (s : Box F X) → Faithful H In P plain s → In b → FaithfulBut H In a P (set plain a b) s
   but-set a P b plain s f bi =
       record {
-        rowsTrue = all-map (RowTrue H In plain) (λ r. eqb a (r .address) ≡ false → RowTrue H In (set plain a b) r) (λ r y e. row-set a b plain r e y) (s .rows) (f .rowsTrue);
+        rowsTrue = all-map (RowTrue H In plain) (λ r. eqb a (r .address) ≡ false → RowTrue H In (set plain a b) r) (λ r y e. row-set a b plain r e y)
+            (s .rows) (f .rowsTrue);
         blocksTrue = f .blocksTrue;
         plainIn = all-set In plain a b (f .plainIn) bi;
         plainLength = length-set plain a b ∙ f .plainLength;
@@ -157,7 +164,8 @@ module _ {F X : Type 0} (H : Hashing F X) (In : X → Type 0) (only : (b c : X) 
   faithful-lookAs N plain s a (some r) e h f = (f, ap {B = Option X} some (hit-block N plain s a r h f e))
   faithful-lookAs N plain s a none e h f = (f, ap {B = Option X} some (f .current a (miss-clean H N s a h e)))
 
-  dropped-true : (rows : List (AddressRow F)) (b : BlockRows F) (o : Option (AddressRow F)) (flash : List X) → All (BlockTrue H In flash) (b .used) → All (BlockTrue H In flash) ((dropped H rows b o) .used)
+  dropped-true : (rows : List (AddressRow F)) (b : BlockRows F) (o : Option (AddressRow F)) (flash : List X) → All (BlockTrue H In flash) (b .used)
+      → All (BlockTrue H In flash) ((dropped H rows b o) .used)
   unfolding dropped freed
   dropped-true rows b none flash h = h
   dropped-true rows b (some r) flash h =
@@ -170,14 +178,16 @@ module _ {F X : Type 0} (H : Hashing F X) (In : X → Type 0) (only : (b c : X) 
   unfolding writeInvalidate
   faithful-invalidate N plain s a b h f bi w =
       record {
-        rowsTrue = all-map (λ r. RowTrue H In plain r × (eqb a (r .address) ≡ false)) (RowTrue H In (set plain a b)) (λ r y. row-set H In a b plain r (y .1) (y .0)) (withoutAddress a (s .rows))
+        rowsTrue = all-map (λ r. RowTrue H In plain r × (eqb a (r .address) ≡ false)) (RowTrue H In (set plain a b))
+            (λ r y. row-set H In a b plain r (y .1) (y .0)) (withoutAddress a (s .rows))
             (all-without-strict eqb (λ r. r .address) (RowTrue H In plain) a (s .rows) (f .rowsTrue));
         blocksTrue = dropped-true (withoutAddress a (s .rows)) (record { free = s .free; used = s .used }) (rowOf a (s .rows)) (s .flash) (f .blocksTrue);
         plainIn = all-set In plain a b (f .plainIn) bi;
         plainLength = length-set plain a b ∙ f .plainLength;
         current = λ x dy. by-test (eqb a x)
             (λ y. subst (λ z. at H (set (s .disk) a b) z ≡ at H (set plain a b) z) (eqb→≡ a x y)
-            (at-set-same H (s .disk) a b (subst (λ n. a < n) (sym (h .diskLength)) w) ∙ sym (at-set-same H plain a b (subst (λ n. a < n) (sym (f .plainLength)) w))))
+            (at-set-same H (s .disk) a b (subst (λ n. a < n) (sym (h .diskLength)) w)
+            ∙ sym (at-set-same H plain a b (subst (λ n. a < n) (sym (f .plainLength)) w))))
             (λ n. let n′ = eqb-swap a x n in
             at-set-other H (s .disk) a x b n′ ∙ f .current x (dirty-without H a x (s .rows) n dy) ∙ sym (at-set-other H plain a x b n′));
       }

@@ -6,7 +6,8 @@ use Prim.Native.Nat.{ℕ}
 use native.Mathlib.Omega.{arith}
 use lib.Dec.{eqb}
 use lib.ListN.{replicate, getD}
-use Rattle.hash.specs.Sha256.{Ch, Maj, Σ0, Σ1, σ0, σ1, K, H0, M, next, W, T1, T2, round, rounds, sum8, compress, blocks, bytes32, bytes64, padded, pad, digest, sha256}
+use Rattle.hash.specs.Sha256.{Ch, Maj, Σ0, Σ1, σ0, σ1, K, H0, M, next, W, T1, T2, round, rounds, sum8, compress, blocks, bytes32, bytes64, padded}
+use Rattle.hash.specs.Sha256.{pad, digest, sha256}
 use Rattle.tables.specs.Rows as Rows
 use Rattle.tables.specs.Records as Records
 use Rattle.tables.specs.Find as Find
@@ -77,7 +78,8 @@ written-is =
 
 blocks-are : split 64 1 ((opened numbers memory) .disk) ++ written numbers (opened numbers memory) asked ≡ block 0 ∷ block 1 ∷ []
 unfolding split fresh
-blocks-are = ap (λ (t : Lent). split 64 1 (t .disk) ++ written numbers (opened numbers memory) asked) (opened-is numbers memory opens) ∙ ap {B = List (Fixed 64)} (λ l. block 0 ∷ l) written-is
+blocks-are = ap (λ (t : Lent). split 64 1 (t .disk) ++ written numbers (opened numbers memory) asked) (opened-is numbers memory opens)
+    ∙ ap {B = List (Fixed 64)} (λ l. block 0 ∷ l) written-is
 
 -- their fingerprints differ in the first byte
 abbrev firstByte : Fixed 64 → ℕ
@@ -96,7 +98,8 @@ premise-met =
     two : (x y : Fixed 64) → firstByte x ≢ firstByte y → NoTwoShare (engine 64) (x ∷ y ∷ [])
     two x y n b c (List·Memᴰ·head i) (List·Memᴰ·head j) e = i ∙ sym j
     two x y n b c (List·Memᴰ·head i) (List·Memᴰ·tail (List·Memᴰ·head j)) e = absurd (n (ap firstByte (sym i) ∙ ap (λ f. getD (f .0) 0 0) e ∙ ap firstByte j))
-    two x y n b c (List·Memᴰ·tail (List·Memᴰ·head i)) (List·Memᴰ·head j) e = absurd (n (ap firstByte (sym j) ∙ ap (λ f. getD (f .0) 0 0) (sym e) ∙ ap firstByte i))
+    two x y n b c (List·Memᴰ·tail (List·Memᴰ·head i)) (List·Memᴰ·head j) e
+        = absurd (n (ap firstByte (sym j) ∙ ap (λ f. getD (f .0) 0 0) (sym e) ∙ ap firstByte i))
     two x y n b c (List·Memᴰ·tail (List·Memᴰ·head i)) (List·Memᴰ·tail (List·Memᴰ·head j)) e = i ∙ sym j
 
 -- so that demand 3 says of this list that what its read returns is the plain disk's block

@@ -196,7 +196,14 @@ pub keeps-opening : (N : Numbers) (t : Lent) → refusal N t opening ≢ 0 → K
 unfolding unopened
 keeps-opening N t z =
     let e = refused-opening N t z in
-    record { n = ap (λ a. a .n) e; disk = ap (λ a. a .disk) e; flash = ap (λ a. a .flash) e; addresses = ap (λ a. a .addresses) e; blocks = ap (λ a. a .blocks) e; counters = ap (λ a. a .counters) e }
+    record {
+      n = ap (λ a. a .n) e;
+      disk = ap (λ a. a .disk) e;
+      flash = ap (λ a. a .flash) e;
+      addresses = ap (λ a. a .addresses) e;
+      blocks = ap (λ a. a .blocks) e;
+      counters = ap (λ a. a .counters) e;
+    }
 
 pub opened-is : (N : Numbers) (t : Lent) → refusal N t opening ≡ 0 → opened N t ≡ fresh N t
 unfolding opened

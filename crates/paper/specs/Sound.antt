@@ -1,7 +1,8 @@
 -- The structural invariant of every state reached.
 use mathlib.Core.Path.{_≡_, refl, sym, ap, _∙_, subst, subst₂}
 use mathlib.Core.Bool.{Bool, true, false, not, _&&_, _||_, cond, false≢true}
-use mathlib.Core.List.{List, [], _∷_, _++_, map, map-append, List·Permᴰ, List·Permᴰ·nil, List·Permᴰ·cons, List·Permᴰ·swap, List·Permᴰ·trans, Permᴰ·refl, Permᴰ·symm, Permᴰ·append-left, Permᴰ·middle, Permᴰ·append-nil}
+use mathlib.Core.List.{List, [], _∷_, _++_, map, map-append, List·Permᴰ, List·Permᴰ·nil, List·Permᴰ·cons, List·Permᴰ·swap, List·Permᴰ·trans}
+use mathlib.Core.List.{Permᴰ·refl, Permᴰ·symm, Permᴰ·append-left, Permᴰ·middle, Permᴰ·append-nil}
 use mathlib.Core.Logic.{_⊎_, inl, inr}
 use mathlib.Core.Option.{Option, none, some, Option·none-ne-some, Option·some-injective}
 use Prim.Native.Nat.{ℕ, suc, zero, _≤_, _<_}
@@ -15,7 +16,9 @@ use Rattle.paper.specs.Cache.{Numbers, Hashing, AddressRow, BlockRow, Bo
 use Rattle.paper.specs.Cache.{known, cached, withoutBlock, slotOf, blockOf, cleaned, copied, isLost, step, step1, step3, step4, freed, oldestUnknown}
 use Rattle.paper.specs.Cache.{stored, Call, read, through, back, invalidate, look, flush, Within, onDisk, rowWithBlock, answer, readAs, writeThrough}
 use Rattle.paper.specs.Cache.{backRequest, writeBack, dropped, writeInvalidate, lookAs, flushed, reach, cleanTo, serve, fresh}
-use Rattle.paper.specs.KeyedLaws.{by-test, either, clash, or-left, or-right, or-false-right, and-left, and-right, eqb→≡, eqb-self, All, Distinct, all-append, all-map, all-without, all-both, has-without-other, has-without, has-without-self, without-absent, distinct-without, distinct-snoc}
+use Rattle.paper.specs.KeyedLaws.{by-test, either, clash, or-left, or-right, or-false-right, and-left, and-right, eqb→≡, eqb-self, All}
+use Rattle.paper.specs.KeyedLaws.{Distinct, all-append, all-map, all-without, all-both, has-without-other, has-without, has-without-self}
+use Rattle.paper.specs.KeyedLaws.{without-absent, distinct-without, distinct-snoc}
 use Rattle.paper.specs.Partly.{distinct-partly, length-partly, all-partly}
 use Rattle.paper.specs.Cases.{by-step1, by-step3, by-step4, Chosen}
 use Rattle.paper.specs.Orphans.{apart, cached-in, cached-add, cached-self, oldestUnknown-some}
@@ -38,7 +41,8 @@ length-slotsFrom k (suc d) = ap suc (length-slotsFrom (suc k) d)
 module _ {K R : Type 0} (same : K → K → Bool) (key : R → K) where
   pub length-without-le : (k : K) (l : List R) → length (without same key k l) ≤ length l
   length-without-le k [] = omega arith
-  length-without-le k (x ∷ xs) = by-test (same k (key x)) (λ e. rw e (omega (arith, length-without-le k xs))) (λ e. rw e (omega (arith, length-without-le k xs)))
+  length-without-le k (x ∷ xs) = by-test (same k (key x)) (λ e. rw e (omega (arith, length-without-le k xs)))
+      (λ e. rw e (omega (arith, length-without-le k xs)))
 
   pub length-without-lt : (k : K) (l : List R) → has same key k l ≡ true → length (without same key k l) < length l
   length-without-lt k [] = λ h. absurd (false≢true h)
@@ -52,7 +56,8 @@ module _ {F X : Type 0} (H : Hashing F X) where
   perm-take q [] d = λ h. absurd (false≢true h)
   perm-take q (u ∷ us) d =
       by-test (H .same q (u .fingerprint))
-      (λ e. rw e (λ h. rw (without-absent (H .same) (λ u. u .fingerprint) q us (rw (← H .same→≡ q (u .fingerprint) e) at (d .0))) (Permᴰ·refl (u .slot ∷ map (λ u. u .slot) us))))
+      (λ e. rw e (λ h. rw (without-absent (H .same) (λ u. u .fingerprint) q us (rw (← H .same→≡ q (u .fingerprint) e) at (d .0)))
+      (Permᴰ·refl (u .slot ∷ map (λ u. u .slot) us))))
       (λ e. rw e (λ h. List·Permᴰ·trans (List·Permᴰ·cons refl (perm-take q us (d .1) h)) (List·Permᴰ·swap refl refl)))
 
   -- the row chosen to be taken
@@ -92,7 +97,8 @@ module _ {F X : Type 0} (H : Hashing F X) where
   length-cleaned c [] = refl
   length-cleaned c (r ∷ rs) = ap suc (length-cleaned c rs)
 
-  pub length-copied : (c : F → Bool) (rows : List (AddressRow F)) (used : List (BlockRow F)) (flash disk : List X) → length (copied H c rows used flash disk) ≡ length disk
+  pub length-copied : (c : F → Bool) (rows : List (AddressRow F)) (used : List (BlockRow F)) (flash disk : List X)
+      → length (copied H c rows used flash disk) ≡ length disk
   length-copied c [] used flash disk = refl
   length-copied c (r ∷ rs) used flash disk =
       length-copied c rs used flash (cond (r .dirty && c (r .fingerprint)) (set disk (r .address) (blockOf H (r .fingerprint) used flash)) disk)
@@ -102,7 +108,8 @@ module _ {F X : Type 0} (H : Hashing F X) where
   all-known [] = tt
   all-known (r ∷ rs) = (
     or-left (H .same (r .fingerprint) (r .fingerprint)) (known H (r .fingerprint) rs) (H .same-refl (r .fingerprint)),
-    all-map (λ x. known H (x .fingerprint) rs ≡ true) (λ x. known H (x .fingerprint) (r ∷ rs) ≡ true) (λ x h. or-right (H .same (x .fingerprint) (r .fingerprint)) (known H (x .fingerprint) rs) h) rs (all-known rs),
+    all-map (λ x. known H (x .fingerprint) rs ≡ true) (λ x. known H (x .fingerprint) (r ∷ rs) ≡ true)
+        (λ x h. or-right (H .same (x .fingerprint) (r .fingerprint)) (known H (x .fingerprint) rs) h) rs (all-known rs),
   )
 
 -- a dirty row's fingerprint is cached
@@ -166,30 +173,36 @@ module _ {F X : Type 0} (H : Hashing F X) where
     pub slots : List·Permᴰ (t .free ++ map (λ u. u .slot) (t .used)) (slotsFrom 0 d)
     pub dirtyCached : All (λ r. r .dirty ≡ true → (cached H (r .fingerprint) (t .used) ≡ true) ⊎ (r .fingerprint ≡ g)) rows
 
-  pub sound-step3 : (d : ℕ) (gone : Option F) (others rows : List (AddressRow F)) (b : BlockRows F) (g : F) → Blocks d g rows b → Blocks d g rows (step3 H gone others rows b)
+  pub sound-step3 : (d : ℕ) (gone : Option F) (others rows : List (AddressRow F)) (b : BlockRows F) (g : F) → Blocks d g rows b
+      → Blocks d g rows (step3 H gone others rows b)
   unfolding freed
   sound-step3 d gone others rows b g h =
       by-step3 H gone others rows b (Blocks d g rows)
       (λ q p c n u. record {
         fingerprints = distinct-without (H .same) (λ u. u .fingerprint) q (b .used) (h .fingerprints);
         slots = List·Permᴰ·trans
-            (Permᴰ·symm (List·Permᴰ·trans (Permᴰ·append-left (b .free) (perm-take H q (b .used) (h .fingerprints) c)) (Permᴰ·middle (slotOf H q (b .used)) (b .free) (map (λ u. u .slot) (withoutBlock H q (b .used))))))
+            (Permᴰ·symm (List·Permᴰ·trans (Permᴰ·append-left (b .free) (perm-take H q (b .used) (h .fingerprints) c))
+            (Permᴰ·middle (slotOf H q (b .used)) (b .free) (map (λ u. u .slot) (withoutBlock H q (b .used))))))
             (h .slots);
         dirtyCached = all-map
             (λ r. (r .dirty ≡ true → (cached H (r .fingerprint) (b .used) ≡ true) ⊎ (r .fingerprint ≡ g)) × (known H (r .fingerprint) rows ≡ true))
             (λ r. r .dirty ≡ true → (cached H (r .fingerprint) (withoutBlock H q (b .used)) ≡ true) ⊎ (r .fingerprint ≡ g))
-            (λ r y e. either (y .0 e) (λ t. inl (has-without (H .same) (λ u. u .fingerprint) (H .same→≡) (H .same-refl) (r .fingerprint) q (b .used) (apart H q (r .fingerprint) rows (y .1) n) ∙ t)) (λ t. inr t))
-            rows (all-both (λ r. r .dirty ≡ true → (cached H (r .fingerprint) (b .used) ≡ true) ⊎ (r .fingerprint ≡ g)) (λ r. known H (r .fingerprint) rows ≡ true) rows (h .dirtyCached) (all-known H rows));
+            (λ r y e. either (y .0 e) (λ t. inl (has-without (H .same) (λ u. u .fingerprint) (H .same→≡) (H .same-refl) (r .fingerprint) q (b .used)
+            (apart H q (r .fingerprint) rows (y .1) n) ∙ t)) (λ t. inr t))
+            rows (all-both (λ r. r .dirty ≡ true → (cached H (r .fingerprint) (b .used) ≡ true) ⊎ (r .fingerprint ≡ g))
+            (λ r. known H (r .fingerprint) rows ≡ true) rows (h .dirtyCached) (all-known H rows));
       })
       (λ q p why. h)
       (λ p. h)
 
-  pub some-slot : (d : ℕ) (free : List ℕ) (used : List (BlockRow F)) → 1 ≤ d → List·Permᴰ (free ++ map (λ u. u .slot) used) (slotsFrom 0 d) → free ≡ [] → used ≡ [] → ⊥
+  pub some-slot : (d : ℕ) (free : List ℕ) (used : List (BlockRow F)) → 1 ≤ d → List·Permᴰ (free ++ map (λ u. u .slot) used) (slotsFrom 0 d) → free ≡ []
+      → used ≡ [] → ⊥
   some-slot d free used d1 h p q =
       let e = length-perm (subst₂ (λ x y. List·Permᴰ (x ++ map (λ u. u .slot) y) (slotsFrom 0 d)) p q h) in omega (arith, e, length-slotsFrom 0 d)
 
   -- the slots after a row becomes newest
-  pub slots-newest : (free : List ℕ) (used : List (BlockRow F)) (g : F) (k : ℕ) → List·Permᴰ (free ++ map (λ u. u .slot) (used ++ (blockRow g k ∷ []))) (k ∷ (free ++ map (λ u. u .slot) used))
+  pub slots-newest : (free : List ℕ) (used : List (BlockRow F)) (g : F) (k : ℕ)
+      → List·Permᴰ (free ++ map (λ u. u .slot) (used ++ (blockRow g k ∷ []))) (k ∷ (free ++ map (λ u. u .slot) used))
   slots-newest free used g k =
       rw (map-append (λ (u : BlockRow F). u .slot) used (blockRow g k ∷ []))
       (List·Permᴰ·trans (Permᴰ·append-left free (Permᴰ·symm (perm-snoc k (map (λ u. u .slot) used)))) (Permᴰ·middle k free (map (λ u. u .slot) used)))
@@ -209,11 +222,14 @@ module _ {F X : Type 0} (H : Hashing F X) where
         fingerprints = distinct-snoc (H .same) (λ u. u .fingerprint) (H .same→≡) (H .same-refl) (blockRow g (slotOf H g used)) (withoutBlock H g used)
             (distinct-without (H .same) (λ u. u .fingerprint) g used (h .fingerprints)) (has-without-self (H .same) (λ u. u .fingerprint) g used);
         slots = List·Permᴰ·trans (slots-newest free (withoutBlock H g used) g (slotOf H g used))
-            (List·Permᴰ·trans (Permᴰ·symm (List·Permᴰ·trans (Permᴰ·append-left free (perm-take H g used (h .fingerprints) c)) (Permᴰ·middle (slotOf H g used) free (map (λ u. u .slot) (withoutBlock H g used))))) (h .slots));
-        dirtyCached = all-map (λ r. r .dirty ≡ true → (cached H (r .fingerprint) used ≡ true) ⊎ (r .fingerprint ≡ g)) (DirtyCached H (withoutBlock H g used ++ (blockRow g (slotOf H g used) ∷ [])))
+            (List·Permᴰ·trans (Permᴰ·symm (List·Permᴰ·trans (Permᴰ·append-left free (perm-take H g used (h .fingerprints) c))
+            (Permᴰ·middle (slotOf H g used) free (map (λ u. u .slot) (withoutBlock H g used))))) (h .slots));
+        dirtyCached = all-map (λ r. r .dirty ≡ true → (cached H (r .fingerprint) used ≡ true) ⊎ (r .fingerprint ≡ g))
+            (DirtyCached H (withoutBlock H g used ++ (blockRow g (slotOf H g used) ∷ [])))
             (λ r y e. by-test (H .same g (r .fingerprint))
             (λ t. cached-self H (r .fingerprint) g (slotOf H g used) (withoutBlock H g used) (sym (H .same→≡ g (r .fingerprint) t)))
-            (λ n. either (y e) (λ t. cached-in H g (r .fingerprint) g (slotOf H g used) used t n) (λ t. cached-self H (r .fingerprint) g (slotOf H g used) (withoutBlock H g used) t)))
+            (λ n. either (y e) (λ t. cached-in H g (r .fingerprint) g (slotOf H g used) used t n)
+            (λ t. cached-self H (r .fingerprint) g (slotOf H g used) (withoutBlock H g used) t)))
             rows (h .dirtyCached);
         flashLength = fl;
         diskLength = dl;
@@ -224,7 +240,8 @@ module _ {F X : Type 0} (H : Hashing F X) where
         few = rw (length-cleaned H (isLost H none) rows) fw;
         fingerprints = distinct-snoc (H .same) (λ u. u .fingerprint) (H .same→≡) (H .same-refl) (blockRow g k) used (h .fingerprints) c;
         slots = List·Permᴰ·trans (slots-newest ks used g k) (subst (λ l. List·Permᴰ (l ++ map (λ u. u .slot) used) (slotsFrom 0 (N .d))) p (h .slots));
-        dirtyCached = all-cleaned H (isLost H none) (λ r. r .dirty ≡ true → (cached H (r .fingerprint) used ≡ true) ⊎ (r .fingerprint ≡ g)) (DirtyCached H (used ++ (blockRow g k ∷ [])))
+        dirtyCached = all-cleaned H (isLost H none) (λ r. r .dirty ≡ true → (cached H (r .fingerprint) used ≡ true) ⊎ (r .fingerprint ≡ g))
+            (DirtyCached H (used ++ (blockRow g k ∷ [])))
             (λ r y e. either (y (and-left (r .dirty) true e)) (λ t. cached-add H (r .fingerprint) g k used t) (λ t. cached-self H (r .fingerprint) g k used t))
             rows (h .dirtyCached);
         flashLength = length-set flash k b ∙ fl;
@@ -237,14 +254,18 @@ module _ {F X : Type 0} (H : Hashing F X) where
         addresses = distinct-cleaned H (isLost H (some v)) rows da;
         below = all-cleaned H (isLost H (some v)) (λ r. r .address < N .P) (λ r. r .address < N .P) (λ r y. y) rows bl;
         few = rw (length-cleaned H (isLost H (some v)) rows) fw;
-        fingerprints = distinct-snoc (H .same) (λ u. u .fingerprint) (H .same→≡) (H .same-refl) (blockRow g (u .slot)) (withoutBlock H v used) (distinct-without (H .same) (λ u. u .fingerprint) v used (h .fingerprints))
-            (by-test (cached H g (withoutBlock H v used)) (λ t. clash (has-without-other (H .same) (λ u. u .fingerprint) (H .same) (λ u. u .fingerprint) g v used t) c) (λ f. f));
+        fingerprints = distinct-snoc (H .same) (λ u. u .fingerprint) (H .same→≡) (H .same-refl) (blockRow g (u .slot)) (withoutBlock H v used)
+            (distinct-without (H .same) (λ u. u .fingerprint) v used (h .fingerprints))
+            (by-test (cached H g (withoutBlock H v used)) (λ t. clash (has-without-other (H .same) (λ u. u .fingerprint) (H .same)
+            (λ u. u .fingerprint) g v used t) c) (λ f. f));
         slots = List·Permᴰ·trans (slots-newest [] (withoutBlock H v used) g (u .slot))
             (List·Permᴰ·trans (rw (cs .0) at (Permᴰ·symm (perm-take H v used (h .fingerprints) (cs .1))))
             (subst (λ l. List·Permᴰ (l ++ map (λ u. u .slot) used) (slotsFrom 0 (N .d))) p (h .slots)));
-        dirtyCached = all-cleaned H (isLost H (some v)) (λ r. r .dirty ≡ true → (cached H (r .fingerprint) used ≡ true) ⊎ (r .fingerprint ≡ g)) (DirtyCached H (withoutBlock H v used ++ (blockRow g (u .slot) ∷ [])))
+        dirtyCached = all-cleaned H (isLost H (some v)) (λ r. r .dirty ≡ true → (cached H (r .fingerprint) used ≡ true) ⊎ (r .fingerprint ≡ g))
+            (DirtyCached H (withoutBlock H v used ++ (blockRow g (u .slot) ∷ [])))
             (λ r y e. either (y (and-left (r .dirty) (not (H .same v (r .fingerprint))) e))
-            (λ t. cached-in H v (r .fingerprint) g (u .slot) used t (not-true (H .same v (r .fingerprint)) (and-right (r .dirty) (not (H .same v (r .fingerprint))) e)))
+            (λ t. cached-in H v (r .fingerprint) g (u .slot) used t
+            (not-true (H .same v (r .fingerprint)) (and-right (r .dirty) (not (H .same v (r .fingerprint))) e)))
             (λ t. cached-self H (r .fingerprint) g (u .slot) (withoutBlock H v used) t))
             rows (h .dirtyCached);
         flashLength = length-set flash (u .slot) b ∙ fl;
@@ -264,7 +285,8 @@ module _ {F X : Type 0} (H : Hashing F X) where
       let t = step3 H (o .gone) (o .rows) rows (record { free = s .free; used = s .used }) in
       let dirty : All (λ r. r .dirty ≡ true → (cached H (r .fingerprint) (s .used) ≡ true) ⊎ (r .fingerprint ≡ g)) rows
       = all-append (λ r. r .dirty ≡ true → (cached H (r .fingerprint) (s .used) ≡ true) ⊎ (r .fingerprint ≡ g)) (o .rows) (new ∷ [])
-      (all-map (DirtyCached H (s .used)) (λ r. r .dirty ≡ true → (cached H (r .fingerprint) (s .used) ≡ true) ⊎ (r .fingerprint ≡ g)) (λ r y e. inl (y e)) (o .rows) (out .dirtyCached))
+      (all-map (DirtyCached H (s .used)) (λ r. r .dirty ≡ true → (cached H (r .fingerprint) (s .used) ≡ true) ⊎ (r .fingerprint ≡ g)) (λ r y e. inl (y e))
+      (o .rows) (out .dirtyCached))
       ((λ e. inr refl), tt) in
       sound-step4 N rows (t .free) (t .used) (s .flash) (o .disk) g (q .block) (o .primary)
       (distinct-snoc eqb (λ r. r .address) eqb→≡ eqb-self new (o .rows) (out .addresses) (out .absent))
@@ -304,7 +326,8 @@ module _ {F X : Type 0} (H : Hashing F X) where
   pub sound-dropped : (d : ℕ) (rows : List (AddressRow F)) (free : List ℕ) (used : List (BlockRow F)) (o : Option (AddressRow F))
       → Distinct (H .same) (λ u. u .fingerprint) used → List·Permᴰ (free ++ map (λ u. u .slot) used) (slotsFrom 0 d) → All (DirtyCached H used) rows
       → let t = dropped H rows (record { free = free; used = used }) o in
-      Distinct (H .same) (λ u. u .fingerprint) (t .used) × List·Permᴰ (t .free ++ map (λ u. u .slot) (t .used)) (slotsFrom 0 d) × All (DirtyCached H (t .used)) rows
+      Distinct (H .same) (λ u. u .fingerprint) (t .used) × List·Permᴰ (t .free ++ map (λ u. u .slot) (t .used)) (slotsFrom 0 d) × All
+      (DirtyCached H (t .used)) rows
   unfolding dropped freed
   sound-dropped d rows free used none df sl dc = (df, sl, dc)
   sound-dropped d rows free used (some r) df sl dc =
@@ -314,9 +337,11 @@ module _ {F X : Type 0} (H : Hashing F X) where
       (λ k. rw k (by-test (cached H q used)
       (λ c. rw c (
         distinct-without (H .same) (λ u. u .fingerprint) q used df,
-        List·Permᴰ·trans (Permᴰ·symm (List·Permᴰ·trans (Permᴰ·append-left free (perm-take H q used df c)) (Permᴰ·middle (slotOf H q used) free (map (λ u. u .slot) (withoutBlock H q used))))) sl,
+        List·Permᴰ·trans (Permᴰ·symm (List·Permᴰ·trans (Permᴰ·append-left free (perm-take H q used df c))
+            (Permᴰ·middle (slotOf H q used) free (map (λ u. u .slot) (withoutBlock H q used))))) sl,
         all-map (λ x. DirtyCached H used x × (known H (x .fingerprint) rows ≡ true)) (DirtyCached H (withoutBlock H q used))
-            (λ x y e. has-without (H .same) (λ u. u .fingerprint) (H .same→≡) (H .same-refl) (x .fingerprint) q used (apart H q (x .fingerprint) rows (y .1) k) ∙ y .0 e)
+            (λ x y e. has-without (H .same) (λ u. u .fingerprint) (H .same→≡) (H .same-refl) (x .fingerprint) q used
+            (apart H q (x .fingerprint) rows (y .1) k) ∙ y .0 e)
             rows (all-both (DirtyCached H used) (λ x. known H (x .fingerprint) rows ≡ true) rows dc (all-known H rows)),
       ))
       (λ c. rw c (df, sl, dc))))

@@ -77,7 +77,8 @@ addresses-apart (r ∷ rs) h =
 pub addresses-once : (rs : List (List ℕ)) → Distinct eqb (λ r. r .address) (map asHeld (map readAddress rs)) → distinct (map rowAddress rs) ≡ true
 unfolding distinct
 addresses-once [] h = refl
-addresses-once (r ∷ rs) h = both (not (elem (rowAddress r) (map rowAddress rs))) (distinct (map rowAddress rs)) (ap not (elem-held (rowAddress r) rs ∙ h .0)) (addresses-once rs (h .1))
+addresses-once (r ∷ rs) h = both (not (elem (rowAddress r) (map rowAddress rs))) (distinct (map rowAddress rs)) (ap not (elem-held (rowAddress r) rs ∙ h .0))
+    (addresses-once rs (h .1))
 
 -- a list of the right length fits
 pub fit-is : (n : ℕ) (l : List ℕ) → length l ≡ n → (fit n l) .0 ≡ l
@@ -92,12 +93,14 @@ pub held-print-is : (r : List ℕ) → length r ≡ rowBytes → (fit 32 (readAd
 held-print-is r l = fit-is 32 (readAddress r .fingerprint) (address-print-length r l)
 
 -- "cached" as the tables search for it
-cached-is : (B : ℕ) (g : Fixed 32) (k : ℕ) (rs : List (List ℕ)) → Wide rs → absent (findFrom (caches (g .0)) k rs) ≡ not (cached (engine B) g (usedRows (map readBlock rs)))
+cached-is : (B : ℕ) (g : Fixed 32) (k : ℕ) (rs : List (List ℕ)) → Wide rs
+    → absent (findFrom (caches (g .0)) k rs) ≡ not (cached (engine B) g (usedRows (map readBlock rs)))
 unfolding usedRows findFrom
 cached-is B g k [] w = refl
 cached-is B g k (r ∷ rs) w =
     by-test (isUsed r)
-    (λ u. rw (u, ap (same (g .0)) (print-is r (w .0)) ∙ same-swap (g .0) (readBlock r .fingerprint)) (by-test (same (readBlock r .fingerprint) (g .0)) (λ e. rw e) (λ e. rw e (cached-is B g (suc k) rs (w .1)))))
+    (λ u. rw (u, ap (same (g .0)) (print-is r (w .0)) ∙ same-swap (g .0) (readBlock r .fingerprint))
+    (by-test (same (readBlock r .fingerprint) (g .0)) (λ e. rw e) (λ e. rw e (cached-is B g (suc k) rs (w .1)))))
     (λ u. rw u (cached-is B g (suc k) rs (w .1)))
 
 -- a fingerprint used once
@@ -121,7 +124,8 @@ unfolding every usedRows
 used-once B [] w = λ h. refl
 used-once B (r ∷ rs) w =
     by-test (isUsed r)
-    (λ u. rw u (λ h. both (absent (findFrom (caches (readBlock r .fingerprint)) 0 rs)) (every unique rs) (row-cached B r rs (w .0) (w .1) ∙ ap not (h .0)) (used-once B rs (w .1) (h .1))))
+    (λ u. rw u (λ h. both (absent (findFrom (caches (readBlock r .fingerprint)) 0 rs)) (every unique rs) (row-cached B r rs (w .0) (w .1) ∙ ap not (h .0))
+    (used-once B rs (w .1) (h .1))))
     (λ u. rw u (λ h. used-once B rs (w .1) h))
 
 -- slots
@@ -151,15 +155,19 @@ module _ (d : ℕ) where
         rw (map-map (λ (r : Table.BlockRow). r .slot) readBlock rs) (slots-are d (map rowSlot rs) (length-map rs rowSlot ∙ l) (slots-below rs h) e) in
         List·Permᴰ·trans (slots-perm (map readBlock rs)) p
 
-    pub each-slots : List·Permᴰ (freeSlots (map readBlock rs) ++ map (λ u. u .slot) (usedRows (map readBlock rs))) (slotsFrom 0 d) → distinct (map rowSlot rs) ≡ true
-    each-slots p = slots-differ d (map rowSlot rs) (rw (map-map (λ (r : Table.BlockRow). r .slot) readBlock rs) at (List·Permᴰ·trans (Permᴰ·symm (slots-perm (map readBlock rs))) p))
+    pub each-slots : List·Permᴰ (freeSlots (map readBlock rs) ++ map (λ u. u .slot) (usedRows (map readBlock rs))) (slotsFrom 0 d)
+        → distinct (map rowSlot rs) ≡ true
+    each-slots p = slots-differ d (map rowSlot rs) (rw (map-map (λ (r : Table.BlockRow). r .slot) readBlock rs) at
+        (List·Permᴰ·trans (Permᴰ·symm (slots-perm (map readBlock rs))) p))
 
 -- dirty rows
 module _ (B : ℕ) (bs : List (List ℕ)) (wide : Wide bs) where
-  held-cached : (r : List ℕ) → length r ≡ rowBytes → absent (findFrom (caches (readAddress r .fingerprint)) 0 bs) ≡ not (cached (engine B) ((asHeld (readAddress r)) .fingerprint) (usedRows (map readBlock bs)))
+  held-cached : (r : List ℕ) → length r ≡ rowBytes → absent (findFrom (caches (readAddress r .fingerprint)) 0 bs)
+      ≡ not (cached (engine B) ((asHeld (readAddress r)) .fingerprint) (usedRows (map readBlock bs)))
   held-cached r l = ap (λ g. absent (findFrom (caches g) 0 bs)) (sym (held-print-is r l)) ∙ cached-is B (fit 32 (readAddress r .fingerprint)) 0 bs wide
 
-  pub dirty-cached : (rs : List (List ℕ)) → Wide rs → all (dirtyOk bs) rs ≡ true → All (DirtyCached (engine B) (usedRows (map readBlock bs))) (map asHeld (map readAddress rs))
+  pub dirty-cached : (rs : List (List ℕ)) → Wide rs → all (dirtyOk bs) rs ≡ true
+      → All (DirtyCached (engine B) (usedRows (map readBlock bs))) (map asHeld (map readAddress rs))
   unfolding all
   dirty-cached [] w h = tt
   dirty-cached (r ∷ rs) w h = (
@@ -171,7 +179,8 @@ module _ (B : ℕ) (bs : List (List ℕ)) (wide : Wide bs) where
       not-not : (b : Bool) → not (not b) ≡ true → b ≡ true
       not-not b e = not-false b (not-true (not b) e)
 
-  pub cached-dirty : (rs : List (List ℕ)) → Wide rs → All (DirtyCached (engine B) (usedRows (map readBlock bs))) (map asHeld (map readAddress rs)) → all (dirtyOk bs) rs ≡ true
+  pub cached-dirty : (rs : List (List ℕ)) → Wide rs → All (DirtyCached (engine B) (usedRows (map readBlock bs))) (map asHeld (map readAddress rs))
+      → all (dirtyOk bs) rs ≡ true
   unfolding all
   cached-dirty [] w h = refl
   cached-dirty (r ∷ rs) w h =

@@ -81,7 +81,8 @@ unfolding eachOnce
 slots-are d slots l b e =
     let once : eachOnce d slots ≡ true = each-once d slots l ∙ both (all (λ k. ltb k d) slots) (distinct slots) b e in
     pigeon (slotsFrom 0 d) slots (slots-apart 0 d)
-    (all-map (λ k. eqb (count k slots) 1 ≡ true) (λ k. elem k slots ≡ true) (λ k t. count-elem k slots t) (slotsFrom 0 d) (true-all (λ k. eqb (count k slots) 1) (slotsFrom 0 d) once))
+    (all-map (λ k. eqb (count k slots) 1 ≡ true) (λ k. elem k slots ≡ true) (λ k t. count-elem k slots t) (slotsFrom 0 d)
+    (true-all (λ k. eqb (count k slots) 1) (slotsFrom 0 d) once))
     (l ∙ sym (length-slotsFrom 0 d))
 
 apart-elem : (k : ℕ) (l : List ℕ) → All (λ j. j ≢ k) l → elem k l ≡ false

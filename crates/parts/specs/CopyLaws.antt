@@ -54,7 +54,8 @@ unfolding splice
 put-block-is B P t di h a b x =
     rw (x .1, h .is) (sym (join-set B di a x (omega (arith, h .count))))
 
-pub copy-is : (B d P : ℕ) (flash disk : List ℕ) (fl di : List (Fixed B)) → Parts B d flash fl → Parts B P disk di → (k a : ℕ) (z : Fixed B) → k < d → a < P → splice (a * B) (part (k * B) B flash) disk ≡ join (set di a (getD fl k z))
+pub copy-is : (B d P : ℕ) (flash disk : List ℕ) (fl di : List (Fixed B)) → Parts B d flash fl → Parts B P disk di → (k a : ℕ) (z : Fixed B) → k < d → a < P
+    → splice (a * B) (part (k * B) B flash) disk ≡ join (set di a (getD fl k z))
 copy-is B d P flash disk fl di hf hd k a z kb ab =
     ap (λ (x : List ℕ). splice (a * B) x disk) (part-block B d flash fl hf k z kb) ∙ put-block-is B P disk di hd a ab (getD fl k z)
 
@@ -62,38 +63,48 @@ pub slotOf-below : (B d : ℕ) (f : Fixed 32) (used : List (BlockRow (Fixed 32))
 slotOf-below B d f [] h q = h
 slotOf-below B d f (u ∷ us) h q = by-test (engine B .same f (u .fingerprint)) (λ e. rw e (q .0)) (λ e. rw e (slotOf-below B d f us h (q .1)))
 
-module _ (b : BoxRecord) (disk flash addrs blocks : List ℕ) (s : Box (Fixed 32) (Fixed (b .size))) (h : Rep b disk flash addrs blocks s) (chosen : Fixed 32 → Bool) (i : ℕ) (l : i < b .held) where
+module _ (b : BoxRecord) (disk flash addrs blocks : List ℕ) (s : Box (Fixed 32) (Fixed (b .size))) (h : Rep b disk flash addrs blocks s)
+    (chosen : Fixed 32 → Bool) (i : ℕ) (l : i < b .held) where
   row : AddressRow (Fixed 32)
   row = getD (s .rows) i noRow
 
-  pub row-left : (isDirty (rowAt addrs i) && chosen (getD (s .rows) i noRow .fingerprint)) ≡ false → _≡_ {A = Copied} (record { count = 0; disk = disk; addrs = addrs }) (copiedRow b chosen s i)
+  pub row-left : (isDirty (rowAt addrs i) && chosen (getD (s .rows) i noRow .fingerprint)) ≡ false
+      → _≡_ {A = Copied} (record { count = 0; disk = disk; addrs = addrs }) (copiedRow b chosen s i)
   unfolding copiedRow
   row-left e =
       let d : (getD (s .rows) i noRow .dirty && chosen (getD (s .rows) i noRow .fingerprint)) ≡ false
-      = ap (λ (x : Bool). x && chosen (getD (s .rows) i noRow .fingerprint)) (sym (dirty-is (b .blocks) (b .rows) (b .held) addrs (s .rows) (h .rows-are) i l noRow)) ∙ e in
+      = ap (λ (x : Bool). x && chosen (getD (s .rows) i noRow .fingerprint))
+      (sym (dirty-is (b .blocks) (b .rows) (b .held) addrs (s .rows) (h .rows-are) i l noRow)) ∙ e in
       rw d (λ j. record { count = 0; disk = h .disk-is .is j; addrs = h .rows-are .is j })
 
-  pub row-copied : (isDirty (rowAt addrs i) && chosen (getD (s .rows) i noRow .fingerprint)) ≡ true → (a k : ℕ) → a ≡ readAddress (rowAt addrs i) .address → k ≡ slotOf (engine (b .size)) (getD (s .rows) i noRow .fingerprint) (s .used) → k < b .slots
-      → _≡_ {A = Copied} (record { count = 1; disk = splice (a * b .size) (part (k * b .size) (b .size) flash) disk; addrs = rowCleaned i addrs }) (copiedRow b chosen s i)
+  pub row-copied : (isDirty (rowAt addrs i) && chosen (getD (s .rows) i noRow .fingerprint)) ≡ true → (a k : ℕ) → a ≡ readAddress (rowAt addrs i) .address
+      → k ≡ slotOf (engine (b .size)) (getD (s .rows) i noRow .fingerprint) (s .used) → k < b .slots
+      → _≡_ {A = Copied} (record { count = 1; disk = splice (a * b .size) (part (k * b .size) (b .size) flash) disk; addrs = rowCleaned i addrs })
+      (copiedRow b chosen s i)
   unfolding copiedRow
   row-copied e a k ea ek kb =
       let d : (getD (s .rows) i noRow .dirty && chosen (getD (s .rows) i noRow .fingerprint)) ≡ true
-      = ap (λ (x : Bool). x && chosen (getD (s .rows) i noRow .fingerprint)) (sym (dirty-is (b .blocks) (b .rows) (b .held) addrs (s .rows) (h .rows-are) i l noRow)) ∙ e in
+      = ap (λ (x : Bool). x && chosen (getD (s .rows) i noRow .fingerprint))
+      (sym (dirty-is (b .blocks) (b .rows) (b .held) addrs (s .rows) (h .rows-are) i l noRow)) ∙ e in
       let z = engine (b .size) .blank in
       let aa : a ≡ getD (s .rows) i noRow .address = ea ∙ address-is (b .blocks) (b .rows) (b .held) addrs (s .rows) (h .rows-are) i l noRow in
       let ab : a < b .blocks = rw aa (address-below (b .blocks) (b .rows) (b .held) addrs (s .rows) (h .rows-are) i l noRow) in
-      let c : splice (a * b .size) (part (k * b .size) (b .size) flash) disk ≡ join (set (s .disk) (getD (s .rows) i noRow .address) (blockOf (engine (b .size)) (getD (s .rows) i noRow .fingerprint) (s .used) (s .flash)))
-      = copy-is (b .size) (b .slots) (b .blocks) flash disk (s .flash) (s .disk) (h .flash-is) (h .disk-is) k a z kb ab ∙ ap₂ {C = List ℕ} (λ x y. join (set (s .disk) x (getD (s .flash) y z))) aa ek in
+      let c : splice (a * b .size) (part (k * b .size) (b .size) flash) disk
+      ≡ join (set (s .disk) (getD (s .rows) i noRow .address) (blockOf (engine (b .size)) (getD (s .rows) i noRow .fingerprint) (s .used) (s .flash)))
+      = copy-is (b .size) (b .slots) (b .blocks) flash disk (s .flash) (s .disk) (h .flash-is) (h .disk-is) k a z kb ab
+      ∙ ap₂ {C = List ℕ} (λ x y. join (set (s .disk) x (getD (s .flash) y z))) aa ek in
       let r = cleaned-row (b .blocks) (b .rows) (b .held) addrs (s .rows) (h .rows-are) i l noRow in
       rw d (λ j. record { count = 1; disk = c j; addrs = r j })
 
 -- a row that is chosen
-pub copied-chosen : (b : BoxRecord) (chosen : Fixed 32 → Bool) (s : Box (Fixed 32) (Fixed (b .size))) (i : ℕ) → chosen (getD (s .rows) i noRow .fingerprint) ≡ true → copiedRow b (λ f. true) s i ≡ copiedRow b chosen s i
+pub copied-chosen : (b : BoxRecord) (chosen : Fixed 32 → Bool) (s : Box (Fixed 32) (Fixed (b .size))) (i : ℕ)
+    → chosen (getD (s .rows) i noRow .fingerprint) ≡ true → copiedRow b (λ f. true) s i ≡ copiedRow b chosen s i
 unfolding copiedRow
 copied-chosen b chosen s i e = rw e refl
 
 -- the slot of a fingerprint, by its place
-module _ (B d : ℕ) (t : List ℕ) (free : List ℕ) (used : List (BlockRow (Fixed 32))) (f : Fixed 32) (h : Blocks d t free used) (j : ℕ) (e : j ≡ length free + indexWhere (λ u. engine 0 .same f (u .fingerprint)) used) where
+module _ (B d : ℕ) (t : List ℕ) (free : List ℕ) (used : List (BlockRow (Fixed 32))) (f : Fixed 32) (h : Blocks d t free used) (j : ℕ)
+    (e : j ≡ length free + indexWhere (λ u. engine 0 .same f (u .fingerprint)) used) where
   pub slot-none : d ≤ j → 0 ≡ slotOf (engine B) f used
   slot-none b = sym (slotOf-no (engine B) f used (omega (arith, h .count, e)))
 
@@ -108,26 +119,34 @@ module _ (B d : ℕ) (t : List ℕ) (free : List ℕ) (used : List (BlockRow (Fi
   slot-placed = by-test (ltb j d) (λ y. rw y (slot-some (ltb-true j d y) (readBlock (rowAt t j) .slot) refl)) (λ y. rw y (slot-none (ltb-false j d y)))
 
 -- the same by the place of a row's block row, or 256
-slot-coded : (B d : ℕ) (t free : List ℕ) (used : List (BlockRow (Fixed 32))) (g : List ℕ) (q : Fixed 32) → Blocks d t free used → d ≤ 256 → q .0 ≡ g → (f : Found) → findFrom (caches g) 0 (rows d t) ≡ f
+slot-coded : (B d : ℕ) (t free : List ℕ) (used : List (BlockRow (Fixed 32))) (g : List ℕ) (q : Fixed 32) → Blocks d t free used → d ≤ 256 → q .0 ≡ g
+    → (f : Found) → findFrom (caches g) 0 (rows d t) ≡ f
     → slotIn t d (code f) ≡ slotOf (engine B) q used
 slot-coded B d t free used g q h b e (At i) x = slot-placed B d t free used q h i (block-index d t free used h g q e (At i) x)
-slot-coded B d t free used g q h b e Nothing x = rw (le-ltb 256 d b) (slot-none B d t free used q h d (block-index d t free used h g q e Nothing x) (omega arith))
+slot-coded B d t free used g q h b e Nothing x = rw (le-ltb 256 d b) (slot-none B d t free used q h d (block-index d t free used h g q e Nothing x)
+    (omega arith))
 
-pub slot-of-row : (B P m n d : ℕ) (addrs blocks : List ℕ) (l : List (AddressRow (Fixed 32))) (free : List ℕ) (used : List (BlockRow (Fixed 32))) → Addrs P m n addrs l → Blocks d blocks free used → d ≤ 256
+pub slot-of-row : (B P m n d : ℕ) (addrs blocks : List ℕ) (l : List (AddressRow (Fixed 32))) (free : List ℕ) (used : List (BlockRow (Fixed 32)))
+    → Addrs P m n addrs l → Blocks d blocks free used → d ≤ 256
     → (i : ℕ) → i < n → slotIn blocks d (placeIn (rows d blocks) (rowAt addrs i)) ≡ slotOf (engine B) (getD l i noRow .fingerprint) used
 unfolding placeIn
 slot-of-row B P m n d addrs blocks l free used h k b i li =
     let r : AddressRow (Fixed 32) = getD l i noRow in
     ap (λ t. slotIn blocks d (placeIn (rows d blocks) t)) (row-is P m n addrs l h i li noRow)
-    ∙ slot-coded B d blocks free used (readAddress (addrBytes r) .fingerprint) (r .fingerprint) k b (sym (fp-of r)) (findFrom (caches (readAddress (addrBytes r) .fingerprint)) 0 (rows d blocks)) refl
+    ∙ slot-coded B d blocks free used (readAddress (addrBytes r) .fingerprint) (r .fingerprint) k b (sym (fp-of r))
+    (findFrom (caches (readAddress (addrBytes r) .fingerprint)) 0 (rows d blocks)) refl
 
 -- a row's block and its place on the disk are there
-pub copy-fits : (b : BoxRecord) (disk flash addrs blocks : List ℕ) (s : Box (Fixed 32) (Fixed (b .size))) → Rep b disk flash addrs blocks s → (i : ℕ) → i < b .held → (a k : ℕ) → a ≡ readAddress (rowAt addrs i) .address → k < b .slots
+pub copy-fits : (b : BoxRecord) (disk flash addrs blocks : List ℕ) (s : Box (Fixed 32) (Fixed (b .size))) → Rep b disk flash addrs blocks s → (i : ℕ)
+    → i < b .held → (a k : ℕ) → a ≡ readAddress (rowAt addrs i) .address → k < b .slots
     → (k * b .size + b .size ≤ length flash) × (a * b .size + b .size ≤ length disk)
 copy-fits b disk flash addrs blocks s h i l a k ea kb =
     let aa : a ≡ getD (s .rows) i noRow .address = ea ∙ address-is (b .blocks) (b .rows) (b .held) addrs (s .rows) (h .rows-are) i l noRow in
-    let ab : a < b .blocks = rw aa (address-below (b .blocks) (b .rows) (b .held) addrs (s .rows) (h .rows-are) i l noRow) in
-    (rw (parts-length (b .size) (b .slots) flash (s .flash) (h .flash-is)) (block-ends k (b .slots) (b .size) kb), rw (parts-length (b .size) (b .blocks) disk (s .disk) (h .disk-is)) (block-ends a (b .blocks) (b .size) ab))
+    let ab : a < b .blocks = rw aa (address-below (b .blocks) (b .rows) (b .held) addrs (s .rows) (h .rows-are) i l noRow) in (
+      rw (parts-length (b .size) (b .slots) flash (s .flash) (h .flash-is)) (block-ends k (b .slots) (b .size) kb),
+      rw
+          (parts-length (b .size) (b .blocks) disk (s .disk) (h .disk-is)) (block-ends a (b .blocks) (b .size) ab),
+    )
 
 pub both-yes : (x y : Bool) → x ≡ true → y ≡ true → (x && y) ≡ true
 both-yes x y e f = rw (e, f) refl
@@ -140,9 +159,11 @@ right-no true y e = e
 right-no false y e = refl
 
 -- fingerprint_is
-pub row-fp : (b : BoxRecord) (disk flash addrs blocks : List ℕ) (s : Box (Fixed 32) (Fixed (b .size))) → Rep b disk flash addrs blocks s → (i : ℕ) → i < b .held → (g : List ℕ) (v : Fixed 32) → v .0 ≡ g
+pub row-fp : (b : BoxRecord) (disk flash addrs blocks : List ℕ) (s : Box (Fixed 32) (Fixed (b .size))) → Rep b disk flash addrs blocks s → (i : ℕ)
+    → i < b .held → (g : List ℕ) (v : Fixed 32) → v .0 ≡ g
     → hasFingerprint g (rowAt addrs i) ≡ engine (b .size) .same v (getD (s .rows) i noRow .fingerprint)
-row-fp b disk flash addrs blocks s h i l g v e = ap (hasFingerprint g) (row-is (b .blocks) (b .rows) (b .held) addrs (s .rows) (h .rows-are) i l noRow) ∙ has-fp g v e (getD (s .rows) i noRow)
+row-fp b disk flash addrs blocks s h i l g v e = ap (hasFingerprint g) (row-is (b .blocks) (b .rows) (b .held) addrs (s .rows) (h .rows-are) i l noRow)
+    ∙ has-fp g v e (getD (s .rows) i noRow)
 
 pub same-slot : (B : ℕ) (v f : Fixed 32) (used : List (BlockRow (Fixed 32))) → engine B .same v f ≡ true → slotOf (engine B) v used ≡ slotOf (engine B) f used
 same-slot B v f used e = ap (λ (x : Fixed 32). slotOf (engine B) x used) (engine B .same→≡ v f e)

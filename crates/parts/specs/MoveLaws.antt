@@ -15,7 +15,8 @@ use Rattle.tables.specs.Operations.{rowOut, rowAdded, rowCleaned, rowNewest, ro
 use Rattle.tables.specs.SoundLaws.{map-at}
 use Rattle.tables.specs.ShiftLaws.{length-zeros}
 use Rattle.tables.specs.OperationLaws.{map-++, map-removeAt, map-set}
-use Rattle.table_laws.specs.Written.{cleanRow, address-address, address-dirty, block-slot, held-at, held-out, held-added, held-cleaned, block-at, blocks-newest, blocks-freed, blocks-filled}
+use Rattle.table_laws.specs.Written.{cleanRow, address-address, address-dirty, block-slot, held-at, held-out, held-added, held-cleaned, block-at}
+use Rattle.table_laws.specs.Written.{blocks-newest, blocks-freed, blocks-filled}
 use Rattle.paper.specs.KeyedLaws.{All}
 use Rattle.paper.specs.Cache.{AddressRow, BlockRow, newest, blockRow}
 use Rattle.paper.specs.Engine.{Fixed}
@@ -62,7 +63,8 @@ module _ (P m n : ℕ) (t : List ℕ) (l : List (AddressRow (Fixed 32))) (h : Ad
     -- remove_row
     pub removed : rowOut n i t ≡ addressesOf m (removeAt l i)
     unfolding addressesOf
-    removed = ap (rowOut n i) (h .is) ∙ held-out m (map heldRow l) (held-wide l) n count i b (heldRow z) (h .few) ∙ ap (addressTable m) (sym (map-removeAt heldRow l i))
+    removed = ap (rowOut n i) (h .is) ∙ held-out m (map heldRow l) (held-wide l) n count i b (heldRow z) (h .few)
+        ∙ ap (addressTable m) (sym (map-removeAt heldRow l i))
 
     -- set_clean
     pub cleaned-row : rowCleaned i t ≡ addressesOf m (set l i (clean (getD l i z)))
@@ -88,9 +90,11 @@ removeAt-right [] ys k = rw (zero-add k) refl
 removeAt-right {A} (x ∷ xs) ys k = rw (suc-add (length xs) k) (ap {B = List A} (λ l. x ∷ l) (removeAt-right xs ys k))
 
 -- a used row behind the others
-more-used : (free : List ℕ) (used : List (BlockRow (Fixed 32))) (u : BlockRow (Fixed 32)) → tableRows free used ++ (usedRow u ∷ []) ≡ tableRows free (used ++ (u ∷ []))
+more-used : (free : List ℕ) (used : List (BlockRow (Fixed 32))) (u : BlockRow (Fixed 32))
+    → tableRows free used ++ (usedRow u ∷ []) ≡ tableRows free (used ++ (u ∷ []))
 more-used free used u =
-    append-assoc (map freeRow free) (map usedRow used) (usedRow u ∷ []) ∙ ap (λ (x : List R.BlockRow). map freeRow free ++ x) (sym (map-++ usedRow used (u ∷ [])))
+    append-assoc (map freeRow free) (map usedRow used) (usedRow u ∷ [])
+    ∙ ap (λ (x : List R.BlockRow). map freeRow free ++ x) (sym (map-++ usedRow used (u ∷ [])))
 
 module _ (d : ℕ) (t : List ℕ) (free : List ℕ) (used : List (BlockRow (Fixed 32))) (h : Blocks d t free used) where
   table-count : length (tableRows free used) ≡ d
@@ -116,14 +120,16 @@ module _ (d : ℕ) (t : List ℕ) (free : List ℕ) (used : List (BlockRow (Fixe
 
     pub used-row : rowAt t (length free + k) ≡ usedBytes (getD used k z)
     unfolding blocksOf
-    used-row = ap (λ (x : List ℕ). rowAt x (length free + k)) (h .is) ∙ block-at (tableRows free used) (table-wide free used) d table-count (length free + k) below (usedRow z) ∙ ap blockBytes used-at
+    used-row = ap (λ (x : List ℕ). rowAt x (length free + k)) (h .is)
+        ∙ block-at (tableRows free used) (table-wide free used) d table-count (length free + k) below (usedRow z) ∙ ap blockBytes used-at
 
     pub slot-below : getD used k z .slot < d
     slot-below = all-getD (λ (x : BlockRow (Fixed 32)). x .slot < d) used k z (h .used-below) b
 
     pub slot-is : readBlock (rowAt t (length free + k)) .slot ≡ getD used k z .slot
     slot-is =
-        ap (λ (x : List ℕ). readBlock x .slot) used-row ∙ block-slot (usedRow (getD used k z)) (getD used k z .fingerprint .1) (omega (arith, h .small, slot-below))
+        ap (λ (x : List ℕ). readBlock x .slot) used-row ∙ block-slot (usedRow (getD used k z)) (getD used k z .fingerprint .1)
+        (omega (arith, h .small, slot-below))
 
     pub used-flag : isUsed (rowAt t (length free + k)) ≡ true
     used-flag = ap isUsed used-row ∙ ap (λ (n : ℕ). eqb n 1) (flag-used (getD used k z))
@@ -135,22 +141,26 @@ module _ (d : ℕ) (t : List ℕ) (free : List ℕ) (used : List (BlockRow (Fixe
     pub renewed : rowNewest d (length free + k) t ≡ blocksOf free (removeAt used k ++ (getD used k z ∷ []))
     unfolding blocksOf
     renewed =
-        ap (rowNewest d (length free + k)) (h .is) ∙ blocks-newest (tableRows free used) (table-wide free used) d table-count (length free + k) below (usedRow z)
+        ap (rowNewest d (length free + k)) (h .is) ∙ blocks-newest (tableRows free used) (table-wide free used) d table-count (length free + k) below
+        (usedRow z)
         ∙ ap blockTable (ap₂ {C = List R.BlockRow} (λ x y. x ++ (y ∷ [])) rest-at used-at ∙ more-used free (removeAt used k) (getD used k z))
 
     -- to_front
     pub fronted : rowFreed d (length free + k) t ≡ blocksOf (getD used k z .slot ∷ free) (removeAt used k)
     unfolding blocksOf
     fronted =
-        ap (rowFreed d (length free + k)) (h .is) ∙ blocks-freed (tableRows free used) (table-wide free used) d table-count (length free + k) below (usedRow z) print-at
+        ap (rowFreed d (length free + k)) (h .is) ∙ blocks-freed (tableRows free used) (table-wide free used) d table-count (length free + k) below
+        (usedRow z) print-at
         ∙ ap blockTable (ap₂ {C = List R.BlockRow} (λ x y. freeRow (y .slot) ∷ x) rest-at used-at)
 
     -- put_block on a used row
     pub refilled : (f : Fixed 32) → rowFilled d (length free + k) (f .0) t ≡ blocksOf free (removeAt used k ++ (blockRow f (getD used k z .slot) ∷ []))
     unfolding blocksOf
     refilled f =
-        ap (rowFilled d (length free + k) (f .0)) (h .is) ∙ blocks-filled (tableRows free used) (table-wide free used) d table-count (length free + k) below (usedRow z) print-at (f .0)
-        ∙ ap blockTable (ap₂ {C = List R.BlockRow} (λ x y. x ++ (R.blockRow (f .0) (y .slot) 1 ∷ [])) rest-at used-at ∙ more-used free (removeAt used k) (blockRow f (getD used k z .slot)))
+        ap (rowFilled d (length free + k) (f .0)) (h .is) ∙ blocks-filled (tableRows free used) (table-wide free used) d table-count (length free + k) below
+        (usedRow z) print-at (f .0)
+        ∙ ap blockTable (ap₂ {C = List R.BlockRow} (λ x y. x ++ (R.blockRow (f .0) (y .slot) 1 ∷ [])) rest-at used-at
+        ∙ more-used free (removeAt used k) (blockRow f (getD used k z .slot)))
 
 -- the first row, where it is free
 module _ (d : ℕ) (t : List ℕ) (s : ℕ) (free : List ℕ) (used : List (BlockRow (Fixed 32))) (h : Blocks d t (s ∷ free) used) where
@@ -159,7 +169,8 @@ module _ (d : ℕ) (t : List ℕ) (s : ℕ) (free : List ℕ) (used : List (Bloc
 
   pub first-row : rowAt t 0 ≡ freeBytes s
   unfolding blocksOf
-  first-row = ap (λ (x : List ℕ). rowAt x 0) (h .is) ∙ block-at (tableRows (s ∷ free) used) (table-wide (s ∷ free) used) d (table-length (s ∷ free) used ∙ h .count) 0 some-row (freeRow s)
+  first-row = ap (λ (x : List ℕ). rowAt x 0) (h .is)
+      ∙ block-at (tableRows (s ∷ free) used) (table-wide (s ∷ free) used) d (table-length (s ∷ free) used ∙ h .count) 0 some-row (freeRow s)
 
   pub first-flag : isUsed (rowAt t 0) ≡ false
   first-flag = ap isUsed first-row ∙ ap (λ (n : ℕ). eqb n 1) (flag-free s)
@@ -172,5 +183,6 @@ module _ (d : ℕ) (t : List ℕ) (s : ℕ) (free : List ℕ) (used : List (Bloc
   unfolding blocksOf
   first-filled f =
       ap (rowFilled d 0 (f .0)) (h .is)
-      ∙ blocks-filled (tableRows (s ∷ free) used) (table-wide (s ∷ free) used) d (table-length (s ∷ free) used ∙ h .count) 0 some-row (freeRow s) (length-zeros 32) (f .0)
+      ∙ blocks-filled (tableRows (s ∷ free) used) (table-wide (s ∷ free) used) d (table-length (s ∷ free) used ∙ h .count) 0 some-row (freeRow s)
+      (length-zeros 32) (f .0)
       ∙ ap blockTable (more-used free used (blockRow f s))

@@ -47,7 +47,8 @@ pub rows-addrs : (P m n : ℕ) (t : List ℕ) (l : List (AddressRow (Fixed 32)))
 unfolding addressesOf
 rows-addrs P m n t l h = ap (rows n) (h .is) ∙ held-rows m (map heldRow l) (held-wide l) n (length-map l heldRow ∙ h .count) ∙ map-map addressBytes heldRow l
 
-pub rows-blocks : (d : ℕ) (t : List ℕ) (free : List ℕ) (used : List (BlockRow (Fixed 32))) → Blocks d t free used → rows d t ≡ map freeBytes free ++ map usedBytes used
+pub rows-blocks : (d : ℕ) (t : List ℕ) (free : List ℕ) (used : List (BlockRow (Fixed 32))) → Blocks d t free used
+    → rows d t ≡ map freeBytes free ++ map usedBytes used
 unfolding blocksOf
 rows-blocks d t free used h =
     ap (rows d) (h .is) ∙ block-rows (tableRows free used) (table-wide free used) d (table-length free used ∙ h .count)
@@ -64,7 +65,8 @@ unfolding findFrom indexWhere
 placed-index p k [] = refl
 placed-index p k (x ∷ xs) =
     by-test (p x) (λ e. rw e (omega arith))
-    (λ e. rw e ((let z : k + suc (length xs) ≡ suc k + length xs = omega arith in ap (placed (findFrom p (suc k) xs)) z) ∙ placed-index p (suc k) xs ∙ omega arith))
+    (λ e. rw e ((let z : k + suc (length xs) ≡ suc k + length xs = omega arith in ap (placed (findFrom p (suc k) xs)) z) ∙ placed-index p (suc k) xs
+    ∙ omega arith))
 
 pub placed-first : {A : Type 0} (p : A → Bool) (l : List A) → placed (findFrom p 0 l) (length l) ≡ indexWhere p l
 placed-first p l = ap (placed (findFrom p 0 l)) (sym (zero-add (length l))) ∙ placed-index p 0 l ∙ zero-add (indexWhere p l)
@@ -110,12 +112,14 @@ pub absent-is : (f : Found) → absent f ≡ not (isAt f)
 absent-is (At i) = refl
 absent-is Nothing = refl
 
-found-has : {K A : Type 0} (same : K → K → Bool) (key : A → K) (k : K) (p : List ℕ → Bool) (f : A → List ℕ) → ((x : A) → p (f x) ≡ same k (key x)) → (j : ℕ) (l : List A) → isAt (findFrom p j (map f l)) ≡ has same key k l
+found-has : {K A : Type 0} (same : K → K → Bool) (key : A → K) (k : K) (p : List ℕ → Bool) (f : A → List ℕ) → ((x : A) → p (f x) ≡ same k (key x))
+    → (j : ℕ) (l : List A) → isAt (findFrom p j (map f l)) ≡ has same key k l
 unfolding findFrom
 found-has same key k p f e j [] = refl
 found-has same key k p f e j (x ∷ xs) = rw (e x) (by-test (same k (key x)) (λ y. rw y refl) (λ y. rw y (found-has same key k p f e (suc j) xs)))
 
-pub used-has : (g : List ℕ) (q : Fixed 32) → q .0 ≡ g → (j : ℕ) (l : List (BlockRow (Fixed 32))) → isAt (findFrom (caches g) j (map usedBytes l)) ≡ cached (engine 0) q l
+pub used-has : (g : List ℕ) (q : Fixed 32) → q .0 ≡ g → (j : ℕ) (l : List (BlockRow (Fixed 32)))
+    → isAt (findFrom (caches g) j (map usedBytes l)) ≡ cached (engine 0) q l
 used-has g q eq j l = found-has (engine 0 .same) (λ u. u .fingerprint) q (caches g) usedBytes (has-used g q eq) j l
 
 none-free : (g : List ℕ) (l : List ℕ) → All (λ x. caches g x ≡ false) (map freeBytes l)
@@ -127,34 +131,40 @@ all-any [] = tt
 all-any (x ∷ xs) = (tt, all-any xs)
 
 -- find_address, find_fingerprint, find_cached
-pub addr-index : (P m n : ℕ) (t : List ℕ) (l : List (AddressRow (Fixed 32))) → Addrs P m n t l → (a : ℕ) (f : Found) → findFrom (hasAddress a) 0 (rows n t) ≡ f → placed f n ≡ indexWhere (λ x. eqb a (x .address)) l
+pub addr-index : (P m n : ℕ) (t : List ℕ) (l : List (AddressRow (Fixed 32))) → Addrs P m n t l → (a : ℕ) (f : Found)
+    → findFrom (hasAddress a) 0 (rows n t) ≡ f → placed f n ≡ indexWhere (λ x. eqb a (x .address)) l
 addr-index P m n t l h a f e =
     ap (λ (y : Found). placed y n) (sym e ∙ ap (findFrom (hasAddress a) 0) (rows-addrs P m n t l h))
     ∙ ap (placed (findFrom (hasAddress a) 0 (map addrBytes l))) (sym (length-map l addrBytes ∙ h .count))
     ∙ placed-first (hasAddress a) (map addrBytes l)
     ∙ index-map addrBytes (hasAddress a) (λ x. eqb a (x .address)) (λ r. r .address < P) (has-addr a P (h .small)) l (h .below)
 
-pub block-index : (d : ℕ) (t : List ℕ) (free : List ℕ) (used : List (BlockRow (Fixed 32))) → Blocks d t free used → (g : List ℕ) (q : Fixed 32) → q .0 ≡ g → (f : Found) → findFrom (caches g) 0 (rows d t) ≡ f
+pub block-index : (d : ℕ) (t : List ℕ) (free : List ℕ) (used : List (BlockRow (Fixed 32))) → Blocks d t free used → (g : List ℕ) (q : Fixed 32) → q .0 ≡ g
+    → (f : Found) → findFrom (caches g) 0 (rows d t) ≡ f
     → placed f d ≡ length free + indexWhere (λ u. engine 0 .same q (u .fingerprint)) used
 block-index d t free used h g q eq f e =
     ap (λ (y : Found). placed y d) (sym e ∙ ap (findFrom (caches g) 0) (rows-blocks d t free used h))
     ∙ ap (placed (findFrom (caches g) 0 (map freeBytes free ++ map usedBytes used))) (sym (length-blocks free used ∙ h .count))
     ∙ placed-first (caches g) (map freeBytes free ++ map usedBytes used)
     ∙ index-none (caches g) (map freeBytes free) (map usedBytes used) (none-free g free)
-    ∙ ap₂ _+_ (length-map free freeBytes) (index-map usedBytes (caches g) (λ u. engine 0 .same q (u .fingerprint)) (λ r. Unit {0}) (λ r u. has-used g q eq r) used (all-any used))
+    ∙ ap₂ _+_ (length-map free freeBytes) (index-map usedBytes (caches g) (λ u. engine 0 .same q (u .fingerprint)) (λ r. Unit {0})
+    (λ r u. has-used g q eq r) used (all-any used))
 
-pub fp-known : (P m n : ℕ) (t : List ℕ) (l : List (AddressRow (Fixed 32))) → Addrs P m n t l → (g : List ℕ) (q : Fixed 32) → q .0 ≡ g → (f : Found) → findFrom (hasFingerprint g) 0 (rows n t) ≡ f → isAt f ≡ known (engine 0) q l
+pub fp-known : (P m n : ℕ) (t : List ℕ) (l : List (AddressRow (Fixed 32))) → Addrs P m n t l → (g : List ℕ) (q : Fixed 32) → q .0 ≡ g → (f : Found)
+    → findFrom (hasFingerprint g) 0 (rows n t) ≡ f → isAt f ≡ known (engine 0) q l
 fp-known P m n t l h g q eq f e =
     ap isAt (sym e ∙ ap (findFrom (hasFingerprint g) 0) (rows-addrs P m n t l h))
     ∙ found-has (engine 0 .same) (λ r. r .fingerprint) q (hasFingerprint g) addrBytes (has-fp g q eq) 0 l
 
 -- the rows xs in front do not pass
-found-past : {A : Type 0} (p : A → Bool) (xs ys : List A) (b : Bool) → All (λ x. p x ≡ false) xs → ((i : ℕ) → isAt (findFrom p i ys) ≡ b) → (j : ℕ) → isAt (findFrom p j (xs ++ ys)) ≡ b
+found-past : {A : Type 0} (p : A → Bool) (xs ys : List A) (b : Bool) → All (λ x. p x ≡ false) xs → ((i : ℕ) → isAt (findFrom p i ys) ≡ b) → (j : ℕ)
+    → isAt (findFrom p j (xs ++ ys)) ≡ b
 unfolding findFrom
 found-past p [] ys b q f j = f j
 found-past p (x ∷ xs) ys b q f j = rw (q .0) (found-past p xs ys b (q .1) f (suc j))
 
-pub fp-cached : (d : ℕ) (t : List ℕ) (free : List ℕ) (used : List (BlockRow (Fixed 32))) → Blocks d t free used → (g : List ℕ) (q : Fixed 32) → q .0 ≡ g → isAt (findFrom (caches g) 0 (rows d t)) ≡ cached (engine 0) q used
+pub fp-cached : (d : ℕ) (t : List ℕ) (free : List ℕ) (used : List (BlockRow (Fixed 32))) → Blocks d t free used → (g : List ℕ) (q : Fixed 32) → q .0 ≡ g
+    → isAt (findFrom (caches g) 0 (rows d t)) ≡ cached (engine 0) q used
 fp-cached d t free used h g q eq =
     ap (λ (l : List (List ℕ)). isAt (findFrom (caches g) 0 l)) (rows-blocks d t free used h)
     ∙ found-past (caches g) (map freeBytes free) (map usedBytes used) (cached (engine 0) q used) (none-free g free) (λ i. used-has g q eq i used) 0

@@ -1,16 +1,16 @@
 -- A call that is not refused, from what its refusal says and what its steps leave. Assumes nothing.
 use mathlib.Core.Path.{_≡_, refl, sym, ap, _∙_, subst}
-use mathlib.Core.Bool.{Bool, true, false, _&&_, _||_, cond}
+use mathlib.Core.Bool.{Bool, true, false, _&&_, cond}
 use mathlib.Core.List.{List, [], _∷_}
 use mathlib.Core.Option.{Option, none, some}
 use Prim.Native.Nat.{ℕ, suc, _≤_, _<_, _+_, _*_, _^_}
 use native.Mathlib.Omega.{arith}
-use lib.Dec.{eqb, ltb}
+use lib.Dec.{eqb}
 use lib.ListN.{length, getD}
-use borrow.Author.Tests.{ltb-false, leb-false, eqb-true, not-false}
+use borrow.Author.Tests.{leb-false, eqb-true, not-false}
 use Rattle.counters.specs.declared.Counters as Code
 use Rattle.counters.specs.Added.{added}
-use Rattle.paper.specs.KeyedLaws.{or-false-left, or-false-right}
+use Rattle.paper.specs.KeyedLaws.{or-false-right}
 use Rattle.paper.specs.Cache.{Numbers, AddressRow, Box, Call, Outcome, Word, hit, miss, sameBlock, newBlock, Counters, counted, oneIf, isRead, isHit}
 use Rattle.paper.specs.Cache.{answer, cached, serve, readAs, rowWithBlock, writeThrough, writeBack, writeInvalidate}
 use Rattle.paper.specs.Engine.{Fixed, fit, engine}
@@ -32,7 +32,6 @@ use Rattle.serve.specs.declared.Write.the-variants.{Through, Back, Invalidate}
 use Rattle.serve.specs.Calls.{Access, LentSound, Leaves, left, leaves, writing, isYes, returned}
 use Rattle.refusals.specs.Given.{countersOf, lent}
 use Rattle.policy.specs.Contract.{wordOf, Told, told, called, askOf}
-use Rattle.tables.specs.Rows.{tableBytes}
 
 -- bytes below 256, one by one
 pub all-bytes : (l : List ℕ) → ((i : ℕ) → getD l i 0 < 256) → Bytes l

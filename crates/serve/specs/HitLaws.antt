@@ -1,23 +1,23 @@
 -- The step of a hit: the row and the block row become newest, and nothing else changes. Assumes nothing.
 use mathlib.Core.Path.{_≡_, refl, sym, ap, ap₂, _∙_, subst}
-use mathlib.Core.Bool.{Bool, true, false, not, _&&_, _||_, cond}
+use mathlib.Core.Bool.{Bool, true}
 use mathlib.Core.List.{List, [], _∷_, _++_}
-use mathlib.Core.Option.{Option, none, some}
-use Prim.Native.Nat.{ℕ, suc, _+_, _-_, _<_, _≤_}
+use mathlib.Core.Option.{some}
+use Prim.Native.Nat.{ℕ, _+_, _-_, _<_}
 use native.Mathlib.Omega.{arith}
 use lib.Dec.{eqb}
-use lib.ListN.{length, getD, take, drop, length-append, length-take, length-drop}
+use lib.ListN.{length, getD, length-append, length-take, length-drop}
 use Rattle.tables.specs.Rows.{removeAt}
 use Rattle.tables.specs.Records.{addressRow, addressBytes}
 use Rattle.tables.specs.Operations.{rowOut, rowAdded, rowNewest}
 use Rattle.parts.specs.declared.BoxRecord.{BoxRecord}
 use Rattle.paper.specs.Keyed.{has}
 use Rattle.paper.specs.KeyedLaws.{All, by-test, eqb→≡}
-use Rattle.paper.specs.Cache.{AddressRow, BlockRow, BlockRows, Box, Stepped, newest, blockRow, held, known, cached, slotOf, withoutAddress}
+use Rattle.paper.specs.Cache.{AddressRow, BlockRow, Box, Stepped, newest, blockRow, held, known, cached, slotOf, withoutAddress}
 use Rattle.paper.specs.Cache.{withoutBlock, rowOf, step1, step3, step4, step}
-use Rattle.paper.specs.Sound.{Out, sound-step1}
+use Rattle.paper.specs.Sound.{sound-step1}
 use Rattle.paper.specs.Engine.{Fixed, engine}
-use Rattle.paper.specs.Lent.{bit, join}
+use Rattle.paper.specs.Lent.{bit}
 use Rattle.paper.specs.Index.{indexWhere, index-holds, has-yes, find-yes, without-yes, slotOf-yes}
 use Rattle.paper.specs.Layout.{Addrs, addressesOf, blocksOf}
 use Rattle.parts.specs.Rep.{numbersOf, Rep, noRow}

@@ -11,7 +11,8 @@ use Rattle.tables.specs.Rows.{rows}
 use Rattle.tables.specs.Records.{readAddress, readBlock, slotsFrom}
 use Rattle.tables.specs.Find.{all, any, every, findFrom, pick, absent, caches, isUsed, isDirty}
 use Rattle.tables.specs.declared.Found.the-variants.{At}
-use Rattle.tables.specs.Unsound.{elem, twice, count, nonzero, nonzeroPadding, addressesUnsound, freeAfterUsed, freeWithFingerprint, eachOnce, usedTwice, blocksUnsound, dirtyUncached}
+use Rattle.tables.specs.Unsound.{elem, twice, count, nonzero, nonzeroPadding, addressesUnsound, freeAfterUsed, freeWithFingerprint, eachOnce}
+use Rattle.tables.specs.Unsound.{usedTwice, blocksUnsound, dirtyUncached}
 use Rattle.tables.specs.Sound.{distinct, tailOk, addressOk, isZero, zeroRow, soundAddresses, addressesFit, blocksFit, rowAddress, rowSlot}
 use Rattle.tables.specs.Index.{unique, rowOk, dirtyOk}
 use Rattle.tables.specs.RowLaws.{rows-length, drop-rows}
@@ -45,10 +46,18 @@ module _ {A : Type 0} where
 -- ---- numbers
 
 above : (a b : ℕ) → ltb a b ≡ not (leb b a)
-above a b = elim (leb b a) as (λ x. leb b a ≡ x → ltb a b ≡ not x) [ true ↦ (λ e. le-ltb a b (leb-true b a e)) | false ↦ (λ e. lt-ltb a b (leb-false b a e)) ] refl
+above a b = elim (leb b a) as (λ x. leb b a ≡ x → ltb a b ≡ not x) [
+  | true ↦ (λ e. le-ltb a b (leb-true b a e))
+  | false ↦
+      (λ e. lt-ltb a b (leb-false b a e))
+] refl
 
 below : (a b : ℕ) → leb a b ≡ not (ltb b a)
-below a b = elim (ltb b a) as (λ x. ltb b a ≡ x → leb a b ≡ not x) [ true ↦ (λ e. lt-leb a b (ltb-true b a e)) | false ↦ (λ e. le-leb a b (ltb-false b a e)) ] refl
+below a b = elim (ltb b a) as (λ x. ltb b a ≡ x → leb a b ≡ not x) [
+  | true ↦ (λ e. lt-leb a b (ltb-true b a e))
+  | false ↦
+      (λ e. le-leb a b (ltb-false b a e))
+] refl
 
 twice-distinct : (xs : List ℕ) → twice xs ≡ not (distinct xs)
 unfolding twice distinct
@@ -97,7 +106,8 @@ addresses-checked P m n t =
     let r = any-all nonzero isZero (λ x. refl) (drop (n * 40) t) in
     let each : all (addressOk P) rs ≡ all (λ r. ltb (rowAddress r) P) rs && (all (λ r. leb (getD r 36 0) 1) rs && all padOk rs) =
     all-and (λ r. ltb (rowAddress r) P) tailOk rs ∙ ap (λ b. all (λ r. ltb (rowAddress r) P) rs && b) (all-and (λ r. leb (getD r 36 0) 1) padOk rs) in
-    rw (above m n, a, w, f, z, r, each) (six-tests (leb n m) (all (λ r. ltb (rowAddress r) P) rs) (distinct (map rowAddress rs)) (all (λ r. leb (getD r 36 0) 1) rs) (all padOk rs) (all isZero (drop (n * 40) t)))
+    rw (above m n, a, w, f, z, r, each) (six-tests (leb n m) (all (λ r. ltb (rowAddress r) P) rs) (distinct (map rowAddress rs))
+    (all (λ r. leb (getD r 36 0) 1) rs) (all padOk rs) (all isZero (drop (n * 40) t)))
 
 -- the bytes from row n on are zero where the rows are
 all-both : {A : Type 0} (p : A → Bool) (xs ys : List A) → all p (xs ++ ys) ≡ all p xs && all p ys
@@ -138,13 +148,15 @@ ordered (r ∷ rs) =
 absent-any : {A : Type 0} (p : A → Bool) (k : ℕ) (xs : List A) → absent (findFrom p k xs) ≡ not (any p xs)
 unfolding findFrom any
 absent-any p k [] = refl
-absent-any p k (x ∷ xs) = elim (p x) as (λ b. absent (pick b (At k) (findFrom p (suc k) xs)) ≡ not (b || any p xs)) [ true ↦ refl | false ↦ absent-any p (suc k) xs ]
+absent-any p k (x ∷ xs) = elim (p x) as (λ b. absent (pick b (At k) (findFrom p (suc k) xs))
+    ≡ not (b || any p xs)) [ true ↦ refl | false ↦ absent-any p (suc k) xs ]
 
 once : (rs : List (List ℕ)) → usedTwice rs ≡ not (every unique rs)
 unfolding usedTwice every
 once [] = refl
 once (r ∷ rs) =
-    ap₂ {C = Bool} _||_ (one (isUsed r) (any (caches (readBlock r .fingerprint)) rs) (absent (findFrom (caches (readBlock r .fingerprint)) 0 rs)) (absent-any (caches (readBlock r .fingerprint)) 0 rs)) (once rs)
+    ap₂ {C = Bool} _||_ (one (isUsed r) (any (caches (readBlock r .fingerprint)) rs) (absent (findFrom (caches (readBlock r .fingerprint)) 0 rs))
+    (absent-any (caches (readBlock r .fingerprint)) 0 rs)) (once rs)
     ∙ not-or (unique r rs) (every unique rs)
   where
     one : (u a b : Bool) → b ≡ not a → u && a ≡ not (cond u b true)
@@ -153,14 +165,19 @@ once (r ∷ rs) =
     one false a b e = refl
 
 zeroed : (r : List ℕ) → freeWithFingerprint r ≡ not (cond (isUsed r) true (all isZero (readBlock r .fingerprint)))
-zeroed r = ap (λ b. not (isUsed r) && b) (any-all nonzero isZero (λ x. refl) (readBlock r .fingerprint)) ∙ one (isUsed r) (all isZero (readBlock r .fingerprint))
+zeroed r = ap (λ b. not (isUsed r) && b) (any-all nonzero isZero (λ x. refl) (readBlock r .fingerprint))
+    ∙ one (isUsed r) (all isZero (readBlock r .fingerprint))
   where
     one : (u b : Bool) → not u && not b ≡ not (cond u true b)
     one true b = refl
     one false b = refl
 
 near : (a b : ℕ) → a ≤ b → (a ≡ b → ⊥) → a < b
-near a b g q = elim (ltb a b) as (λ x. ltb a b ≡ x → a < b) [ true ↦ (λ f. ltb-true a b f) | false ↦ (λ f. let h = ltb-false a b f in let e : a ≡ b = omega arith in absurd (q e)) ] refl
+near a b g q = elim (ltb a b) as (λ x. ltb a b ≡ x → a < b) [
+  | true ↦ (λ f. ltb-true a b f)
+  | false ↦
+      (λ f. let h = ltb-false a b f in let e : a ≡ b = omega arith in absurd (q e))
+] refl
 
 -- ---- "slots each of 0 to d − 1 once": as many as d, all below d, no two the same
 
@@ -230,7 +247,11 @@ all-fewer d (x ∷ xs) e =
 counted : (x : ℕ) (xs : List ℕ) → elem x xs ≡ true → 1 ≤ count x xs
 unfolding elem count
 counted x [] e = let z : _≡_ {A = ℕ} 0 1 = cc in absurd (omega arith)
-counted x (y ∷ ys) e = elim (eqb x y) as (λ b. b || elem x ys ≡ true → 1 ≤ cond b 1 0 + count x ys) [ true ↦ (λ f. omega arith) | false ↦ (λ f. let i = counted x ys f in omega arith) ] e
+counted x (y ∷ ys) e = elim (eqb x y) as (λ b. b || elem x ys ≡ true → 1 ≤ cond b 1 0 + count x ys) [
+  | true ↦ (λ f. omega arith)
+  | false ↦
+      (λ f. let i = counted x ys f in omega arith)
+] e
 
 uncounted : (x : ℕ) (xs : List ℕ) → elem x xs ≡ false → count x xs ≡ 0
 unfolding elem count
@@ -254,7 +275,8 @@ count-distinct d [] f a = refl
 count-distinct d (x ∷ xs) f a =
     let h = ltb-true x d (and-left (ltb x d) (all (λ x. ltb x d) xs) a) in
     let c : cond (eqb x x) 1 0 + count x xs ≤ 1 = f x h in
-    let e : elem x xs ≡ false = not-true-false (elem x xs) (λ y. let q = counted x xs y in let c1 : 1 + count x xs ≤ 1 = rw (eq-eqb x x refl) at c in omega arith) in
+    let e : elem x xs ≡ false = not-true-false (elem x xs)
+    (λ y. let q = counted x xs y in let c1 : 1 + count x xs ≤ 1 = rw (eq-eqb x x refl) at c in omega arith) in
     rw (e, count-distinct d xs (λ k g. less k (f k g)) (and-right (ltb x d) (all (λ x. ltb x d) xs) a))
   where
     less : (k : ℕ) → cond (eqb k x) 1 0 + count k xs ≤ 1 → count k xs ≤ 1
@@ -289,7 +311,8 @@ all-slots p a zero e k g h = absurd (omega arith)
 all-slots p a (suc d) e k g h =
     elim (eqb k a) as (λ b. eqb k a ≡ b → p k ≡ true) [
       | true ↦ (λ q. ap p (eqb-true k a q) ∙ and-left (p a) (all p (slotsFrom (suc a) d)) e)
-      | false ↦ (λ q. let n = eqb-false k a q in all-slots p (suc a) d (and-right (p a) (all p (slotsFrom (suc a) d)) e) k (near a k g (λ y. n (sym y))) (omega arith))
+      | false ↦ (λ q. let n = eqb-false k a q in all-slots p (suc a) d (and-right (p a) (all p (slotsFrom (suc a) d)) e) k (near a k g (λ y. n (sym y)))
+          (omega arith))
     ] refl
 
 slots-all : (p : ℕ → Bool) (a d : ℕ) → ((k : ℕ) → k < a + d → p k ≡ true) → all p (slotsFrom a d) ≡ true
@@ -301,7 +324,8 @@ pub each-once : (d : ℕ) (xs : List ℕ) → length xs ≡ d → eachOnce d xs 
 unfolding eachOnce
 each-once d xs l =
     same-bool (all (λ k. eqb (count k xs) 1) (slotsFrom 0 d)) (all (λ x. ltb x d) xs && distinct xs)
-    (λ e. let ones : (k : ℕ) → k < d → count k xs ≡ 1 = λ k h. eqb-true (count k xs) 1 (all-slots (λ k. eqb (count k xs) 1) 0 d e k (omega arith) (omega arith)) in
+    (λ e. let ones : (k : ℕ) → k < d → count k xs ≡ 1 = λ k h. eqb-true (count k xs) 1
+    (all-slots (λ k. eqb (count k xs) 1) 0 d e k (omega arith) (omega arith)) in
     let a : all (λ x. ltb x d) xs ≡ true = fewer-all d xs (sym (total-fewer d xs) ∙ ones-total d xs ones ∙ sym l) in
     rw (a, count-distinct d xs (λ k h. omega (arith, ones k h)) a))
     (λ e. let a = and-left (all (λ x. ltb x d) xs) (distinct xs) e in
@@ -335,7 +359,8 @@ all-map g p [] = refl
 all-map g p (x ∷ xs) = ap (λ b. p (g x) && b) (all-map g p xs)
 
 -- a block table passes in three tests: each row by itself, slots that differ, fingerprints used once
-pub blocks-checked : (d : ℕ) (t : List ℕ) → blocksUnsound d t ≡ not (every (rowOk d) (rows d t) && (distinct (map rowSlot (rows d t)) && every unique (rows d t)))
+pub blocks-checked : (d : ℕ) (t : List ℕ) → blocksUnsound d t ≡ not (every (rowOk d) (rows d t) &&
+    (distinct (map rowSlot (rows d t)) && every unique (rows d t)))
 unfolding blocksUnsound readBlock tailOk
 blocks-checked d t =
     let rs = rows d t in
@@ -349,11 +374,14 @@ blocks-checked d t =
     let s : all (λ x. ltb x d) (map rowSlot rs) ≡ all low rs = all-map rowSlot (λ x. ltb x d) rs in
     let o = each-once d (map (λ r. readBlock r .slot) rs) (length-map rs (λ r. readBlock r .slot) ∙ rows-length d t) in
     let each : every (rowOk d) rs ≡ all low rs && ((all flag rs && all padOk rs) && (every first rs && all bare rs)) =
-    every-same (rowOk d) (λ r l. low r && (tailOk r && (first r l && bare r))) (λ r l. ap (λ b. low r && (tailOk r && b)) (split (isUsed r) (all isUsed l) (all isZero (readBlock r .fingerprint)))) rs
+    every-same (rowOk d) (λ r l. low r && (tailOk r && (first r l && bare r)))
+    (λ r l. ap (λ b. low r && (tailOk r && b)) (split (isUsed r) (all isUsed l) (all isZero (readBlock r .fingerprint)))) rs
     ∙ every-and (λ r l. low r) (λ r l. tailOk r && (first r l && bare r)) rs
     ∙ ap₂ {C = Bool} _&&_ (every-all low rs) (every-and (λ r l. tailOk r) (λ r l. first r l && bare r) rs
-    ∙ ap₂ {C = Bool} _&&_ (every-all tailOk rs ∙ all-and flag padOk rs) (every-and first (λ r l. bare r) rs ∙ ap (λ b. every first rs && b) (every-all bare rs))) in
-    rw (ordered rs, f, z, w, o, once rs, s, each) (seven-tests (every first rs) (all flag rs) (all padOk rs) (all bare rs) (all low rs) (distinct (map rowSlot rs)) (every unique rs))
+    ∙ ap₂ {C = Bool} _&&_ (every-all tailOk rs ∙ all-and flag padOk rs)
+    (every-and first (λ r l. bare r) rs ∙ ap (λ b. every first rs && b) (every-all bare rs))) in
+    rw (ordered rs, f, z, w, o, once rs, s, each) (seven-tests (every first rs) (all flag rs) (all padOk rs) (all bare rs) (all low rs)
+    (distinct (map rowSlot rs)) (every unique rs))
   where
     split : (u a b : Bool) → cond u a b ≡ cond u a true && cond u true b
     split true true b = refl
@@ -366,7 +394,8 @@ pub dirty-checked : (n d : ℕ) (a b : List ℕ) → dirtyUncached n d a b ≡ n
 unfolding dirtyUncached readAddress
 dirty-checked n d a b =
     any-all (λ r. eqb (readAddress r .dirty) 1 && not (any (caches (readAddress r .fingerprint)) (rows d b))) (dirtyOk (rows d b))
-    (λ r. one (isDirty r) (any (caches (readAddress r .fingerprint)) (rows d b)) (absent (findFrom (caches (readAddress r .fingerprint)) 0 (rows d b))) (absent-any (caches (readAddress r .fingerprint)) 0 (rows d b))) (rows n a)
+    (λ r. one (isDirty r) (any (caches (readAddress r .fingerprint)) (rows d b)) (absent (findFrom (caches (readAddress r .fingerprint)) 0 (rows d b)))
+    (absent-any (caches (readAddress r .fingerprint)) 0 (rows d b))) (rows n a)
   where
     one : (u a b : Bool) → b ≡ not a → u && not a ≡ not (cond u (not b) true)
     one true true b e = rw e

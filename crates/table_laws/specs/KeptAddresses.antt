@@ -19,7 +19,8 @@ use Rattle.tables.specs.RowLaws.{rows-length, rows-at, length-part}
 use Rattle.tables.specs.SoundLaws.{and-left, and-right, or-left, or-right, all-at, values-at, values-length}
 use Rattle.tables.specs.FindLaws.{found-at}
 use Rattle.tables.specs.OperationLaws.{off, le4-bytes4, rows-removed, rest-removed, rows-pushed, rest-pushed, map-removeAt, map-++, rows-set, rest-clean}
-use Rattle.table_laws.specs.KeptLists.{both, neither, eqb-sym, all-append, all-removeAt, all-drop, all-set, zeros-zero, elem-removeAt, elem-out, distinct-removeAt, distinct-snoc}
+use Rattle.table_laws.specs.KeptLists.{both, neither, eqb-sym, all-append, all-removeAt, all-drop, all-set, zeros-zero, elem-removeAt, elem-out}
+use Rattle.table_laws.specs.KeptLists.{distinct-removeAt, distinct-snoc}
 use Rattle.tables.specs.Operations.{rowOut, rowAdded, rowCleaned}
 
 -- the four parts of an address table's soundness
@@ -70,7 +71,8 @@ not-found a k (r ∷ rs) e =
     neither (eqb a (rowAddress r)) (elem a (map rowAddress rs)) (eqb-sym (rowAddress r) a (m .0)) (not-found a (suc k) rs (m .1))
 
 -- push_row with a sound row
-pub addrs-pushed : (P m n : ℕ) (t r : List ℕ) → n < m → length t ≡ m * 40 → length r ≡ 40 → addressOk P r ≡ true → findFrom (hasAddress (rowAddress r)) 0 (rows n t) ≡ Nothing
+pub addrs-pushed : (P m n : ℕ) (t r : List ℕ) → n < m → length t ≡ m * 40 → length r ≡ 40 → addressOk P r ≡ true
+    → findFrom (hasAddress (rowAddress r)) 0 (rows n t) ≡ Nothing
     → Addrs P m n t → Addrs P m (n + 1) (rowAdded n r t)
 unfolding all rowAdded
 addrs-pushed P m n t r h l lr ok f s =
@@ -79,7 +81,8 @@ addrs-pushed P m n t r h l lr ok f s =
     record {
       few = omega arith;
       each = rw (rows-pushed n t r x g lr) (all-append (addressOk P) (rows n t) (r ∷ []) (s .each) (both (addressOk P r) true ok refl));
-      apart = rw (rows-pushed n t r x g lr, map-++ rowAddress (rows n t) (r ∷ [])) (distinct-snoc (map rowAddress (rows n t)) (rowAddress r) (s .apart) (not-found (rowAddress r) 0 (rows n t) f));
+      apart = rw (rows-pushed n t r x g lr, map-++ rowAddress (rows n t) (r ∷ []))
+          (distinct-snoc (map rowAddress (rows n t)) (rowAddress r) (s .apart) (not-found (rowAddress r) 0 (rows n t) f));
       rest = rw (rest-pushed n t r x g lr, ← drop-drop 40 (n * 40) t) (all-drop isZero 40 (drop (n * 40) t) (s .rest));
     }
 
@@ -91,15 +94,24 @@ addrs-clean P m n t k h l s =
     let r : List ℕ = rowAt t k in
     let lr : length r ≡ 40 = length-part t (k * 40) 40 (omega arith) in
     let far : (j : ℕ) → (j ≡ 36 → ⊥) → getD (set r 36 0) j 0 ≡ getD r j 0 = λ j q. getD-set-other r 36 j 0 0 q in
-    let w : rowAddress (set r 36 0) ≡ rowAddress r = rw (far 0 (λ e. omega arith), far 1 (λ e. omega arith), far 2 (λ e. omega arith), far 3 (λ e. omega arith)) in
+    let w : rowAddress (set r 36 0) ≡ rowAddress r = rw (
+      far 0 (λ e. omega arith),
+      far 1 (λ e. omega arith),
+      far 2 (λ e. omega arith),
+      far 3
+          (λ e. omega arith),
+    ) in
     let o : addressOk P r ≡ true = ap (addressOk P) (sym (rows-at n t k h)) ∙ all-at (addressOk P) (rows n t) k [] (s .each) (rw rows-length h) in
     let z : getD (set r 36 0) 36 0 ≡ 0 = getD-set-same r 36 0 0 (omega arith) in
     let pad : Bool = eqb (getD r 37 0) 0 && (eqb (getD r 38 0) 0 && eqb (getD r 39 0) 0) in
-    let tl : tailOk (set r 36 0) ≡ true = rw (z, far 37 (λ e. omega arith), far 38 (λ e. omega arith), far 39 (λ e. omega arith)) (and-right (leb (getD r 36 0) 1) pad (and-right (ltb (rowAddress r) P) (tailOk r) o)) in
+    let tl : tailOk (set r 36 0) ≡ true = rw (z, far 37 (λ e. omega arith), far 38 (λ e. omega arith), far 39 (λ e. omega arith))
+    (and-right (leb (getD r 36 0) 1) pad (and-right (ltb (rowAddress r) P) (tailOk r) o)) in
     record {
       few = s .few;
-      each = rw (rows-set n t k 36 0 (omega arith)) (all-set (addressOk P) (rows n t) k (set r 36 0) (s .each) (both (ltb (rowAddress (set r 36 0)) P) (tailOk (set r 36 0)) (ap (λ (x : ℕ). ltb x P) w ∙ and-left (ltb (rowAddress r) P) (tailOk r) o) tl));
-      apart = rw (rows-set n t k 36 0 (omega arith), map-set-same rowAddress (rows n t) k (set r 36 0) [] (w ∙ ap rowAddress (sym (rows-at n t k h)))) (s .apart);
+      each = rw (rows-set n t k 36 0 (omega arith)) (all-set (addressOk P) (rows n t) k (set r 36 0) (s .each)
+          (both (ltb (rowAddress (set r 36 0)) P) (tailOk (set r 36 0)) (ap (λ (x : ℕ). ltb x P) w ∙ and-left (ltb (rowAddress r) P) (tailOk r) o) tl));
+      apart = rw (rows-set n t k 36 0 (omega arith), map-set-same rowAddress (rows n t) k (set r 36 0) [] (w ∙ ap rowAddress (sym (rows-at n t k h))))
+          (s .apart);
       rest = rw (rest-clean n t k h g) (s .rest);
     }
 
@@ -115,21 +127,25 @@ unseen : (a k : ℕ) (rs : List (List ℕ)) → elem a (map rowAddress rs) ≡ f
 unfolding findFrom elem
 unseen a k [] e = refl
 unseen a k (r ∷ rs) e =
-    rw (eqb-sym a (rowAddress r) (or-left (eqb a (rowAddress r)) (elem a (map rowAddress rs)) e)) (unseen a (suc k) rs (or-right (eqb a (rowAddress r)) (elem a (map rowAddress rs)) e))
+    rw (eqb-sym a (rowAddress r) (or-left (eqb a (rowAddress r)) (elem a (map rowAddress rs)) e))
+    (unseen a (suc k) rs (or-right (eqb a (rowAddress r)) (elem a (map rowAddress rs)) e))
 
 -- no other row has a held address; and where none has it, none has it when a row is taken out
-pub found-out : (n : ℕ) (t : List ℕ) (a i : ℕ) → distinct (map rowAddress (rows n t)) ≡ true → findFrom (hasAddress a) 0 (rows n t) ≡ At i → findFrom (hasAddress a) 0 (removeAt (rows n t) i) ≡ Nothing
+pub found-out : (n : ℕ) (t : List ℕ) (a i : ℕ) → distinct (map rowAddress (rows n t)) ≡ true → findFrom (hasAddress a) 0 (rows n t) ≡ At i
+    → findFrom (hasAddress a) 0 (removeAt (rows n t) i) ≡ Nothing
 found-out n t a i d e =
     let r = found-at (hasAddress a) (rows n t) [] i e in
     let h : i < n = omega (arith, r .below, rows-length n t) in
-    let q : getD (map rowAddress (rows n t)) i 0 ≡ a = values-at rowAddress n t i h ∙ ap rowAddress (sym (rows-at n t i h)) ∙ eqb-true (rowAddress (getD (rows n t) i [])) a (r .holds) in
+    let q : getD (map rowAddress (rows n t)) i 0 ≡ a = values-at rowAddress n t i h ∙ ap rowAddress (sym (rows-at n t i h))
+    ∙ eqb-true (rowAddress (getD (rows n t) i [])) a (r .holds) in
     unseen a 0 (removeAt (rows n t) i)
     (ap (elem a) (map-removeAt rowAddress (rows n t) i)
     ∙ ap (λ (x : ℕ). elem x (removeAt (map rowAddress (rows n t)) i)) (sym q)
     ∙ elem-out (map rowAddress (rows n t)) i d (rw values-length h))
 
 pub nothing-out : (n : ℕ) (t : List ℕ) (a i : ℕ) → findFrom (hasAddress a) 0 (rows n t) ≡ Nothing → findFrom (hasAddress a) 0 (removeAt (rows n t) i) ≡ Nothing
-nothing-out n t a i e = unseen a 0 (removeAt (rows n t) i) (ap (elem a) (map-removeAt rowAddress (rows n t) i) ∙ elem-removeAt a (map rowAddress (rows n t)) i (not-found a 0 (rows n t) e))
+nothing-out n t a i e = unseen a 0 (removeAt (rows n t) i)
+    (ap (elem a) (map-removeAt rowAddress (rows n t) i) ∙ elem-removeAt a (map rowAddress (rows n t)) i (not-found a 0 (rows n t) e))
 
 -- the row that push_address writes
 pub addressOk-of : (P a : ℕ) (g : List ℕ) (x : ℕ) → a < P → P ≤ 2 ^ 32 → x ≤ 1 → length g ≡ 32 → addressOk P (addressBytes (addressRow a g x)) ≡ true

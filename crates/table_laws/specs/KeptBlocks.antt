@@ -18,8 +18,10 @@ use Rattle.tables.specs.RowLaws.{rows-length, rows-at, length-part}
 use Rattle.tables.specs.SoundLaws.{and-left, and-right, not-true-false, same-true, all-at, every-at, values-at, values-length}
 use Rattle.tables.specs.ShiftLaws.{length-zeros, length-freed, length-filled}
 use Rattle.tables.specs.FindLaws.{same-refl}
-use Rattle.tables.specs.OperationLaws.{map-removeAt, map-++, rows-whole, Wide, wide-rows, wide-append, wide-removeAt, length-removeAt, slot-parts, tail-parts, flag-parts, le4-bytes4, free-length}
-use Rattle.table_laws.specs.KeptLists.{both, all-append, all-removeAt, all-mono, zeros-zero, absent-all, every-removeAt, every-snoc, distinct-last, distinct-first, slots-distinct}
+use Rattle.tables.specs.OperationLaws.{map-removeAt, map-++, rows-whole, Wide, wide-rows, wide-append, wide-removeAt, length-removeAt, slot-parts}
+use Rattle.tables.specs.OperationLaws.{tail-parts, flag-parts, le4-bytes4, free-length}
+use Rattle.table_laws.specs.KeptLists.{both, all-append, all-removeAt, all-mono, zeros-zero, absent-all, every-removeAt, every-snoc}
+use Rattle.table_laws.specs.KeptLists.{distinct-last, distinct-first, slots-distinct}
 use Rattle.tables.specs.Operations.{rowNewest, rowFreed, rowFilled, freed, filled}
 
 -- a block row's test looks at the rows behind it only where the row is used
@@ -29,7 +31,8 @@ swap-used true true false z u v h e = e
 swap-used true false c z u v h e = e
 swap-used false b c z u v h e = e
 
-blockOk-swap : (d : ℕ) (r : List ℕ) (rs ss : List (List ℕ)) → (isUsed r ≡ true → usedOk r rs ≡ true → usedOk r ss ≡ true) → blockOk d r rs ≡ true → blockOk d r ss ≡ true
+blockOk-swap : (d : ℕ) (r : List ℕ) (rs ss : List (List ℕ)) → (isUsed r ≡ true → usedOk r rs ≡ true → usedOk r ss ≡ true) → blockOk d r rs ≡ true
+    → blockOk d r ss ≡ true
 blockOk-swap d r rs ss h e = swap-used (ltb (rowSlot r) d) (tailOk r) (isUsed r) (all isZero (readBlock r .fingerprint)) (usedOk r rs) (usedOk r ss) h e
 
 blockOk-removeAt : (d : ℕ) (r : List ℕ) (rs : List (List ℕ)) (j : ℕ) → blockOk d r rs ≡ true → blockOk d r (removeAt rs j) ≡ true
@@ -45,7 +48,8 @@ blockOk-removeAt d r rs j e =
 abbrev pub clear-of : List ℕ → List ℕ → Bool
 clear-of x r = not (isUsed r) || not (caches (readBlock r .fingerprint) x)
 
-blockOk-snoc : (d : ℕ) (x : List ℕ) → isUsed x ≡ true → (r : List ℕ) (rs : List (List ℕ)) → clear-of x r ≡ true → blockOk d r rs ≡ true → blockOk d r (rs ++ (x ∷ [])) ≡ true
+blockOk-snoc : (d : ℕ) (x : List ℕ) → isUsed x ≡ true → (r : List ℕ) (rs : List (List ℕ)) → clear-of x r ≡ true → blockOk d r rs ≡ true
+    → blockOk d r (rs ++ (x ∷ [])) ≡ true
 unfolding all
 blockOk-snoc d x ux r rs c e =
     blockOk-swap d r rs (rs ++ (x ∷ []))
@@ -53,7 +57,8 @@ blockOk-snoc d x ux r rs c e =
     let cl : not (p x) ≡ true = ap (λ b. not b || not (p x)) (sym ur) ∙ c in
     both (all isUsed (rs ++ (x ∷ []))) (absent (findFrom p 0 (rs ++ (x ∷ []))))
     (all-append isUsed rs (x ∷ []) (and-left (all isUsed rs) (absent (findFrom p 0 rs)) u) (both (isUsed x) true ux refl))
-    (absent-all p 0 (rs ++ (x ∷ [])) ∙ all-append (λ s. not (p s)) rs (x ∷ []) (sym (absent-all p 0 rs) ∙ and-right (all isUsed rs) (absent (findFrom p 0 rs)) u) (both (not (p x)) true cl refl)))
+    (absent-all p 0 (rs ++ (x ∷ [])) ∙ all-append (λ s. not (p s)) rs (x ∷ []) (sym (absent-all p 0 rs)
+    ∙ and-right (all isUsed rs) (absent (findFrom p 0 rs)) u) (both (not (p x)) true cl refl)))
     e
 
 -- row i out, x in at the end: to_newest and put_block; x in front: to_front
@@ -89,31 +94,39 @@ cleared-if false n h = refl
 turned : (x s : List ℕ) → not (caches (readBlock x .fingerprint) s) ≡ true → clear-of x s ≡ true
 turned x s e =
     cleared-if (isUsed s) (not (caches (readBlock s .fingerprint) x))
-    (λ u. ap not (ap (λ b. isUsed x && b) (same-sym (readBlock s .fingerprint) (readBlock x .fingerprint) (not-both (isUsed s) (same (readBlock s .fingerprint) (readBlock x .fingerprint)) e u)) ∙ and-false (isUsed x)))
+    (λ u. ap not (ap (λ b. isUsed x && b) (same-sym (readBlock s .fingerprint) (readBlock x .fingerprint)
+    (not-both (isUsed s) (same (readBlock s .fingerprint) (readBlock x .fingerprint)) e u)) ∙ and-false (isUsed x)))
 
 used-part : (d : ℕ) (r : List ℕ) (rs : List (List ℕ)) → blockOk d r rs ≡ true → isUsed r ≡ true → usedOk r rs ≡ true
 used-part d r rs e u =
     ap (λ b. cond b (usedOk r rs) (all isZero (readBlock r .fingerprint))) (sym u)
-    ∙ and-right (tailOk r) (cond (isUsed r) (usedOk r rs) (all isZero (readBlock r .fingerprint))) (and-right (ltb (rowSlot r) d) (tailOk r && cond (isUsed r) (usedOk r rs) (all isZero (readBlock r .fingerprint))) e)
+    ∙ and-right (tailOk r) (cond (isUsed r) (usedOk r rs) (all isZero (readBlock r .fingerprint)))
+    (and-right (ltb (rowSlot r) d) (tailOk r && cond (isUsed r) (usedOk r rs) (all isZero (readBlock r .fingerprint))) e)
 
 none-caches : (r : List ℕ) (rs : List (List ℕ)) → usedOk r rs ≡ true → all (λ s. not (caches (readBlock r .fingerprint) s)) rs ≡ true
-none-caches r rs u = sym (absent-all (caches (readBlock r .fingerprint)) 0 rs) ∙ and-right (all isUsed rs) (absent (findFrom (caches (readBlock r .fingerprint)) 0 rs)) u
+none-caches r rs u = sym (absent-all (caches (readBlock r .fingerprint)) 0 rs)
+    ∙ and-right (all isUsed rs) (absent (findFrom (caches (readBlock r .fingerprint)) 0 rs)) u
 
 -- the other rows are clear of a used row
-pub clear-out : (d : ℕ) (rs : List (List ℕ)) (i : ℕ) → every (blockOk d) rs ≡ true → i < length rs → isUsed (getD rs i []) ≡ true → all (clear-of (getD rs i [])) (removeAt rs i) ≡ true
+pub clear-out : (d : ℕ) (rs : List (List ℕ)) (i : ℕ) → every (blockOk d) rs ≡ true → i < length rs → isUsed (getD rs i []) ≡ true
+    → all (clear-of (getD rs i [])) (removeAt rs i) ≡ true
 unfolding every all
 clear-out d [] i e h u = absurd (not-suc-le-zero h)
-clear-out d (r ∷ rs) zero e h u = all-mono (λ s. not (caches (readBlock r .fingerprint) s)) (clear-of r) (turned r) rs (none-caches r rs (used-part d r rs (and-left (blockOk d r rs) (every (blockOk d) rs) e) u))
+clear-out d (r ∷ rs) zero e h u = all-mono (λ s. not (caches (readBlock r .fingerprint) s)) (clear-of r) (turned r) rs
+    (none-caches r rs (used-part d r rs (and-left (blockOk d r rs) (every (blockOk d) rs) e) u))
 clear-out d (r ∷ rs) (suc i) e h u =
     both (clear-of (getD rs i []) r) (all (clear-of (getD rs i [])) (removeAt rs i))
     (cleared-if (isUsed r) (not (caches (readBlock r .fingerprint) (getD rs i [])))
-    (λ ur. all-at (λ s. not (caches (readBlock r .fingerprint) s)) rs i [] (none-caches r rs (used-part d r rs (and-left (blockOk d r rs) (every (blockOk d) rs) e) ur)) (le-of-suc-le-suc h)))
+    (λ ur. all-at (λ s. not (caches (readBlock r .fingerprint) s)) rs i []
+    (none-caches r rs (used-part d r rs (and-left (blockOk d r rs) (every (blockOk d) rs) e) ur)) (le-of-suc-le-suc h)))
     (clear-out d rs i (and-right (blockOk d r rs) (every (blockOk d) rs) e) (le-of-suc-le-suc h) u)
 
 -- rows that do not cache x's fingerprint are clear of x
-pub clear-new : (x : List ℕ) (rs : List (List ℕ)) (i : ℕ) → findFrom (caches (readBlock x .fingerprint)) 0 rs ≡ Nothing → all (clear-of x) (removeAt rs i) ≡ true
+pub clear-new : (x : List ℕ) (rs : List (List ℕ)) (i : ℕ) → findFrom (caches (readBlock x .fingerprint)) 0 rs ≡ Nothing
+    → all (clear-of x) (removeAt rs i) ≡ true
 clear-new x rs i e =
-    all-removeAt (clear-of x) rs i (all-mono (λ s. not (caches (readBlock x .fingerprint) s)) (clear-of x) (turned x) rs (sym (absent-all (caches (readBlock x .fingerprint)) 0 rs) ∙ ap absent e))
+    all-removeAt (clear-of x) rs i (all-mono (λ s. not (caches (readBlock x .fingerprint) s)) (clear-of x) (turned x) rs
+    (sym (absent-all (caches (readBlock x .fingerprint)) 0 rs) ∙ ap absent e))
 
 pub zeros-four : zeros 4 ≡ 0 ∷ 0 ∷ 0 ∷ 0 ∷ []
 unfolding zeros
@@ -131,7 +144,10 @@ pub record Blocks (d : ℕ) (t : List ℕ) : Type 0 where
 pub blocks-parts : (d : ℕ) (t : List ℕ) → soundBlocks d t ≡ true → Blocks d t
 unfolding soundBlocks
 blocks-parts d t s =
-    record { each = and-left (every (blockOk d) (rows d t)) (distinct (map rowSlot (rows d t))) s; apart = and-right (every (blockOk d) (rows d t)) (distinct (map rowSlot (rows d t))) s }
+    record {
+      each = and-left (every (blockOk d) (rows d t)) (distinct (map rowSlot (rows d t))) s;
+      apart = and-right (every (blockOk d) (rows d t)) (distinct (map rowSlot (rows d t))) s;
+    }
 
 pub parts-blocks : (d : ℕ) (t : List ℕ) → Blocks d t → soundBlocks d t ≡ true
 unfolding soundBlocks
@@ -151,23 +167,29 @@ module _ (d : ℕ) (t : List ℕ) (i : ℕ) (h : i < d) (l : length t ≡ d * 40
   slots-at = values-at rowSlot d t i h
 
   row-ok : blockOk d (rowAt t i) (drop (suc i) (rows d t)) ≡ true
-  row-ok = ap (λ (r : List ℕ). blockOk d r (drop (suc i) (rows d t))) (sym (rows-at d t i h)) ∙ every-at (blockOk d) (rows d t) i [] (s .each) (rw rows-length h)
+  row-ok = ap (λ (r : List ℕ). blockOk d r (drop (suc i) (rows d t))) (sym (rows-at d t i h))
+      ∙ every-at (blockOk d) (rows d t) i [] (s .each) (rw rows-length h)
 
   -- row i out, and at the end a used row x with its slot, of which the others are clear
-  pub blocks-kept-last : (x : List ℕ) → length x ≡ 40 → isUsed x ≡ true → blockOk d x [] ≡ true → rowSlot x ≡ rowSlot (rowAt t i) → all (clear-of x) (removeAt (rows d t) i) ≡ true
+  pub blocks-kept-last : (x : List ℕ) → length x ≡ 40 → isUsed x ≡ true → blockOk d x [] ≡ true → rowSlot x ≡ rowSlot (rowAt t i)
+      → all (clear-of x) (removeAt (rows d t) i) ≡ true
       → Blocks d (flat (removeAt (rows d t) i ++ (x ∷ [])))
   blocks-kept-last x lx u b w c =
       let e : rows d (flat (removeAt (rows d t) i ++ (x ∷ []))) ≡ removeAt (rows d t) i ++ (x ∷ []) =
-      rows-whole d (removeAt (rows d t) i ++ (x ∷ [])) (wide-append (removeAt (rows d t) i) (x ∷ []) wide-out (lx, tt)) (omega (arith, length-append (removeAt (rows d t) i) (x ∷ []), length-out)) in
+      rows-whole d (removeAt (rows d t) i ++ (x ∷ [])) (wide-append (removeAt (rows d t) i) (x ∷ []) wide-out (lx, tt))
+      (omega (arith, length-append (removeAt (rows d t) i) (x ∷ []), length-out)) in
       record {
         each = rw e (every-last d (rows d t) i x (s .each) u b c);
-        apart = rw (e, map-++ rowSlot (removeAt (rows d t) i) (x ∷ []), map-removeAt rowSlot (rows d t) i, w, ← slots-at) (distinct-last (map rowSlot (rows d t)) i (s .apart) (rw values-length h));
+        apart = rw (e, map-++ rowSlot (removeAt (rows d t) i) (x ∷ []), map-removeAt rowSlot (rows d t) i, w, ← slots-at)
+            (distinct-last (map rowSlot (rows d t)) i (s .apart) (rw values-length h));
       }
 
   -- row i out, and in front a row x with its slot
-  pub blocks-kept-first : (x : List ℕ) → length x ≡ 40 → blockOk d x (removeAt (rows d t) i) ≡ true → rowSlot x ≡ rowSlot (rowAt t i) → Blocks d (flat (x ∷ removeAt (rows d t) i))
+  pub blocks-kept-first : (x : List ℕ) → length x ≡ 40 → blockOk d x (removeAt (rows d t) i) ≡ true → rowSlot x ≡ rowSlot (rowAt t i)
+      → Blocks d (flat (x ∷ removeAt (rows d t) i))
   blocks-kept-first x lx b w =
-      let e : rows d (flat (x ∷ removeAt (rows d t) i)) ≡ x ∷ removeAt (rows d t) i = rows-whole d (x ∷ removeAt (rows d t) i) (lx, wide-out) (omega (arith, length-out)) in
+      let e : rows d (flat (x ∷ removeAt (rows d t) i)) ≡ x ∷ removeAt (rows d t) i
+      = rows-whole d (x ∷ removeAt (rows d t) i) (lx, wide-out) (omega (arith, length-out)) in
       record {
         each = rw e (every-first d (rows d t) i x (s .each) b);
         apart = rw (e, map-removeAt rowSlot (rows d t) i, w, ← slots-at) (distinct-first (map rowSlot (rows d t)) i (s .apart) (rw values-length h));
@@ -179,7 +201,8 @@ module _ (d : ℕ) (t : List ℕ) (i : ℕ) (h : i < d) (l : length t ≡ d * 40
   kept-newest u =
       rw (rows-at d t i h)
       (blocks-kept-last (rowAt t i) row-length u (blockOk-swap d (rowAt t i) (drop (suc i) (rows d t)) [] (λ _ _. refl) row-ok) refl
-      (ap (λ (r : List ℕ). all (clear-of r) (removeAt (rows d t) i)) (sym (rows-at d t i h)) ∙ clear-out d (rows d t) i (s .each) (rw rows-length h) (rw (rows-at d t i h) u)))
+      (ap (λ (r : List ℕ). all (clear-of r) (removeAt (rows d t) i)) (sym (rows-at d t i h))
+      ∙ clear-out d (rows d t) i (s .each) (rw rows-length h) (rw (rows-at d t i h) u)))
 
   slot-below : ltb (rowSlot (rowAt t i)) d ≡ true
   slot-below = and-left (ltb (rowSlot (rowAt t i)) d) _ row-ok
@@ -193,13 +216,15 @@ module _ (d : ℕ) (t : List ℕ) (i : ℕ) (h : i < d) (l : length t ≡ d * 40
       let lz : length (zeros 32) ≡ 32 = length-zeros 32 in
       let w : rowSlot (freed r) ≡ rowSlot r = slot-parts (zeros 32) r (zeros 4) lz row-length in
       let tl : tailOk (freed r) ≡ true = ap (λ (v : List ℕ). tailOk (zeros 32 ++ (take 4 (drop 32 r) ++ v))) z ∙ tail-parts (zeros 32) r 0 lz row-length in
-      let fl : getD (freed r) 36 0 ≡ 0 = ap (λ (v : List ℕ). getD (zeros 32 ++ (take 4 (drop 32 r) ++ v)) 36 0) z ∙ flag-parts (zeros 32) r (0 ∷ 0 ∷ 0 ∷ []) 0 lz row-length in
+      let fl : getD (freed r) 36 0 ≡ 0 = ap (λ (v : List ℕ). getD (zeros 32 ++ (take 4 (drop 32 r) ++ v)) 36 0) z
+      ∙ flag-parts (zeros 32) r (0 ∷ 0 ∷ 0 ∷ []) 0 lz row-length in
       let tk : readBlock (freed r) .fingerprint ≡ zeros 32 = take-at (zeros 32) (take 4 (drop 32 r) ++ zeros 4) 32 lz in
       rw (rows-at d t i h)
       (blocks-kept-first (freed r) (length-freed r row-length)
       (both (ltb (rowSlot (freed r)) d) _ (ap (λ (k : ℕ). ltb k d) w ∙ slot-below)
       (both (tailOk (freed r)) _ tl
-      (ap (λ (k : ℕ). cond (eqb k 1) (usedOk (freed r) (removeAt (rows d t) i)) (all isZero (readBlock (freed r) .fingerprint))) fl ∙ ap (all isZero) tk ∙ zeros-zero 32)))
+      (ap (λ (k : ℕ). cond (eqb k 1) (usedOk (freed r) (removeAt (rows d t) i)) (all isZero (readBlock (freed r) .fingerprint))) fl ∙ ap (all isZero) tk
+      ∙ zeros-zero 32)))
       w)
 
   -- put_block with a fingerprint that is not cached

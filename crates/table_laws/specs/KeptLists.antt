@@ -58,7 +58,8 @@ unfolding elem
 elem-removeAt x [] zero e = e
 elem-removeAt x [] (suc i) e = e
 elem-removeAt x (y ∷ xs) zero e = or-right (eqb x y) (elem x xs) e
-elem-removeAt x (y ∷ xs) (suc i) e = neither (eqb x y) (elem x (removeAt xs i)) (or-left (eqb x y) (elem x xs) e) (elem-removeAt x xs i (or-right (eqb x y) (elem x xs) e))
+elem-removeAt x (y ∷ xs) (suc i) e = neither (eqb x y) (elem x (removeAt xs i)) (or-left (eqb x y) (elem x xs) e)
+    (elem-removeAt x xs i (or-right (eqb x y) (elem x xs) e))
 
 pub distinct-removeAt : (xs : List ℕ) (i : ℕ) → distinct xs ≡ true → distinct (removeAt xs i) ≡ true
 unfolding distinct
@@ -73,7 +74,8 @@ distinct-removeAt (x ∷ xs) (suc i) e =
 elem-snoc : (y : ℕ) (xs : List ℕ) (x : ℕ) → elem y xs ≡ false → eqb y x ≡ false → elem y (xs ++ (x ∷ [])) ≡ false
 unfolding elem
 elem-snoc y [] x e f = neither (eqb y x) false f refl
-elem-snoc y (z ∷ xs) x e f = neither (eqb y z) (elem y (xs ++ (x ∷ []))) (or-left (eqb y z) (elem y xs) e) (elem-snoc y xs x (or-right (eqb y z) (elem y xs) e) f)
+elem-snoc y (z ∷ xs) x e f = neither (eqb y z) (elem y (xs ++ (x ∷ []))) (or-left (eqb y z) (elem y xs) e)
+    (elem-snoc y xs x (or-right (eqb y z) (elem y xs) e) f)
 
 pub eqb-sym : (a b : ℕ) → eqb a b ≡ false → eqb b a ≡ false
 eqb-sym a b e = ne-eqb b a (λ h. eqb-false a b e (sym h))
@@ -98,15 +100,18 @@ absent-all p k (x ∷ xs) = step (p x) (findFrom p (suc k) xs) (all (λ y. not (
 
 -- `every` where an element is taken out, and where one is added at the end
 module _ {A : Type 0} (q : A → List A → Bool) where
-  pub every-removeAt : ((r : A) (rs : List A) (j : ℕ) → q r rs ≡ true → q r (removeAt rs j) ≡ true) → (xs : List A) (i : ℕ) → every q xs ≡ true → every q (removeAt xs i) ≡ true
+  pub every-removeAt : ((r : A) (rs : List A) (j : ℕ) → q r rs ≡ true → q r (removeAt rs j) ≡ true) → (xs : List A) (i : ℕ) → every q xs ≡ true
+      → every q (removeAt xs i) ≡ true
   unfolding every
   every-removeAt h [] zero e = e
   every-removeAt h [] (suc i) e = e
   every-removeAt h (x ∷ xs) zero e = and-right (q x xs) (every q xs) e
   every-removeAt h (x ∷ xs) (suc i) e =
-      both (q x (removeAt xs i)) (every q (removeAt xs i)) (h x xs i (and-left (q x xs) (every q xs) e)) (every-removeAt h xs i (and-right (q x xs) (every q xs) e))
+      both (q x (removeAt xs i)) (every q (removeAt xs i)) (h x xs i (and-left (q x xs) (every q xs) e))
+      (every-removeAt h xs i (and-right (q x xs) (every q xs) e))
 
-  pub every-snoc : (x : A) (c : A → Bool) → ((r : A) (rs : List A) → c r ≡ true → q r rs ≡ true → q r (rs ++ (x ∷ [])) ≡ true) → (xs : List A) → all c xs ≡ true → every q xs ≡ true → q x [] ≡ true → every q (xs ++ (x ∷ [])) ≡ true
+  pub every-snoc : (x : A) (c : A → Bool) → ((r : A) (rs : List A) → c r ≡ true → q r rs ≡ true → q r (rs ++ (x ∷ [])) ≡ true) → (xs : List A)
+      → all c xs ≡ true → every q xs ≡ true → q x [] ≡ true → every q (xs ++ (x ∷ [])) ≡ true
   unfolding every all
   every-snoc x c h [] a e l = both (q x []) true l refl
   every-snoc x c h (y ∷ xs) a e l =
@@ -151,4 +156,5 @@ slots-above x a (suc d) h = neither (eqb x a) (elem x (slotsFrom (suc a) d)) (ne
 pub slots-distinct : (a d : ℕ) → distinct (slotsFrom a d) ≡ true
 unfolding distinct
 slots-distinct a zero = refl
-slots-distinct a (suc d) = both (not (elem a (slotsFrom (suc a) d))) (distinct (slotsFrom (suc a) d)) (ap not (slots-above a (suc a) d (omega arith))) (slots-distinct (suc a) d)
+slots-distinct a (suc d) = both (not (elem a (slotsFrom (suc a) d))) (distinct (slotsFrom (suc a) d)) (ap not (slots-above a (suc a) d (omega arith)))
+    (slots-distinct (suc a) d)

@@ -18,7 +18,8 @@ use Rattle.tables.specs.RecordLaws.{addressTable-held, blockTable-blocks}
 use Rattle.table_laws.specs.SoundSplit.{sound-split}
 use Rattle.table_laws.specs.Checked.{addresses-checked, blocks-checked, fit-addresses, fit-blocks}
 use Rattle.tables.specs.SoundLaws.{and-left, and-right, or-right}
-use Rattle.table_laws.specs.KeptAddresses.{Addrs, addrs-parts, parts-addrs, addrs-removed, addrs-pushed, addrs-clean, addrs-fresh, addressOk-of, length-ofAddr, le4-ofAddr}
+use Rattle.table_laws.specs.KeptAddresses.{Addrs, addrs-parts, parts-addrs, addrs-removed, addrs-pushed, addrs-clean, addrs-fresh, addressOk-of}
+use Rattle.table_laws.specs.KeptAddresses.{length-ofAddr, le4-ofAddr}
 use Rattle.table_laws.specs.KeptBlocks.{Blocks, blocks-parts, parts-blocks, kept-newest, kept-front, kept-put, kept-fresh}
 use Rattle.tables.specs.Operations.{rowOut, rowAdded, rowCleaned, rowNewest, rowFreed, rowFilled}
 
@@ -31,7 +32,8 @@ passes : (P m n : ℕ) (t : List ℕ) → Addrs P m n t → addressesUnsound P m
 passes P m n t s = addresses-checked P m n t ∙ ap not (parts-addrs P m n t s)
 
 -- decode then encode
-pub addresses-back : (P m n : ℕ) (t : List ℕ) → addressesUnsound P m n t ≡ false → length t ≡ m * 40 → ((i : ℕ) → getD t i 0 < 256) → addressTable m (heldRows n t) ≡ t
+pub addresses-back : (P m n : ℕ) (t : List ℕ) → addressesUnsound P m n t ≡ false → length t ≡ m * 40 → ((i : ℕ) → getD t i 0 < 256)
+    → addressTable m (heldRows n t) ≡ t
 addresses-back P m n t e l b = addressTable-held P m n t b l (sound-addresses P m n t e)
 
 pub fresh-addresses-kept : (P m : ℕ) → addressesUnsound P m 0 (freshAddresses m) ≡ false
@@ -50,7 +52,8 @@ module _ (P m n : ℕ) (t : List ℕ) (e : addressesUnsound P m n t ≡ false) (
   push-address-kept a g x hn hp ha lg hx f =
       let r : List ℕ = addressBytes (addressRow a g x) in
       passes P m (n + 1) (rowAdded n r t)
-      (addrs-pushed P m n t r hn l (length-ofAddr a g x lg) (addressOk-of P a g x ha hp hx lg) (ap (λ (k : ℕ). findFrom (hasAddress k) 0 (rows n t)) (le4-ofAddr a g x (omega arith)) ∙ f) parts)
+      (addrs-pushed P m n t r hn l (length-ofAddr a g x lg) (addressOk-of P a g x ha hp hx lg)
+      (ap (λ (k : ℕ). findFrom (hasAddress k) 0 (rows n t)) (le4-ofAddr a g x (omega arith)) ∙ f) parts)
 
   pub set-clean-kept : (k : ℕ) → k < n → addressesUnsound P m n (rowCleaned k t) ≡ false
   set-clean-kept k h = passes P m n (rowCleaned k t) (addrs-clean P m n t k h l parts)
@@ -69,7 +72,8 @@ unfolding soundBlocks
 blocks-sound d t =
     let rs : List (List ℕ) = rows d t in
     blocks-checked d t
-    ∙ ap not (regroup (every (rowOk d) rs) (distinct (map rowSlot rs)) (every unique rs) ∙ ap (λ (b : Bool). b && distinct (map rowSlot rs)) (sym (sound-split d rs)))
+    ∙ ap not (regroup (every (rowOk d) rs) (distinct (map rowSlot rs)) (every unique rs)
+    ∙ ap (λ (b : Bool). b && distinct (map rowSlot rs)) (sym (sound-split d rs)))
 
 sound-blocks : (d : ℕ) (t : List ℕ) → blocksUnsound d t ≡ false → soundBlocks d t ≡ true
 sound-blocks d t e = not-false (soundBlocks d t) (sym (blocks-sound d t) ∙ e)
@@ -107,7 +111,8 @@ module _ (d : ℕ) (t : List ℕ) (i : ℕ) (h : i < d) (e : blocksUnsound d t �
 
 -- where the lengths and sizes are those of refusals 1 and 2, the number that `tables_refused` gives is `tablesRefused`
 pub refused-is : (P m n d : ℕ) (a b : List ℕ) → addressesFit P m a ≡ true → blocksFit d b ≡ true
-    → cond (not (addressesFit P m a) || addressesUnsound P m n a) 6 (cond (not (blocksFit d b) || blocksUnsound d b) 7 (cond (dirtyUncached n d a b) 8 0)) ≡ tablesRefused P m n d a b
+    → cond (not (addressesFit P m a) || addressesUnsound P m n a) 6 (cond (not (blocksFit d b) || blocksUnsound d b) 7 (cond (dirtyUncached n d a b) 8 0))
+    ≡ tablesRefused P m n d a b
 unfolding tablesRefused
 refused-is P m n d a b e f = rw (e, f)
 
@@ -130,7 +135,8 @@ tests-none false false true e = absurd (omega arith)
 tests-none false false false e = (refl, refl, refl)
 
 pub passed : (P m n d : ℕ) (a b : List ℕ)
-    → _≡_ {A = ℕ} (cond (not (addressesFit P m a) || addressesUnsound P m n a) 6 (cond (not (blocksFit d b) || blocksUnsound d b) 7 (cond (dirtyUncached n d a b) 8 0))) 0 → Passed P m n d a b
+    → _≡_ {A = ℕ} (cond (not (addressesFit P m a) || addressesUnsound P m n a) 6
+    (cond (not (blocksFit d b) || blocksUnsound d b) 7 (cond (dirtyUncached n d a b) 8 0))) 0 → Passed P m n d a b
 passed P m n d a b e =
     let t = tests-none (not (addressesFit P m a) || addressesUnsound P m n a) (not (blocksFit d b) || blocksUnsound d b) (dirtyUncached n d a b) e in
     let f = fit-addresses P m n a (t .0) in
@@ -146,5 +152,6 @@ passed P m n d a b e =
       six = or-right (not (addressesFit P m a)) (addressesUnsound P m n a) (t .0);
       seven = s;
       eight = t .2;
-      once = and-right (every (rowOk d) rs) (every unique rs) (sym (sound-split d rs) ∙ and-left (every (blockOk d) rs) (distinct (map rowSlot rs)) (soundBlocks-opened d b (sound-blocks d b s)));
+      once = and-right (every (rowOk d) rs) (every unique rs)
+          (sym (sound-split d rs) ∙ and-left (every (blockOk d) rs) (distinct (map rowSlot rs)) (soundBlocks-opened d b (sound-blocks d b s)));
     }

@@ -9,7 +9,8 @@ use Rattle.tables.specs.Records.{AddressRow, BlockRow, blockRow, freeRow, addre
 use Rattle.tables.specs.Operations.{freed, filled, rowOut, rowAdded, rowCleaned, rowNewest, rowFreed, rowFilled}
 use Rattle.tables.specs.RowLaws.{rows-at, length-part}
 use Rattle.tables.specs.ShiftLaws.{length-freed, length-filled}
-use Rattle.tables.specs.OperationLaws.{map-++, map-removeAt, map-set, rows-removed, rows-pushed, rows-set, addr-forth, address-clean, block-freed, block-filled, blocks-last, blocks-first}
+use Rattle.tables.specs.OperationLaws.{map-++, map-removeAt, map-set, rows-removed, rows-pushed, rows-set, addr-forth, address-clean, block-freed}
+use Rattle.tables.specs.OperationLaws.{block-filled, blocks-last, blocks-first}
 use Rattle.table_laws.specs.Written.{cleanRow, address-wide}
 
 -- ---- the n held rows of an address table
@@ -18,7 +19,8 @@ module _ (n : ℕ) (t : List ℕ) (g : tableBytes n ≤ length t) where
   unfolding rowOut heldRows
   read-out i h = ap (map readAddress) (rows-removed n t (zeros 40 ++ drop (n * 40) t) i h g) ∙ map-removeAt readAddress (rows n t) i
 
-  pub read-added : (r : AddressRow) → r .address < 2 ^ 32 → length (r .fingerprint) ≡ 32 → heldRows (n + 1) (rowAdded n (addressBytes r) t) ≡ heldRows n t ++ (r ∷ [])
+  pub read-added : (r : AddressRow) → r .address < 2 ^ 32 → length (r .fingerprint) ≡ 32
+      → heldRows (n + 1) (rowAdded n (addressBytes r) t) ≡ heldRows n t ++ (r ∷ [])
   unfolding rowAdded heldRows
   read-added r h l =
       ap (map readAddress) (rows-pushed n t (addressBytes r) (drop (n * 40 + 40) t) g (address-wide r l))
@@ -45,10 +47,13 @@ module _ (d : ℕ) (t : List ℕ) (i : ℕ) (h : i < d) (g : tableBytes d ≤ le
   unfolding rowFreed
   read-freed =
       rw (rows-at d t i h)
-      (blocks-first d t i h g (freed (rowAt t i)) (length-freed (rowAt t i) wide) ∙ ap (λ (x : BlockRow). x ∷ removeAt (blockRows d t) i) (block-freed (rowAt t i) wide))
+      (blocks-first d t i h g (freed (rowAt t i)) (length-freed (rowAt t i) wide)
+      ∙ ap (λ (x : BlockRow). x ∷ removeAt (blockRows d t) i) (block-freed (rowAt t i) wide))
 
-  pub read-filled : (f : List ℕ) → length f ≡ 32 → blockRows d (rowFilled d i f t) ≡ removeAt (blockRows d t) i ++ (blockRow f (readBlock (rowAt t i) .slot) 1 ∷ [])
+  pub read-filled : (f : List ℕ) → length f ≡ 32 → blockRows d (rowFilled d i f t)
+      ≡ removeAt (blockRows d t) i ++ (blockRow f (readBlock (rowAt t i) .slot) 1 ∷ [])
   unfolding rowFilled
   read-filled f l =
       rw (rows-at d t i h)
-      (blocks-last d t i h g (filled f (rowAt t i)) (length-filled f (rowAt t i) l wide) ∙ ap (λ (x : BlockRow). removeAt (blockRows d t) i ++ (x ∷ [])) (block-filled f (rowAt t i) l wide))
+      (blocks-last d t i h g (filled f (rowAt t i)) (length-filled f (rowAt t i) l wide)
+      ∙ ap (λ (x : BlockRow). removeAt (blockRows d t) i ++ (x ∷ [])) (block-filled f (rowAt t i) l wide))

@@ -32,7 +32,8 @@ and-assoc2 false b c e = refl
 
 ok-split : (d : ℕ) (r : List ℕ) (rs : List (List ℕ)) → blockOk d r rs ≡ rowOk d r rs && unique r rs
 ok-split d r rs =
-    ap (λ b. ltb (rowSlot r) d && (tailOk r && b)) (cond-and (isUsed r) (all isUsed rs) (absent (findFrom (caches (readBlock r .fingerprint)) 0 rs)) (all isZero (readBlock r .fingerprint)))
+    ap (λ b. ltb (rowSlot r) d && (tailOk r && b)) (cond-and (isUsed r) (all isUsed rs) (absent (findFrom (caches (readBlock r .fingerprint)) 0 rs))
+    (all isZero (readBlock r .fingerprint)))
     ∙ and-assoc2 (ltb (rowSlot r) d) (tailOk r) (cond (isUsed r) (all isUsed rs) (all isZero (readBlock r .fingerprint))) (unique r rs)
 
 pub every-same : {A : Type 0} (p q : A → List A → Bool) → ((x : A) (xs : List A) → p x xs ≡ q x xs) → (xs : List A) → every p xs ≡ every q xs

@@ -10,7 +10,8 @@ use lib.ListN.{length, take, drop, getD, set, length-append, length-map, length-
 use lib.Seq.{take-at, drop-at, getD-at, set-at, drop-drop, length-take-le}
 use borrow.Author.Tests.{leb-true, lt-ltb}
 use Rattle.tables.specs.Rows.{rows, flat, zeros, rowAt, removeAt, rowBytes, tableBytes}
-use Rattle.tables.specs.Records.{AddressRow, BlockRow, addressRow, blockRow, freeRow, addressBytes, blockBytes, readAddress, readBlock, bytes4, addressTable, blockTable, slotsFrom, freshAddresses, freshBlocks}
+use Rattle.tables.specs.Records.{AddressRow, BlockRow, addressRow, blockRow, freeRow, addressBytes, blockBytes, readAddress, readBlock, bytes4}
+use Rattle.tables.specs.Records.{addressTable, blockTable, slotsFrom, freshAddresses, freshBlocks}
 use Rattle.tables.specs.Find.{all, isUsed}
 use Rattle.tables.specs.Operations.{freed, filled, rowOut, rowAdded, rowCleaned, rowNewest, rowFreed, rowFilled}
 use Rattle.tables.specs.Sound.{isZero, tailOk}
@@ -18,7 +19,8 @@ use Rattle.tables.specs.Index.{rowOk}
 use Rattle.tables.specs.RowLaws.{rows-at, length-part}
 use Rattle.tables.specs.SoundLaws.{and-left, map-at}
 use Rattle.tables.specs.ShiftLaws.{length-zeros, length-freed}
-use Rattle.tables.specs.OperationLaws.{Wide, rows-flat, length-flat, drop-flat, rows-whole, map-++, map-removeAt, map-set, length-removeAt, le4-bytes4, off, clean-rows, block-freed}
+use Rattle.tables.specs.OperationLaws.{Wide, rows-flat, length-flat, drop-flat, rows-whole, map-++, map-removeAt, map-set, length-removeAt}
+use Rattle.tables.specs.OperationLaws.{le4-bytes4, off, clean-rows, block-freed}
 use Rattle.table_laws.specs.KeptLists.{both}
 use Rattle.table_laws.specs.KeptBlocks.{zeros-four, zeros-three, free-wide, free-count}
 
@@ -94,7 +96,8 @@ module _ (r : BlockRow) (l : length (r .fingerprint) ≡ 32) where
       λ i. blockRow (block-print i) (s i) (block-used i)
 
   -- it passes the test for 7 of a row by itself, before the rows rs
-  pub block-passes : (d : ℕ) (rs : List (List ℕ)) → r .slot < d → d ≤ 2 ^ 32 → leb (r .used) 1 ≡ true → cond (eqb (r .used) 1) (all isUsed rs) (all isZero (r .fingerprint)) ≡ true
+  pub block-passes : (d : ℕ) (rs : List (List ℕ)) → r .slot < d → d ≤ 2 ^ 32 → leb (r .used) 1 ≡ true
+      → cond (eqb (r .used) 1) (all isUsed rs) (all isZero (r .fingerprint)) ≡ true
       → rowOk d (blockBytes r) rs ≡ true
   block-passes d rs h hd u e =
       let b : List ℕ = blockBytes r in
@@ -174,7 +177,8 @@ module _ (m : ℕ) (rs : List AddressRow) (w : Wide (map addressBytes rs)) (n : 
         let r = getD rs i z in
         let lr = print-length r (wide-at rs w i (omega (arith, e, h))) in
         clean-rows n t i h (omega (arith, held-length f, f))
-        ∙ ap₂ {C = List ℕ} (λ x y. flat x ++ y) (ap₂ {C = List (List ℕ)} (λ x y. set x i y) held-rows (ap (λ (x : List ℕ). set x 36 0) held-at ∙ clean-bytes r lr) ∙ sym (map-set addressBytes rs i (cleanRow r))) held-rest
+        ∙ ap₂ {C = List ℕ} (λ x y. flat x ++ y) (ap₂ {C = List (List ℕ)} (λ x y. set x i y) held-rows
+        (ap (λ (x : List ℕ). set x 36 0) held-at ∙ clean-bytes r lr) ∙ sym (map-set addressBytes rs i (cleanRow r))) held-rest
         ∙ sym (same-count (set rs i (cleanRow r)) (length-set rs i (cleanRow r) ∙ e))
 
   -- push_address
@@ -185,7 +189,8 @@ module _ (m : ℕ) (rs : List AddressRow) (w : Wide (map addressBytes rs)) (n : 
       let k = (m - length (rs ++ (r ∷ []))) * 40 in
       let q : (m - n) * 40 ≡ 40 + (m - length (rs ++ (r ∷ []))) * 40 = omega (arith, ll, e, h) in
       let y = sym (drop-drop 40 (n * 40) (addressTable m rs)) ∙ ap (drop 40) (held-rest ∙ ap zeros q) ∙ drop-zeros 40 k in
-      ap₂ {C = List ℕ} (λ x v. flat (x ++ (addressBytes r ∷ [])) ++ v) held-rows y ∙ ap (λ (x : List (List ℕ)). flat x ++ zeros k) (sym (map-++ addressBytes rs (r ∷ [])))
+      ap₂ {C = List ℕ} (λ x v. flat (x ++ (addressBytes r ∷ [])) ++ v) held-rows y
+      ∙ ap (λ (x : List (List ℕ)). flat x ++ zeros k) (sym (map-++ addressBytes rs (r ∷ [])))
 
 -- ---- a block table
 
@@ -241,7 +246,8 @@ module _ (rs : List BlockRow) (w : Wide (map blockBytes rs)) (d : ℕ) (e : leng
       -- put_block
       pub blocks-filled : (g : List ℕ) → rowFilled d i g (blockTable rs) ≡ blockTable (removeAt rs i ++ (blockRow g (getD rs i z .slot) 1 ∷ []))
       unfolding rowFilled
-      blocks-filled g = last (filled g (getD (rows d (blockTable rs)) i [])) (blockRow g (getD rs i z .slot) 1) (ap (filled g) at ∙ filled-bytes g (getD rs i z) l)
+      blocks-filled g = last (filled g (getD (rows d (blockTable rs)) i [])) (blockRow g (getD rs i z .slot) 1)
+          (ap (filled g) at ∙ filled-bytes g (getD rs i z) l)
 
 -- a row that is freed is the first, and free
 pub front-free : (d i : ℕ) (t : List ℕ) → length t ≡ tableBytes d → i < d → isUsed (rowAt (rowFreed d i t) 0) ≡ false
@@ -259,4 +265,5 @@ fresh-addresses-length m = held-length m [] tt 0 refl (omega arith)
 
 pub fresh-blocks-length : (d : ℕ) → length (freshBlocks d) ≡ tableBytes d
 unfolding freshBlocks
-fresh-blocks-length d = blocks-length (map freeRow (slotsFrom 0 d)) (free-wide 0 d) d (sym (length-map (map freeRow (slotsFrom 0 d)) blockBytes) ∙ free-count 0 d)
+fresh-blocks-length d = blocks-length (map freeRow (slotsFrom 0 d)) (free-wide 0 d) d
+    (sym (length-map (map freeRow (slotsFrom 0 d)) blockBytes) ∙ free-count 0 d)

@@ -38,7 +38,8 @@ one-bit : (b i j : ℕ) → b < 256 → i < 8 → j < 8 → b / 2 ^ i % 2 ≡ 0 
 unfolding setsOne
 one-bit b i j hb hi hj e =
     let ts = all-below (λ b. all (λ i. all (setsOne b i) (slotsFrom 0 8)) (slotsFrom 0 8)) 0 256 b tested (omega arith) (omega arith) in
-    let t : setsOne b i j ≡ true = all-below (setsOne b i) 0 8 j (all-below (λ i. all (setsOne b i) (slotsFrom 0 8)) 0 8 i ts (omega arith) (omega arith)) (omega arith) (omega arith) in
+    let t : setsOne b i j ≡ true = all-below (setsOne b i) 0 8 j (all-below (λ i. all (setsOne b i) (slotsFrom 0 8)) 0 8 i ts (omega arith) (omega arith))
+    (omega arith) (omega arith) in
     let l = ltb (b + 2 ^ i) 256 in
     let r = eqb ((b + 2 ^ i) / 2 ^ j % 2) (cond (eqb j i) 1 (b / 2 ^ j % 2)) in
     let u : l && r ≡ true = rw (eq-eqb (b / 2 ^ i % 2) 0 e) at t in
@@ -61,28 +62,30 @@ module _ (s : List ℕ) (bytes : (i : ℕ) → getD s i 0 < 256) (x : ℕ) (clea
   bit-shifted = let h : 1 * 2 ^ (x % 8) < 256 = omega (arith, bit-room) in mod-eq-of-lt h ∙ one-mul (2 ^ (x % 8))
 
   pub bit-set : (y : ℕ) → x / 8 < length s → bitAt (set s (x / 8) (getD s (x / 8) 0 + 2 ^ (x % 8))) y ≡ cond (eqb y x) 1 (bitAt s y)
-  bit-set y h = elim (eqb (y / 8) (x / 8)) as (λ q. eqb (y / 8) (x / 8) ≡ q → bitAt (set s (x / 8) (getD s (x / 8) 0 + 2 ^ (x % 8))) y ≡ cond (eqb y x) 1 (bitAt s y)) [
-    | true ↦ λ q.
-        (let e = eqb-true (y / 8) (x / 8) q in
-        let v = getD s (x / 8) 0 + 2 ^ (x % 8) in
-        ap (λ (k : ℕ). getD (set s (x / 8) v) k 0 / 2 ^ (y % 8) % 2) e
-        ∙ ap (λ (k : ℕ). k / 2 ^ (y % 8) % 2) (getD-set-same s (x / 8) v 0 h)
-        ∙ one-bit (getD s (x / 8) 0) (x % 8) (y % 8) (bytes (x / 8)) (omega arith) (omega arith) clear .1
-        ∙ ap (λ (b : Bool). cond b 1 (getD s (x / 8) 0 / 2 ^ (y % 8) % 2)) (same-byte x y e)
-        ∙ ap (λ (k : ℕ). cond (eqb y x) 1 (getD s k 0 / 2 ^ (y % 8) % 2)) (sym e))
-    | false ↦ λ q.
-        (let n = eqb-false (y / 8) (x / 8) q in
-        let v = getD s (x / 8) 0 + 2 ^ (x % 8) in
-        ap (λ (k : ℕ). k / 2 ^ (y % 8) % 2) (getD-set-other s (x / 8) (y / 8) v 0 n)
-        ∙ sym (ap (λ (b : Bool). cond b 1 (bitAt s y)) (ne-eqb y x (λ m. n (ap (λ (z : ℕ). z / 8) m)))))
-  ] refl
+  bit-set y h = elim (eqb (y / 8) (x / 8)) as (λ q. eqb (y / 8) (x / 8) ≡ q → bitAt (set s (x / 8) (getD s (x / 8) 0 + 2 ^ (x % 8))) y
+      ≡ cond (eqb y x) 1 (bitAt s y)) [
+        | true ↦ λ q.
+            (let e = eqb-true (y / 8) (x / 8) q in
+            let v = getD s (x / 8) 0 + 2 ^ (x % 8) in
+            ap (λ (k : ℕ). getD (set s (x / 8) v) k 0 / 2 ^ (y % 8) % 2) e
+            ∙ ap (λ (k : ℕ). k / 2 ^ (y % 8) % 2) (getD-set-same s (x / 8) v 0 h)
+            ∙ one-bit (getD s (x / 8) 0) (x % 8) (y % 8) (bytes (x / 8)) (omega arith) (omega arith) clear .1
+            ∙ ap (λ (b : Bool). cond b 1 (getD s (x / 8) 0 / 2 ^ (y % 8) % 2)) (same-byte x y e)
+            ∙ ap (λ (k : ℕ). cond (eqb y x) 1 (getD s k 0 / 2 ^ (y % 8) % 2)) (sym e))
+        | false ↦ λ q.
+            (let n = eqb-false (y / 8) (x / 8) q in
+            let v = getD s (x / 8) 0 + 2 ^ (x % 8) in
+            ap (λ (k : ℕ). k / 2 ^ (y % 8) % 2) (getD-set-other s (x / 8) (y / 8) v 0 n)
+            ∙ sym (ap (λ (b : Bool). cond b 1 (bitAt s y)) (ne-eqb y x (λ m. n (ap (λ (z : ℕ). z / 8) m)))))
+      ] refl
 
 -- an array of q zeros has a bit for each number below q * 8, and none is set
 pub has-bit : (q x : ℕ) → x < q * 8 → x < length (replicate {A = ℕ} q 0) * 8
 has-bit q x h = rw length-replicate h
 
 pub no-bits : (q x : ℕ) → x < length (replicate {A = ℕ} q 0) * 8 → bitAt (replicate q 0) x ≡ 0
-no-bits q x h = ap (λ (k : ℕ). k / 2 ^ (x % 8) % 2) (getD-replicate q (x / 8) 0 0 (let l : length (replicate {A = ℕ} q 0) ≡ q = length-replicate q 0 in omega arith)) ∙ zero-part (2 ^ (x % 8))
+no-bits q x h = ap (λ (k : ℕ). k / 2 ^ (x % 8) % 2)
+    (getD-replicate q (x / 8) 0 0 (let l : length (replicate {A = ℕ} q 0) ≡ q = length-replicate q 0 in omega arith)) ∙ zero-part (2 ^ (x % 8))
   where
     zero-part : (n : ℕ) → 0 / n % 2 ≡ 0
     zero-part n = ap (λ (k : ℕ). k % 2) (zero-div n)

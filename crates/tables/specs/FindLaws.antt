@@ -51,7 +51,8 @@ pub record Hit {A : Type 0} (p : A → Bool) (xs : List A) (z : A) (i : ℕ) : T
   pub below : i < length xs
   pub holds : p (getD xs i z) ≡ true
 
-found-step : {A : Type 0} (p : A → Bool) (x : A) (xs : List A) (z : A) (k i : ℕ) (b : Bool) → p x ≡ b → (findFrom p (suc k) xs ≡ At i → (suc k ≤ i) × Hit p xs z (i - suc k))
+found-step : {A : Type 0} (p : A → Bool) (x : A) (xs : List A) (z : A) (k i : ℕ) (b : Bool) → p x ≡ b
+    → (findFrom p (suc k) xs ≡ At i → (suc k ≤ i) × Hit p xs z (i - suc k))
     → pick b (At k) (findFrom p (suc k) xs) ≡ At i → (k ≤ i) × Hit p (x ∷ xs) z (i - k)
 found-step p x xs z k i true q ih f =
     let m : k ≡ i = cc in

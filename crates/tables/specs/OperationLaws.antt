@@ -7,7 +7,8 @@ use native.Mathlib.Nat.{not-suc-le-zero, le-of-suc-le-suc, div-div-eq-div-mul, d
 use native.Mathlib.Omega.{arith}
 use lib.Dec.{leb}
 use lib.ListN.{length, getD, set, take, drop, length-append, length-drop, take-append-drop}
-use lib.Seq.{getD-append-add, getD-at, take-at, drop-at, length-take-le, drop-drop, take-set-lt, take-set-le, drop-set-lt, drop-set-add, getD-set-same, getD-set-other}
+use lib.Seq.{getD-append-add, getD-at, take-at, drop-at, length-take-le, drop-drop, take-set-lt, take-set-le, drop-set-lt, drop-set-add}
+use lib.Seq.{getD-set-same, getD-set-other}
 use Rattle.tables.specs.Rows.{rows, flat, zeros, rowAt, removeAt, le4}
 use Rattle.tables.specs.Records.{readAddress, addressBytes, readBlock, blockBytes, blockRows, addressRow, blockRow, freeRow, slotsFrom}
 use Rattle.tables.specs.Sound.{tailOk, rowSlot}
@@ -108,7 +109,15 @@ pub length-pushed : (n : ℕ) (t r : List ℕ) → n * 40 + 40 ≤ length t → 
 unfolding rowAdded
 length-pushed n t r g l =
     let w : Wide (rows n t ++ (r ∷ [])) = wide-append (rows n t) (r ∷ []) (wide-rows n t (omega arith)) (l, tt) in
-    omega (arith, length-append (flat (rows n t ++ (r ∷ []))) (drop (n * 40 + 40) t), length-flat (rows n t ++ (r ∷ [])) w, length-append (rows n t) (r ∷ []), rows-length n t, length-drop (n * 40 + 40) t)
+    omega (
+      arith,
+      length-append (flat (rows n t ++ (r ∷ []))) (drop (n * 40 + 40) t),
+      length-flat (rows n t ++ (r ∷ [])) w,
+      length-append (rows n t)
+          (r ∷ []),
+      rows-length n t,
+      length-drop (n * 40 + 40) t,
+    )
 
 -- a free row's bytes
 pub free-length : (k : ℕ) → length (blockBytes (freeRow k)) ≡ 40
@@ -203,7 +212,8 @@ pub tail-parts : (x r : List ℕ) (a : ℕ) → length x ≡ 32 → length r ≡
 unfolding tailOk
 tail-parts x r a lx l =
     ap (λ (f : List ℕ). tailOk (x ++ (f ++ (a ∷ 0 ∷ 0 ∷ 0 ∷ [])))) (four r 32 (omega arith))
-    ∙ (let v : List ℕ = getD r 32 0 ∷ getD r 33 0 ∷ getD r 34 0 ∷ getD r 35 0 ∷ a ∷ 0 ∷ 0 ∷ 0 ∷ [] in rw (off x v 4 lx, off x v 5 lx, off x v 6 lx, off x v 7 lx))
+    ∙ (let v : List ℕ = getD r 32 0 ∷ getD r 33 0 ∷ getD r 34 0 ∷ getD r 35 0 ∷ a ∷ 0 ∷ 0 ∷ 0 ∷ [] in rw
+    (off x v 4 lx, off x v 5 lx, off x v 6 lx, off x v 7 lx))
 
 pub flag-parts : (x r w : List ℕ) (a : ℕ) → length x ≡ 32 → length r ≡ 40 → getD (x ++ (take 4 (drop 32 r) ++ (a ∷ w))) 36 0 ≡ a
 unfolding readBlock

@@ -19,7 +19,8 @@ module _ {ℓ} {A : Type ℓ} where
       ∙ getD-take at d i z h
 
   -- what stands after it is as it was
-  pub getD-paste-after : (d : List A) (at : ℕ) (s : List A) (n i : ℕ) (z : A) → at + n ≤ i → at ≤ length d → n ≤ length s → getD (paste d at s n) i z ≡ getD d i z
+  pub getD-paste-after : (d : List A) (at : ℕ) (s : List A) (n i : ℕ) (z : A) → at + n ≤ i → at ≤ length d → n ≤ length s
+      → getD (paste d at s n) i z ≡ getD d i z
   getD-paste-after d at s n i z h hd hs =
       let e : at + n + (i - (at + n)) ≡ i = omega arith in
       ap (λ (k : ℕ). getD (paste d at s n) k z) (sym e)
@@ -52,7 +53,8 @@ module _ {ℓ} {A : Type ℓ} where
   paste-done d at s k n e h g = let p : k ≡ n = omega arith in rw p at e
 
   -- a turn of a loop that goes down from k + 1 to k, of n in all
-  pub paste-turn-down : {t : List A} (d : List A) (to from k n : ℕ) (z v : A) → t ≡ paste d (to + k) (drop (from + k) d) (n - k) → v ≡ getD d (from + (k - 1)) z → 0 < k → k ≤ n → to + n ≤ length d → from + n ≤ length d
+  pub paste-turn-down : {t : List A} (d : List A) (to from k n : ℕ) (z v : A) → t ≡ paste d (to + k) (drop (from + k) d) (n - k)
+      → v ≡ getD d (from + (k - 1)) z → 0 < k → k ≤ n → to + n ≤ length d → from + n ≤ length d
       → set t (to + (k - 1)) v ≡ paste d (to + (k - 1)) (drop (from + (k - 1)) d) (n - (k - 1))
   paste-turn-down d to from k n z v e ev hk hn hd hs =
       let p : to + k ≡ suc (to + (k - 1)) = omega arith in

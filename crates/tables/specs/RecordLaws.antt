@@ -54,7 +54,8 @@ bytes4-of a b c d ha hb hc hd =
     let e3 : d % 256 ≡ d = mod-eq-of-lt hd in
     rw (e0, q1, e1, q2, e2, q3, e3)
 
-pub bytes4-le4 : (r : List ℕ) (at : ℕ) → at + 4 ≤ length r → getD r at 0 < 256 → getD r (at + 1) 0 < 256 → getD r (at + 2) 0 < 256 → getD r (at + 3) 0 < 256 → bytes4 (le4 r at) ≡ take 4 (drop at r)
+pub bytes4-le4 : (r : List ℕ) (at : ℕ) → at + 4 ≤ length r → getD r at 0 < 256 → getD r (at + 1) 0 < 256 → getD r (at + 2) 0 < 256 → getD r (at + 3) 0 < 256
+    → bytes4 (le4 r at) ≡ take 4 (drop at r)
 bytes4-le4 r at h h0 h1 h2 h3 = bytes4-of _ _ _ _ h0 h1 h2 h3 ∙ sym (four r at h)
 
 -- the last four bytes of a row that passes `tailOk`
@@ -73,7 +74,8 @@ tail-is r l e =
 pub addr-back : (r : List ℕ) → length r ≡ 40 → ((j : ℕ) → j < 40 → getD r j 0 < 256) → tailOk r ≡ true → addressBytes (readAddress r) ≡ r
 unfolding addressBytes readAddress
 addr-back r l b e =
-    ap (λ (x : List ℕ). x ++ (take 32 (drop 4 r) ++ (getD r 36 0 ∷ 0 ∷ 0 ∷ 0 ∷ []))) (bytes4-le4 r 0 (omega arith) (b 0 (omega arith)) (b 1 (omega arith)) (b 2 (omega arith)) (b 3 (omega arith)))
+    ap (λ (x : List ℕ). x ++ (take 32 (drop 4 r) ++ (getD r 36 0 ∷ 0 ∷ 0 ∷ 0 ∷ [])))
+    (bytes4-le4 r 0 (omega arith) (b 0 (omega arith)) (b 1 (omega arith)) (b 2 (omega arith)) (b 3 (omega arith)))
     ∙ ap (λ (x : List ℕ). take 4 r ++ (take 32 (drop 4 r) ++ x)) (sym (tail-is r l e) ∙ sym (drop-drop 32 4 r))
     ∙ ap (λ (x : List ℕ). take 4 r ++ x) (take-append-drop 32 (drop 4 r))
     ∙ take-append-drop 4 r
@@ -81,13 +83,15 @@ addr-back r l b e =
 pub block-back : (r : List ℕ) → length r ≡ 40 → ((j : ℕ) → j < 40 → getD r j 0 < 256) → tailOk r ≡ true → blockBytes (readBlock r) ≡ r
 unfolding blockBytes readBlock
 block-back r l b e =
-    ap (λ (x : List ℕ). take 32 r ++ (x ++ (getD r 36 0 ∷ 0 ∷ 0 ∷ 0 ∷ []))) (bytes4-le4 r 32 (omega arith) (b 32 (omega arith)) (b 33 (omega arith)) (b 34 (omega arith)) (b 35 (omega arith)))
+    ap (λ (x : List ℕ). take 32 r ++ (x ++ (getD r 36 0 ∷ 0 ∷ 0 ∷ 0 ∷ [])))
+    (bytes4-le4 r 32 (omega arith) (b 32 (omega arith)) (b 33 (omega arith)) (b 34 (omega arith)) (b 35 (omega arith)))
     ∙ ap (λ (x : List ℕ). take 32 r ++ (take 4 (drop 32 r) ++ x)) (sym (tail-is r l e) ∙ sym (drop-drop 4 32 r))
     ∙ ap (λ (x : List ℕ). take 32 r ++ x) (take-append-drop 4 (drop 32 r))
     ∙ take-append-drop 32 r
 
 -- rows that are all records' bytes
-map-back : {A : Type 0} (f : A → List ℕ) (g : List ℕ → A) (rs : List (List ℕ)) → ((i : ℕ) → i < length rs → f (g (getD rs i [])) ≡ getD rs i []) → map f (map g rs) ≡ rs
+map-back : {A : Type 0} (f : A → List ℕ) (g : List ℕ → A) (rs : List (List ℕ)) → ((i : ℕ) → i < length rs → f (g (getD rs i [])) ≡ getD rs i [])
+    → map f (map g rs) ≡ rs
 map-back f g [] h = refl
 map-back f g (r ∷ rs) h = rw (h zero (zero-lt-suc (length rs)), map-back f g rs (λ i b. h (suc i) (suc-le-suc b)))
 
@@ -103,20 +107,24 @@ module _ (n : ℕ) (t : List ℕ) (b : Bytes t) (h : n * 40 ≤ length t) (ok : 
   row-fits k g = length-part t (k * 40) 40 (omega arith)
 
   pub addrs-back : map addressBytes (map readAddress (rows n t)) ≡ rows n t
-  addrs-back = map-back addressBytes readAddress (rows n t) (λ k g. let g1 : k < n = rw rows-length at g in rw (rows-at n t k g1) (addr-back (rowAt t k) (row-fits k g1) (bytes-rowAt t k b) (ok k g1)))
+  addrs-back = map-back addressBytes readAddress (rows n t)
+      (λ k g. let g1 : k < n = rw rows-length at g in rw (rows-at n t k g1) (addr-back (rowAt t k) (row-fits k g1) (bytes-rowAt t k b) (ok k g1)))
 
   pub blocks-back : map blockBytes (map readBlock (rows n t)) ≡ rows n t
-  blocks-back = map-back blockBytes readBlock (rows n t) (λ k g. let g1 : k < n = rw rows-length at g in rw (rows-at n t k g1) (block-back (rowAt t k) (row-fits k g1) (bytes-rowAt t k b) (ok k g1)))
+  blocks-back = map-back blockBytes readBlock (rows n t)
+      (λ k g. let g1 : k < n = rw rows-length at g in rw (rows-at n t k g1) (block-back (rowAt t k) (row-fits k g1) (bytes-rowAt t k b) (ok k g1)))
 
 addr-tails : (P n : ℕ) (t : List ℕ) → all (addressOk P) (rows n t) ≡ true → (k : ℕ) → k < n → tailOk (rowAt t k) ≡ true
 addr-tails P n t o k g =
-    and-right (ltb (rowAddress (rowAt t k)) P) (tailOk (rowAt t k)) (ap (addressOk P) (sym (rows-at n t k g)) ∙ all-at (addressOk P) (rows n t) k [] o (rw rows-length g))
+    and-right (ltb (rowAddress (rowAt t k)) P) (tailOk (rowAt t k))
+    (ap (addressOk P) (sym (rows-at n t k g)) ∙ all-at (addressOk P) (rows n t) k [] o (rw rows-length g))
 
 block-tails : (d : ℕ) (t : List ℕ) → every (blockOk d) (rows d t) ≡ true → (k : ℕ) → k < d → tailOk (rowAt t k) ≡ true
 block-tails d t o k g =
     let rs : List (List ℕ) = drop (suc k) (rows d t) in
     and-left (tailOk (rowAt t k)) _
-    (and-right (ltb (rowSlot (rowAt t k)) d) _ (ap (λ (r : List ℕ). blockOk d r rs) (sym (rows-at d t k g)) ∙ every-at (blockOk d) (rows d t) k [] o (rw rows-length g)))
+    (and-right (ltb (rowSlot (rowAt t k)) d) _ (ap (λ (r : List ℕ). blockOk d r rs) (sym (rows-at d t k g))
+    ∙ every-at (blockOk d) (rows d t) k [] o (rw rows-length g)))
 
 -- a sound address table is the bytes of the rows that it holds
 pub addressTable-held : (P m n : ℕ) (t : List ℕ) → Bytes t → length t ≡ m * 40 → soundAddresses P m n t ≡ true → addressTable m (heldRows n t) ≡ t
@@ -125,7 +133,8 @@ addressTable-held P m n t b l s =
     let h : n ≤ m = leb-true n m (and-left (leb n m) _ s) in
     let o = and-left (all (addressOk P) (rows n t)) _ (and-right (leb n m) _ s) in
     let z = and-right (distinct (map rowAddress (rows n t))) _ (and-right (all (addressOk P) (rows n t)) _ (and-right (leb n m) _ s)) in
-    let e : (m - length (map readAddress (rows n t))) * 40 ≡ length (drop (n * 40) t) = omega (arith, length-map (rows n t) readAddress, rows-length n t, length-drop (n * 40) t) in
+    let e : (m - length (map readAddress (rows n t))) * 40 ≡ length (drop (n * 40) t)
+    = omega (arith, length-map (rows n t) readAddress, rows-length n t, length-drop (n * 40) t) in
     rw (addrs-back n t b (omega arith) (addr-tails P n t o), flat-rows n t, e, ← zeros-all (drop (n * 40) t) z) (take-append-drop (n * 40) t)
 
 -- a sound block table is the bytes of its rows

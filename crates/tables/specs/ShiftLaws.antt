@@ -15,7 +15,8 @@ length-zeros n = length-replicate n 0
 
 -- a run moved down by 40 to `at`, and x in the place that it leaves at the end
 module _ (t x : List ℕ) (at last : ℕ) (h : at ≤ last) (g : last + 40 ≤ length t) where
-  pub moved-down : paste (paste t at (drop (at + 40) t) (last - at)) last x 40 ≡ (take at t ++ take (last - at) (drop (at + 40) t)) ++ (take 40 x ++ drop (last + 40) t)
+  pub moved-down : paste (paste t at (drop (at + 40) t) (last - at)) last x 40
+      ≡ (take at t ++ take (last - at) (drop (at + 40) t)) ++ (take 40 x ++ drop (last + 40) t)
   moved-down =
       let s : List ℕ = drop (at + 40) t in
       let p : List ℕ = paste t at s (last - at) in
@@ -31,7 +32,8 @@ pub moved-up : (t x : List ℕ) (at : ℕ) → at + 40 ≤ length t → paste (p
 moved-up t x at g =
     let p : List ℕ = paste t 40 t at in
     let e : 40 + at ≡ at + 40 = omega arith in
-    let b : drop 40 p ≡ take at t ++ drop (40 + at) t = ap (drop 40) (append-assoc (take 40 t) (take at t) (drop (40 + at) t)) ∙ drop-at (take 40 t) (take at t ++ drop (40 + at) t) 40 (length-part t 0 40 (omega arith)) in
+    let b : drop 40 p ≡ take at t ++ drop (40 + at) t = ap (drop 40) (append-assoc (take 40 t) (take at t) (drop (40 + at) t))
+    ∙ drop-at (take 40 t) (take at t ++ drop (40 + at) t) 40 (length-part t 0 40 (omega arith)) in
     ap (λ (l : List ℕ). take 40 x ++ l) (b ∙ rw e)
 
 -- push_row
@@ -47,7 +49,8 @@ replaced t x n i h g z =
     moved-down t x (i * 40) (n * 40 - 40) (omega arith) (omega arith) ∙ rw (flat-removeAt n t i h, take-all 40 x (omega arith), e)
 
 -- the same in a table of d rows
-pub replaced-all : (t x : List ℕ) (d i : ℕ) → length t ≡ d * 40 → flat (removeAt (rows d t) i) ++ (x ++ drop (d * 40) t) ≡ flat (removeAt (rows d t) i ++ (x ∷ []))
+pub replaced-all : (t x : List ℕ) (d i : ℕ) → length t ≡ d * 40
+    → flat (removeAt (rows d t) i) ++ (x ++ drop (d * 40) t) ≡ flat (removeAt (rows d t) i ++ (x ∷ []))
 unfolding flat
 replaced-all t x d i g =
     let k : length t ≤ d * 40 = omega arith in
@@ -69,7 +72,15 @@ cleared r l =
 pub length-freed : (r : List ℕ) → length r ≡ 40 → length (freed r) ≡ 40
 unfolding freed
 length-freed r l =
-    omega (arith, length-append (zeros 32) (take 4 (drop 32 r) ++ zeros 4), length-append (take 4 (drop 32 r)) (zeros 4), length-zeros 32, length-zeros 4, length-part r 32 4 (omega arith))
+    omega (
+      arith,
+      length-append (zeros 32) (take 4 (drop 32 r) ++ zeros 4),
+      length-append (take 4 (drop 32 r))
+          (zeros 4),
+      length-zeros 32,
+      length-zeros 4,
+      length-part r 32 4 (omega arith),
+    )
 
 -- to_front
 pub fronted : (t : List ℕ) (d i : ℕ) → i < d → length t ≡ d * 40
@@ -83,7 +94,8 @@ fronted t d i h g =
     ∙ rw (flat-removeAt d t i h, rows-at d t i h, take-all 40 (freed (rowAt t i)) k, take-all (d * 40 - 40 - i * 40) (drop (i * 40 + 40) t) m)
 
 -- address_row: the address in front, then the fingerprint, then the dirty byte
-pub addr-made : (row w g : List ℕ) (x : ℕ) → length row ≡ 40 → length g ≡ 32 → take 4 row ≡ w → drop 37 row ≡ 0 ∷ 0 ∷ 0 ∷ [] → set (paste row 4 g (length g)) 36 x ≡ w ++ (g ++ (x ∷ 0 ∷ 0 ∷ 0 ∷ []))
+pub addr-made : (row w g : List ℕ) (x : ℕ) → length row ≡ 40 → length g ≡ 32 → take 4 row ≡ w → drop 37 row ≡ 0 ∷ 0 ∷ 0 ∷ []
+    → set (paste row 4 g (length g)) 36 x ≡ w ++ (g ++ (x ∷ 0 ∷ 0 ∷ 0 ∷ []))
 addr-made row w g x l lg e z =
     let y : ℕ = getD row 36 0 in
     let d : drop 36 row ≡ y ∷ 0 ∷ 0 ∷ 0 ∷ [] = drop-cons row 36 0 (omega arith) ∙ ap (λ (s : List ℕ). y ∷ s) z in
@@ -113,7 +125,14 @@ fill-made r g l lg =
 pub length-filled : (g r : List ℕ) → length g ≡ 32 → length r ≡ 40 → length (filled g r) ≡ 40
 unfolding filled
 length-filled g r lg l =
-    omega (arith, length-append g (take 4 (drop 32 r) ++ (1 ∷ zeros 3)), length-append (take 4 (drop 32 r)) (1 ∷ zeros 3), length-zeros 3, length-part r 32 4 (omega arith))
+    omega (
+      arith,
+      length-append g (take 4 (drop 32 r) ++ (1 ∷ zeros 3)),
+      length-append (take 4 (drop 32 r)) (1 ∷ zeros 3),
+      length-zeros 3,
+      length-part r 32 4
+          (omega arith),
+    )
 
 -- all of a list replaced
 pub pasted-whole : (t x : List ℕ) (n : ℕ) → length t ≡ n → length x ≡ n → paste t 0 x n ≡ x

@@ -19,7 +19,8 @@ use Rattle.tables.specs.FindLaws.{all-hit, all-miss, all-end}
 
 -- the last four bytes of row k
 pub tail-rowAt : (t : List ℕ) (k : ℕ)
-    → tailOk (rowAt t k) ≡ leb (getD t (k * 40 + 36) 0) 1 && (eqb (getD t (k * 40 + 37) 0) 0 && (eqb (getD t (k * 40 + 38) 0) 0 && eqb (getD t (k * 40 + 39) 0) 0))
+    → tailOk (rowAt t k) ≡ leb (getD t (k * 40 + 36) 0) 1 &&
+    (eqb (getD t (k * 40 + 37) 0) 0 && (eqb (getD t (k * 40 + 38) 0) 0 && eqb (getD t (k * 40 + 39) 0) 0))
 unfolding tailOk
 tail-rowAt t k = rw (getD-rowAt t k 36 (omega arith), getD-rowAt t k 37 (omega arith), getD-rowAt t k 38 (omega arith), getD-rowAt t k 39 (omega arith))
 
@@ -150,7 +151,8 @@ every-at q (x ∷ xs) (suc k) z e h = every-at q xs k z (and-right (q x xs) (eve
 
 pub slots-below : (q d : ℕ) (t : List ℕ) → every (rowOk d) (rows d t) ≡ true → d ≤ q → (k : ℕ) → k < d → rowSlot (rowAt t k) < q
 slots-below q d t e h k b =
-    let o : rowOk d (rowAt t k) (drop (suc k) (rows d t)) ≡ true = ap (λ (r : List ℕ). rowOk d r (drop (suc k) (rows d t))) (sym (rows-at d t k b)) ∙ every-at (rowOk d) (rows d t) k [] e (rw rows-length b) in
+    let o : rowOk d (rowAt t k) (drop (suc k) (rows d t)) ≡ true = ap (λ (r : List ℕ). rowOk d r (drop (suc k) (rows d t))) (sym (rows-at d t k b))
+    ∙ every-at (rowOk d) (rows d t) k [] e (rw rows-length b) in
     let l : rowSlot (rowAt t k) < d = ltb-true _ _ (and-left _ _ o) in
     omega (arith, l, h)
 
@@ -228,4 +230,5 @@ tail-number t k =
     let e1 : k * 40 + 36 + 1 ≡ k * 40 + 37 = omega arith in
     let e2 : k * 40 + 36 + 2 ≡ k * 40 + 38 = omega arith in
     let e3 : k * 40 + 36 + 3 ≡ k * 40 + 39 = omega arith in
-    rw (e1, e2, e3) (tail-small (getD t (k * 40 + 36) 0) (getD t (k * 40 + 37) 0) (getD t (k * 40 + 38) 0) (getD t (k * 40 + 39) 0) _ refl ∙ sym (tail-rowAt t k))
+    rw (e1, e2, e3) (tail-small (getD t (k * 40 + 36) 0) (getD t (k * 40 + 37) 0) (getD t (k * 40 + 38) 0) (getD t (k * 40 + 39) 0) _ refl
+    ∙ sym (tail-rowAt t k))

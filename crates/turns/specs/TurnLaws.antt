@@ -28,7 +28,7 @@ use Rattle.paper.specs.Cache.{Numbers, Hashing, AddressRow, Box, Counters, noCo
 use Rattle.paper.specs.Engine.{Fixed, engine}
 use Rattle.paper.specs.Lent.{join, lentOf}
 use Rattle.paper.specs.Sound.{sound-readAs}
-use Rattle.paper.specs.LentLaws.{Passes, block-count, free-below, used-below, sound-lengths, sound-passes}
+use Rattle.paper.specs.LentLaws.{block-count, free-below, used-below, sound-lengths, sound-passes}
 use Rattle.paper.specs.Layout.{Parts, addressesOf, blocksOf}
 use Rattle.paper.specs.Index.{indexWhere}
 use Rattle.paper.specs.Batch.{Filled, Batched, addressesIn, blocksIn, isMiss, seen, firstRead, start, source, blockIn, added, batchRead, batch}
@@ -38,7 +38,7 @@ use Rattle.parts.specs.Rep.{numbersOf, withHeld, Rep}
 use Rattle.parts.specs.CopyLaws.{part-block, block-ends}
 use Rattle.step.specs.Steps.{Sure, out4}
 use Rattle.serve.specs.Calls.{Leaves, left, leaves, isYes, returned}
-use Rattle.turns.specs.Turns.{countedBy, Turned, Lends}
+use Rattle.turns.specs.Turns.{Turned, Lends}
 
 -- the bytes of a sound box have an index: the table's length, and no fingerprint used twice
 pub indexable : (b : BoxRecord) (disk flash addrs blocks : List ℕ) (s : Box (Fixed 32) (Fixed (b .size))) → Rep b disk flash addrs blocks s → Sure b s
