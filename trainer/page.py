@@ -1,7 +1,8 @@
 #!/usr/bin/env python3
 """Makes one HTML page of a list: for each line a picture of both tables, flash and disk. Reads the output of `states --full` from standard input and
 writes the page to standard output. The page has no script and needs no other file. An argument gives the page's title.
-A page has at most 5,000,000 bytes: of a longer list it shows the first lines and the sums, and says so, on standard error too."""
+A page has at most 5,000,000 bytes: of a longer list it shows the first lines and the sums, and says so, on standard error too.
+The page is in UTF-8 whatever the locale is. The exit status is 1 where it cannot be written, and a message says why."""
 import html
 import sys
 
@@ -204,6 +205,15 @@ def section(step, before, m):
     return f'<section><h2>{title}</h2><p class="said">{text}</p><div class="parts">{"".join(parts)}</div></section>\n'
 
 
+def put(text):
+    """Writes the page to standard output."""
+    try:
+        with open(1, "w", encoding="utf-8") as out:
+            out.write(text)
+    except OSError as error:
+        sys.exit(f"page.py: the page cannot be written: {error.strerror}")
+
+
 def main():
     box, steps = read(sys.stdin)
     if not steps:
@@ -230,7 +240,7 @@ def main():
         print(f"page.py: {what}", file=sys.stderr)
     out.append(section(last, before, m))
     out.append("</body>\n</html>\n")
-    sys.stdout.write("".join(out))
+    put("".join(out))
 
 
 if __name__ == "__main__":

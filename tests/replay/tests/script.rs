@@ -280,3 +280,28 @@ fn a_page_of_five_megabytes() {
     assert!(said.contains(&message) && page.contains(&message[1..]), "{pictures} pictures: {said}");
     println!("a page of {} bytes with {pictures} of 400 lines", page.len());
 }
+
+/// Output that is lost, to a full device or to a pipe that nobody reads, and a list that cannot be read: never status 0. A pipe may end a program by its signal.
+#[test]
+fn lost_output_and_lists_that_cannot_be_read() {
+    let options: [&[&str]; 7] = [&["--states"], &["--parts"], &["--explain"], &["--counts"], &["--folder", "1"], &["--mark", "week.expected"], &["--page"]];
+    let run = |words: &[&str], input: &str, output: Stdio| {
+        let stdin = File::open(root().join(input)).unwrap();
+        let mut command = Command::new(root().join("replay"));
+        let done = command.args(words).current_dir(root().join("lessons")).stdin(stdin).stdout(output).stderr(Stdio::piped()).spawn().unwrap();
+        let done = done.wait_with_output().unwrap();
+        (done.status, String::from_utf8(done.stderr).unwrap())
+    };
+    for words in options {
+        let full = std::fs::OpenOptions::new().write(true).open("/dev/full").unwrap();
+        let (status, said) = run(words, "lessons/counting.txt", full.into());
+        assert!(status.code() == Some(1) && said.ends_with("cannot be written: No space left on device\n"), "{words:?}: {status} {said}");
+        let (reader, unread) = std::io::pipe().unwrap();
+        drop(reader);
+        let (status, said) = run(words, "lessons/counting.txt", unread.into());
+        assert!(!status.success() && !said.contains("Traceback"), "{words:?}: {status} {said}");
+        let (status, said) = run(words, "lessons", Stdio::null());
+        assert!(status.code() == Some(1) && said.contains("the list cannot be read: Is a directory"), "{words:?}: {status} {said}");
+    }
+    println!("{} options with lost output, and with a list that cannot be read", options.len());
+}
