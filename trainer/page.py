@@ -1,6 +1,7 @@
 #!/usr/bin/env python3
-"""Makes one HTML page of a list: for each line a picture of both tables, flash and disk. Reads the output of `states --full` from standard input and
-writes the page to standard output. The page has no script and needs no other file. An argument gives the page's title.
+"""Makes one HTML page of a list: for each line what the cache did and why, and a picture of both tables, flash and disk. Reads the output of
+`states --full --explain` from standard input and writes the page to standard output. The page has no script and needs no other file. An argument gives
+the page's title.
 A page has at most 5,000,000 bytes: of a longer list it shows the first lines and the sums, and says so, on standard error too.
 The page is in UTF-8 whatever the locale is. The exit status is 1 where it cannot be written, and a message says why."""
 import html
@@ -22,6 +23,7 @@ section {{ border-top: 4px solid #333; padding: 0.5em 0 1em; break-inside: avoid
 h2 {{ font-size: 1.35em; margin: 0; }}
 h2 code {{ background: #eee; padding: 0 0.3em; border-radius: 4px; }}
 .said {{ margin: 0.15em 0 0.5em; }}
+.why {{ font-size: 0.85em; margin: 0 0 0.6em; padding-left: 1.4em; }}
 .refused {{ color: #a00000; font-weight: bold; }}
 .parts {{ display: flex; flex-wrap: wrap; gap: 0.6em 2em; align-items: flex-start; }}
 .part h3 {{ font-size: 0.85em; margin: 0 0 0.25em; color: #333; }}
@@ -62,49 +64,52 @@ REFUSALS = {
 
 
 class State:
-    """A box as the lines after an answer give it."""
+    """A box as the last lines after an answer give it."""
 
-    def __init__(self):
-        self.held, self.rows, self.slots, self.flash, self.disk = [], [], [], [], []
-
-    def take(self, line):
-        """Takes one line of the state in."""
-        word, _, rest = line.partition(" ")
-        if word in ("slots", "flash", "disk"):
-            setattr(self, word, rest.split())
-            return
-        held, _, blocks = line.partition("; blocks ")
-        self.held = [] if held == "none" else [part.split(":") for part in held.split(" ")]
-        self.rows = blocks.split(" ")
+    def __init__(self, lines=()):
+        self.held, self.rows = [], []
+        self.slots, self.flash, self.disk = (line.split()[1:] for line in lines[1:]) if lines else ([], [], [])
+        if lines:
+            held, _, blocks = lines[0].partition("; blocks ")
+            self.held = [] if held == "none" else [part.split(":") for part in held.split(" ")]
+            self.rows = blocks.split(" ")
 
     def contents(self):
         return [content.rstrip("*") for _, content in self.held]
 
 
 class Step:
-    """A line of the replay's output, the line of the list before it, and the state after it."""
+    """A line of the replay's output, the line of the list that it answers, and the lines after it: what was done and why, then, where there is a box, four lines
+    of its state."""
 
     def __init__(self, asked, answer):
-        self.asked, self.answer, self.state = asked, answer, State()
+        self.asked, self.answer, self.lines = asked, answer, []
+
+    def why(self):
+        """The reasons; the first stands behind the line of the list, which the page has already."""
+        reasons = self.lines[:-4] if self.asked is not None else self.lines if self.answer and self.answer.startswith("0 ") else []
+        return [line.removeprefix(f"{self.asked}: ") for line in reasons]
+
+    def state(self):
+        return State(self.lines[-4:] if len(self.lines) >= 4 else ())
 
 
 def read(lines):
     """The box's numbers, and the steps: the first has the state before the first call."""
-    box, steps, asked = None, [], None
+    box, steps = None, []
     for line in lines:
         text = line.rstrip("\n")
         if not text.startswith("    "):
-            steps.append(Step(asked, text))
-            asked = None
+            # The line of the list stands before its answer; line 1 and the sums have none.
+            has_line = steps and not text.startswith("reads")
+            steps.append(Step(steps[-1].lines.pop().removeprefix("asked ") if has_line else None, text))
+        elif steps:
+            steps[-1].lines.append(text[4:])
         elif text.startswith("    box "):
             box = text.split()[1:]
             steps.append(Step(None, None))
-        elif text.startswith("    asked "):
-            asked = text[len("    asked "):]
-        elif steps:
-            steps[-1].state.take(text[4:])
         else:
-            sys.exit(f"page.py: this is not the output of `states --full`: {text}")
+            sys.exit(f"page.py: this is not the output of `states --full --explain`: {text}")
     return box, steps
 
 
@@ -190,19 +195,26 @@ def said(step):
     return f'{call}{content}. <b>{word}</b>: {WORDS[word]}. {plural(flash_writes, "flash write")}, {plural(primary_writes, "primary write")}.'
 
 
+def why(step):
+    """What the cache did and why, or the rule that a refused line breaks."""
+    reasons = "".join(f"<li>{html.escape(reason)}</li>" for reason in step.why())
+    return f'<ul class="why">{reasons}</ul>' if reasons else ""
+
+
 def section(step, before, m):
-    number = "" if step.answer is None or step.answer.startswith("reads") else step.answer.split(" ")[0]
     if step.answer is None:
         title, text = "At the start", "The box is fresh: no address is held and every block row is free."
     elif step.answer.startswith("reads"):
         return f'<section><h2>The sums</h2><p class="said sums">{said(step)}</p></section>\n'
     else:
         asked = "line 1" if step.asked is None else step.asked or "an empty line"
-        title, text = f"{number} &nbsp;<code>{html.escape(asked)}</code>", said(step)
-    if not step.state.rows:
-        return f'<section><h2>{title}</h2><p class="said">{text}</p></section>\n'
-    parts = [addresses(step.state, before, m), blocks(step.state, before), flash(step.state, before), disk(step.state, before)]
-    return f'<section><h2>{title}</h2><p class="said">{text}</p><div class="parts">{"".join(parts)}</div></section>\n'
+        title, text = f"{step.answer.split(' ')[0]} &nbsp;<code>{html.escape(asked)}</code>", said(step)
+    head = f'<h2>{title}</h2><p class="said">{text}</p>{why(step)}'
+    now = step.state()
+    if not now.rows:
+        return f"<section>{head}</section>\n"
+    parts = [addresses(now, before, m), blocks(now, before), flash(now, before), disk(now, before)]
+    return f'<section>{head}<div class="parts">{"".join(parts)}</div></section>\n'
 
 
 def put(text):
@@ -217,22 +229,22 @@ def put(text):
 def main():
     box, steps = read(sys.stdin)
     if not steps:
-        sys.exit("page.py: standard input is empty; it takes the output of `states --full`")
+        sys.exit("page.py: standard input is empty; it takes the output of `states --full --explain`")
     title = html.escape(sys.argv[1] if len(sys.argv) > 1 else "A list of requests, line by line")
     numbers = "The box line is refused." if box is None else "Blocks of {} bytes, {} disk blocks, at most {} addresses held, {} cached blocks.".format(*box)
     m = int(box[2]) if box else 0
     out = [HEAD.format(title=title, box=numbers)]
     # What comes after the last picture has room in any case: the sums, and how many lines are left out.
     last = steps[-1]
-    room = MOST_BYTES - len(out[0].encode()) - len(section(last, last.state, m).encode()) - 1_000
-    before, shown = steps[0].state, 0
+    room = MOST_BYTES - len(out[0].encode()) - len(section(last, last.state(), m).encode()) - 1_000
+    before, shown = steps[0].state(), 0
     for step in steps[:-1]:
         text = section(step, before, m)
         room -= len(text.encode())
         if room < 0:
             break
         out.append(text)
-        before, shown = step.state, shown + 1
+        before, shown = step.state(), shown + 1
     left = len(steps) - 1 - shown
     if left:
         what = f"a page has at most {MOST_BYTES:,} bytes, so the last {left} lines of the list are left out"

@@ -16,7 +16,7 @@
  *     disk    the first byte of each disk block
  *
  * With --explain, lines stand between each answer and its state that say what the cache did and why, the first after the line's text; of a refused line, the
- * rule that it breaks:
+ * rule that it breaks; --full --explain has both:
  *
  *     6 R 2 miss 1 1
  *         R 2: address 2 is held, but its block, content 2, is not in flash: it comes from the disk
@@ -820,15 +820,15 @@ static void replay(void)
         open_folder(number);
 }
 
-/* Takes the folder's addresses from a word of the command: decimals as in a list, with commas between them. Gives 0 where they are not of that form. */
-static int take_folder(const char *word)
+/* Takes numbers from a word of the command: decimals as in a list, with commas between them, each at most `most` and as many as there is room for. Gives 0
+ * where the word is not of that form. */
+static int take_numbers(const char *word, uint32_t *numbers, size_t *count, size_t room, unsigned long most)
 {
-    has_folder = 1;
     while (*word) {
         size_t digits = strspn(word, "0123456789");
-        if (digits == 0 || digits > 5 || (digits > 1 && *word == '0') || folder_count == MOST_FOLDER)
+        if (digits == 0 || digits > 5 || (digits > 1 && *word == '0') || *count == room || strtoul(word, NULL, 10) > most)
             return 0;
-        folder[folder_count++] = (uint32_t)strtoul(word, NULL, 10);
+        numbers[(*count)++] = (uint32_t)strtoul(word, NULL, 10);
         word += digits;
         if (*word == ',' && word[1])
             word++;
@@ -838,41 +838,27 @@ static int take_folder(const char *word)
     return 1;
 }
 
-/* Takes the contents of the first disk blocks, in the same form. Gives 0 where they are not of that form. */
-static int take_contents(const char *word)
-{
-    while (*word) {
-        size_t digits = strspn(word, "0123456789");
-        if (digits == 0 || digits > 3 || (digits > 1 && *word == '0') || given_count == MOST_P || strtoul(word, NULL, 10) > 255)
-            return 0;
-        given[given_count++] = (uint32_t)strtoul(word, NULL, 10);
-        word += digits;
-        if (*word == ',' && word[1])
-            word++;
-        else if (*word)
-            return 0;
-    }
-    return 1;
-}
+static int is_option(int count, char **words, int place, const char *text) { return place < count && strcmp(words[place], text) == 0; }
 
 int main(int count, char **words)
 {
-    full = count == 2 && strcmp(words[1], "--full") == 0;
-    parts = count == 2 && strcmp(words[1], "--parts") == 0;
-    explains = count == 2 && strcmp(words[1], "--explain") == 0;
-    counting = (count == 2 || count == 3) && strcmp(words[1], "--counts") == 0;
-    if (counting) {
-        if (count == 3 && !take_contents(words[2])) {
+    full = is_option(count, words, 1, "--full");
+    parts = is_option(count, words, 1, "--parts");
+    explains = is_option(count, words, full ? 2 : 1, "--explain");
+    counting = is_option(count, words, 1, "--counts");
+    has_folder = is_option(count, words, 1, "--folder") && count == 3;
+    if (counting && count <= 3) {
+        if (count == 3 && !take_numbers(words[2], given, &given_count, MOST_P, 255)) {
             fprintf(stderr, "states: --counts takes at most %d contents from 0 to 255 with commas between them, such as 0,7,7: %s\n", MOST_P, words[2]);
             return 2;
         }
-    } else if (count == 3 && strcmp(words[1], "--folder") == 0) {
-        if (!take_folder(words[2])) {
+    } else if (has_folder) {
+        if (!take_numbers(words[2], folder, &folder_count, MOST_FOLDER, 99999)) {
             fprintf(stderr, "states: --folder takes at most %d addresses with commas between them, such as 2,5,2: %s\n", MOST_FOLDER, words[2]);
             return 2;
         }
-    } else if (count > 1 && !full && !parts && !explains) {
-        fprintf(stderr, "states: unknown option %s; there are --full, --parts, --explain, --counts and --folder ADDRESSES\n", words[1]);
+    } else if (count > 1 + full + parts + explains) {
+        fprintf(stderr, "states: unknown option %s; there are --full, --parts, --explain, --full --explain, --counts and --folder ADDRESSES\n", words[1]);
         return 2;
     }
     replay();

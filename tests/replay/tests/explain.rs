@@ -179,15 +179,21 @@ fn served_lines() {
     println!("{} served lines with what is said of them", SERVED.len());
 }
 
+/// Random lists, inputs by hand, and one of each malformed kind.
+fn inputs(random: &mut Random, lists: usize) -> Vec<Vec<u8>> {
+    let mut inputs: Vec<Vec<u8>> = (0..lists).map(|_| random_list(random)).collect();
+    inputs.extend(cases().into_iter().map(|(input, _)| input));
+    inputs.extend(KINDS.iter().map(|(_, make)| make(random)));
+    inputs
+}
+
 /// Of any list: the answers and states are those without the option, each line has its reason, and what is said to be stored and copied is what the
 /// answer counts.
 #[test]
 fn random_lists() {
     let (build, how) = if SANITIZED.links() { (&SANITIZED, "under the sanitizers") } else { (&PLAIN, "no sanitizers on this machine") };
     let mut random = Random(68);
-    let mut inputs: Vec<Vec<u8>> = (0..LISTS).map(|_| random_list(&mut random)).collect();
-    inputs.extend(cases().into_iter().map(|(input, _)| input));
-    inputs.extend(KINDS.iter().map(|(_, make)| make(&mut random)));
+    let inputs = inputs(&mut random, LISTS);
     let (mut stored, mut copied, mut freed) = (0, 0, 0);
     for input in &inputs {
         let output = explained(build, input);
@@ -224,6 +230,31 @@ fn random_lists() {
     }
     assert!(stored > 1_000 && copied > 500 && freed > 100, "{stored} stored, {copied} copied, {freed} freed");
     println!("{} lists, {how}: {stored} blocks said to be stored, {copied} copied, {freed} rows freed", inputs.len());
+}
+
+/// A page has the reasons of every line, in their order, and no byte of the list becomes markup; the line's text, which is its heading, is not told again.
+#[test]
+fn on_the_page() {
+    let escaped = |text: &str| text.replace('&', "&amp;").replace('<', "&lt;").replace('>', "&gt;").replace('"', "&quot;").replace('\'', "&#x27;");
+    let (mut count, mut pages) = (0, 0);
+    for input in inputs(&mut Random(70), 40).into_iter().step_by(4) {
+        let both = Program::states(&PLAIN, &["--full", "--explain"]).run(&input, Writing::Whole);
+        let page = String::from_utf8(Program::page("reasons").run(&both, Writing::Whole)).unwrap();
+        let mut shown = page.split("<li>").skip(1).map(|rest| rest.split("</li>").next().unwrap());
+        for (answer, reasons) in reasons(&explained(&PLAIN, &input)) {
+            for (k, reason) in reasons.iter().enumerate() {
+                let item = shown.next().unwrap();
+                let (whole, tail) = (escaped(reason), format!(": {item}"));
+                let first = k == 0 && !answer.starts_with("0 ");
+                assert!(whole == item && (!first || answer.contains("refused")) || first && whole.ends_with(&tail), "{answer}: {reason}, and on the page {item}");
+                count += 1;
+            }
+        }
+        assert_eq!(shown.next(), None);
+        pages += 1;
+    }
+    assert!(pages > 40 && count > 500, "{pages} pages with {count} reasons");
+    println!("{pages} pages with {count} reasons");
 }
 
 /// The example of lessons/README.md.

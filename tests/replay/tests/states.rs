@@ -119,7 +119,7 @@ fn malformed_inputs() {
 #[test]
 fn the_page_of_the_week() {
     let read = |name: &str| std::fs::read(root().join(name)).unwrap();
-    let full = Program::states(&PLAIN, &["--full"]).run(&read("lessons/week.txt"), Writing::Whole);
+    let full = Program::states(&PLAIN, &["--full", "--explain"]).run(&read("lessons/week.txt"), Writing::Whole);
     let page = Program::page("The sealed page through the week").run(&full, Writing::Whole);
     assert!(page == read("docs/week.html"), "docs/week.html is another page: `./replay --page lessons/week.txt > docs/week.html` makes it");
     println!("docs/week.html: {} bytes", page.len());
@@ -132,7 +132,7 @@ fn pages() {
     let mut pictures = 0;
     for k in 0..2 * KINDS.len() {
         let input = if k % 2 == 0 { KINDS[k / 2].1(&mut random) } else { [&b"box 64 8 3 2\nR 1\n<script>\n&amp;\n"[..], &random_list(&mut random)].concat() };
-        let full = Program::states(&PLAIN, &["--full"]).run(&input, Writing::Whole);
+        let full = Program::states(&PLAIN, &["--full", "--explain"]).run(&input, Writing::Whole);
         let page = String::from_utf8(Program::page("<title> & \"title\"").run(&full, Writing::Whole)).unwrap();
         let lines = states::without_states(std::str::from_utf8(&full).unwrap()).lines().count();
         let first = full.starts_with(b"    box") as usize;
