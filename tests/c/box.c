@@ -5,20 +5,9 @@
 #include <stdlib.h>
 #include <string.h>
 #include "mindavehu.h"
+#include "expect.h"
 
 enum { B = 128, P = 16, M = 5, D = 3, COUNT = 4, CALLS = 4000 };
-
-static unsigned checks;
-
-static void expect_at(int line, const char *what, int holds)
-{
-    checks++;
-    if (!holds) {
-        printf("box: line %d fails: %s\n", line, what);
-        exit(1);
-    }
-}
-#define EXPECT(fact) expect_at(__LINE__, #fact, (fact))
 
 /* The memory of a box, the bytes behind the state and the answers included. */
 struct memory {

@@ -5,18 +5,7 @@
 #include <stdlib.h>
 #include <string.h>
 #include "mindavehu.h"
-
-static unsigned checks;
-
-static void expect_at(int line, const char *what, int holds)
-{
-    checks++;
-    if (!holds) {
-        printf("week: line %d fails: %s\n", line, what);
-        exit(1);
-    }
-}
-#define EXPECT(fact) expect_at(__LINE__, #fact, (fact))
+#include "expect.h"
 
 /* A box: each buffer is its own piece of the heap, so that a sanitizer sees every byte past an end. */
 struct box {
