@@ -9,6 +9,11 @@ pub fn root() -> PathBuf {
     Path::new(env!("CARGO_MANIFEST_DIR")).join("../..").canonicalize().unwrap()
 }
 
+/// The blocks of code of a page, without a word behind their first mark.
+pub fn fences(page: &str) -> Vec<&str> {
+    page.split("```\n").skip(1).step_by(2).collect()
+}
+
 /// A program that reads standard input and writes standard output.
 pub struct Program {
     path: PathBuf,

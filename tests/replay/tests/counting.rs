@@ -2,7 +2,7 @@
 //! program.
 use common::{Progress, Random};
 use replay::lists::Shape;
-use replay::programs::{root, Program, Writing, PLAIN};
+use replay::programs::{fences, root, Program, Writing, PLAIN};
 use replay::{replay, states};
 use std::collections::HashSet;
 
@@ -91,9 +91,8 @@ fn other_lines() {
 #[test]
 fn the_lesson() {
     let page = std::fs::read_to_string(root().join("lessons/counting.md")).unwrap();
-    let blocks: Vec<&str> = page.split("```\n").skip(1).step_by(2).collect();
     let mut shown = 0;
-    for pair in blocks.windows(2) {
+    for pair in fences(&page).windows(2) {
         let Some(words) = pair[0].strip_prefix("./replay --").map(str::trim_end) else { continue };
         let words: Vec<&str> = words.split(' ').collect();
         let (options, file): (Vec<&str>, &str) = match words[..] {

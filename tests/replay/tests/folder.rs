@@ -1,7 +1,7 @@
 //! A folder opened after a list, with one call and read by read: the trainer's program against the model, and the lesson against the program.
 use common::{Progress, Random};
 use replay::lists::random_list;
-use replay::programs::{root, Build, Program, Writing, PLAIN, SANITIZED};
+use replay::programs::{fences, root, Build, Program, Writing, PLAIN, SANITIZED};
 use replay::states::{folder, option};
 
 const LISTS: usize = 400;
@@ -53,9 +53,8 @@ fn fetched_in_turn() {
 #[test]
 fn the_lesson() {
     let page = std::fs::read_to_string(root().join("lessons/folder.md")).unwrap();
-    let blocks: Vec<&str> = page.split("```\n").skip(1).step_by(2).collect();
     let mut shown = 0;
-    for pair in blocks.windows(2) {
+    for pair in fences(&page).windows(2) {
         let Some(words) = pair[0].strip_prefix("./replay --folder ") else { continue };
         let (asked, file) = words.trim_end().split_once(' ').unwrap();
         let asked: Vec<u32> = asked.trim_matches('"').split(',').filter(|a| !a.is_empty()).map(|a| a.parse().unwrap()).collect();

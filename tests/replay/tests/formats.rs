@@ -1,21 +1,17 @@
 //! docs/FORMATS.md: its example, its refusals, its record and its rows against the model, the header and the proved program.
 use model::{Cache, Call, Lent};
-use replay::programs::{root, Program, Writing};
+use replay::programs::{fences, root, Program, Writing};
 
 fn read(name: &str) -> String {
     std::fs::read_to_string(root().join(name)).unwrap()
 }
 
-fn fences() -> Vec<String> {
-    read("docs/FORMATS.md").split("```\n").skip(1).step_by(2).map(str::to_string).collect()
-}
-
 #[test]
 fn the_example() {
-    let fences = fences();
-    let (list, answers) = (&fences[0], &fences[1]);
-    assert_eq!(String::from_utf8(Program::replay().run(list.as_bytes(), Writing::Whole)).unwrap(), *answers);
-    assert_eq!(String::from_utf8(replay::replay(list.as_bytes())).unwrap(), *answers);
+    let page = read("docs/FORMATS.md");
+    let [list, answers, ..] = fences(&page)[..] else { panic!("the page has a list and its answers") };
+    assert_eq!(String::from_utf8(Program::replay().run(list.as_bytes(), Writing::Whole)).unwrap(), answers);
+    assert_eq!(String::from_utf8(replay::replay(list.as_bytes())).unwrap(), answers);
     println!("the example of docs/FORMATS.md, {} lines", answers.lines().count());
 }
 
@@ -27,9 +23,9 @@ fn the_rows() {
     let mut lent = Lent { state: vec![], disk: vec![], flash: vec![], addresses: vec![], blocks: vec![], block: vec![], answer: vec![] };
     cache.store(&mut lent);
     let bytes = |text: &str| text.split_whitespace().map(|byte| u8::from_str_radix(byte, 16).unwrap()).collect::<Vec<u8>>();
-    let fences = fences();
-    assert_eq!(bytes(&fences[2]), lent.addresses[..40]);
-    assert_eq!(bytes(&fences[3]), lent.blocks);
+    let page = read("docs/FORMATS.md");
+    assert_eq!(bytes(fences(&page)[2]), lent.addresses[..40]);
+    assert_eq!(bytes(fences(&page)[3]), lent.blocks);
     println!("three rows of docs/FORMATS.md, byte for byte");
 }
 

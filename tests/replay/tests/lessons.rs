@@ -1,5 +1,5 @@
 //! Every lesson of lessons/: the proved program, the replay of this crate and the program of the states against the stored output.
-use replay::programs::{root, Program, Writing, PLAIN};
+use replay::programs::{fences, root, Program, Writing, PLAIN};
 use replay::{replay, states};
 use std::path::PathBuf;
 
@@ -54,8 +54,7 @@ fn in_order(page: &str, text: &str) -> bool {
 #[test]
 fn a_flush_in_parts() {
     let page = std::fs::read_to_string(root().join("lessons/flush-in-parts.md")).unwrap();
-    let fences: Vec<&str> = page.split("```\n").skip(1).step_by(2).collect();
-    let [input, shown] = fences[..] else { panic!("the page has a list and its output") };
+    let [input, shown] = fences(&page)[..] else { panic!("the page has a list and its output") };
     let written = String::from_utf8(Program::states(&PLAIN, &["--parts"]).run(input.as_bytes(), Writing::Whole)).unwrap();
     assert_eq!(written, states::in_parts(input.as_bytes()));
     assert_eq!(shown, written, "lessons/flush-in-parts.md does not tell its list as it is");
