@@ -211,9 +211,9 @@ module _ (N : Numbers) where
     shows t plain (Ask.read a l) z e = ap (λ x. x .block) (served-is N t (Ask.read a l) z) ∙ ap (blockAfter (Ask.read a l)) e
     shows t plain (Ask.look a) z e =
         ap {B = Option (List ℕ)} (λ x. some (x .part)) (served-is N t (Ask.look a) z) ∙ ap {B = Option (List ℕ)} (λ b. some (partAfter (Ask.look a) b)) e
-    shows t plain (Ask.through a l) z e = refl
-    shows t plain (Ask.back a l) z e = refl
-    shows t plain (Ask.invalidate a l) z e = refl
+    shows t plain (Ask.through a l seat) z e = refl
+    shows t plain (Ask.back a l seat) z e = refl
+    shows t plain (Ask.invalidate a l seat) z e = refl
     shows t plain (Ask.flush k) z e = refl
 
     shown : (t : Lent) (plain : List (Fixed (N .B))) (q : Asking) → Held t plain → numberOf N t q ≡ 0 → All In (writtenIn N q) → ShowsPlain N t plain q

@@ -9,7 +9,7 @@ use lib.Dec.{eqb}
 use lib.ListN.{replicate}
 use Rattle.tables.specs.Records.{slotsFrom}
 use Rattle.paper.specs.KeyedLaws.{eqb→≡, eqb-self}
-use Rattle.paper.specs.Cache.{Numbers, Hashing, AddressRow, Box, Outcome, newest, Call, about, before, read, through, back, invalidate, look, flush, Word}
+use Rattle.paper.specs.Cache.{Numbers, Hashing, AddressRow, Box, Outcome, newest, Call, about, before, read, look, flush, Word}
 use Rattle.paper.specs.Cache.{hit}
 use Rattle.paper.specs.Cache.{miss, sameBlock, newBlock, fromCache, fromDisk, done, fresh, serve, Counters, noCounts, counted}
 use Rattle.paper.specs.Cache.{step, step1, step3, step4, oldestOut, freed, oldestUnknown, victim, takenUsed, taken}
@@ -33,12 +33,22 @@ pub data Row : Type 0 where
   freeIn : ℕ → Row
   blockIn : ℕ → ℕ → Row
 
--- A held row: address and content, clean or dirty
+-- A held row: address and content, clean or dirty, last written by no seat or by seat 0
 abbrev clean : ℕ → ℕ → AddressRow ℕ
-clean a k = newest a k false
+clean a k = newest a k false (0, 0)
 
 abbrev dirty : ℕ → ℕ → AddressRow ℕ
-dirty a k = newest a k true
+dirty a k = newest a k true (0, 0)
+
+-- The writes of a replay carry 0.
+abbrev through : ℕ → ℕ → Call ℕ
+through a k = Call.through a k (0, 0)
+
+abbrev back : ℕ → ℕ → Call ℕ
+back a k = Call.back a k (0, 0)
+
+abbrev invalidate : ℕ → ℕ → Call ℕ
+invalidate a k = Call.invalidate a k (0, 0)
 
 abbrev counters : ℕ → ℕ → ℕ → ℕ → Counters
 counters r h f p = record { reads = r; hits = h; flashWrites = f; primaryWrites = p }
@@ -430,9 +440,9 @@ abbrev letter : Call ℕ → Letter
 letter (read a) = R
 letter (look a) = L
 letter (flush k) = F
-letter (through a b) = T
-letter (back a b) = B
-letter (invalidate a b) = I
+letter (Call.through a b z) = T
+letter (Call.back a b z) = B
+letter (Call.invalidate a b z) = I
 
 abbrev prints : ℕ → List Said → Counters → List PrintedLine
 prints i [] k = counts (k .reads) (k .hits) (k .flashWrites) (k .primaryWrites) ∷ []
