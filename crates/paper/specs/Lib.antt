@@ -6,6 +6,7 @@ pub mod Batch
 pub mod Worked
 pub mod Engine
 pub mod Lent
+pub mod Reports
 pub mod BatchLent
 pub mod Refused
 pub mod BatchWorked
