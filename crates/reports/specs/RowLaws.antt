@@ -3,9 +3,9 @@ use mathlib.Core.Path.{_≡_, refl, sym, ap, ap₂, _∙_}
 use mathlib.Core.Bool.{true, false}
 use mathlib.Core.List.{List, [], _∷_, _++_, map, append-assoc, append-nil}
 use Prim.Native.Nat.{ℕ, zero, suc, _+_, _-_, _*_, _≤_, _<_}
-use native.Mathlib.Nat.{suc-mul, add-zero}
+use native.Mathlib.Nat.{zero-mul, suc-mul, add-zero}
 use native.Mathlib.Omega.{arith}
-use lib.ListN.{length, take, getD, replicate-append-replicate, take-zero}
+use lib.ListN.{length, take, getD, replicate-append-replicate}
 use lib.Seq.{take-suc, take-all}
 use borrow.Author.Tests.{lt-ltb, le-ltb}
 use Rattle.tables.specs.Rows.{rowAt, flat, zeros}
@@ -64,7 +64,7 @@ module _ (w : Reader) (P m n : ℕ) (t : List ℕ) (l : List (AddressRow (Fixed 
   -- and zeros behind them
   zero-rows : (j : ℕ) → rowsIn (width w) n t (n + j) ≡ rowsIn (width w) n t n ++ zeros (j * width w)
   unfolding rowsIn zeros
-  zero-rows zero = ap (rowsIn (width w) n t) (add-zero n) ∙ sym (append-nil (rowsIn (width w) n t n))
+  zero-rows zero = ap (rowsIn (width w) n t) (add-zero n) ∙ rw (zero-mul (width w)) (sym (append-nil (rowsIn (width w) n t n)))
   zero-rows (suc j) =
       let e : n + suc j ≡ suc (n + j) = omega arith in
       let s : j * width w + width w ≡ suc j * width w = sym (suc-mul j (width w)) in

@@ -36,6 +36,7 @@ pub(crate) fn width_of(reader: Reader) -> usize
 pub(crate) fn row_bytes(addresses: &[u8], n: usize, k: usize) -> [u8; 7]
     requires { ⌜ HasRow (now addresses) k ⌝ }
     ensures { λ r. ⌜ r ≡ rowIn n (now (addresses .entry)) k ⌝ }
+    ensures { λ r. ⌜ length r ≡ 7 ⌝ }
 {
     let mut r = [0u8; 7];
     if n <= k {

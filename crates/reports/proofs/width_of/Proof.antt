@@ -12,4 +12,4 @@ returns-2 : tie.Need-returns-2
 returns-2 c = rw (c .enum-told2 .given .1) (refl, omega arith)
 
 pub width-of-spec : {M : Type 1} → statement M
-width-of-spec = tie.close (tie.spec returns returns-2)
+width-of-spec = tie.close (tie.spec (λ c. search needs) (λ c. search needs) returns returns-2)
