@@ -195,12 +195,10 @@ module _ (N : Numbers) where
   )
 
   report-is : (y : Kept) (t : Lent) (c : Report) → Is y t → Reports y c → (numbersOf (c .left .box) ≡ N) × AsPaper N t (reporting c)
-  report-is y t c i m = (
-    ap (λ (x : Kept). numbersOf (x .box)) (m .2) ∙ i .numbers,
-    subst₂ (λ (M : Numbers) (x : Lent). c .number ≡ reportRefusal M x (c .reader) (c .lentBytes)) (i .numbers) (i .lent) (m .0),
-    subst₂ (λ (M : Numbers) (x : Lent). c .bytes ≡ reported M x (c .reader) (c .lentBytes)) (i .numbers) (i .lent) (m .1),
-    ap lentIn (m .2) ∙ i .lent,
-  )
+  report-is y t c i m =
+      let number = subst₂ (λ (M : Numbers) (x : Lent). c .number ≡ reportRefusal M x (c .reader) (c .lentBytes)) (i .numbers) (i .lent) (m .0) in
+      let bytes = subst₂ (λ (M : Numbers) (x : Lent). c .bytes ≡ reported M x (c .reader) (c .lentBytes)) (i .numbers) (i .lent) (m .1) in
+      (ap (λ (x : Kept). numbersOf (x .box)) (m .2) ∙ i .numbers, (number, bytes, ap lentIn (m .2) ∙ i .lent))
 
   made-is : (y : Kept) (t : Lent) (c : Made) → Is y t → Written N t → MeetsIts y c → (numbersOf (leftBy c .box) ≡ N) × AsPaper N t c
   made-is y t (single c) i w m = meets-is y t c (c .ask) i w refl m
