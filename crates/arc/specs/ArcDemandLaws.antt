@@ -172,7 +172,7 @@ module _ (Z : Sizes) where
   abbrev pub arcOutcome : ArcLent → Ask → Served (Fixed 32) (Fixed (Z .B)) Lists
   arcOutcome t q = serveBy H (arc H Z) (listsOf t) (boxOf Z t) (callOf (Z .B) q)
 
-  served-is : (t : ArcLent) (q : Ask) → arcRefusal Z t (calling q) ≡ 0 → arcCall Z t q ≡ arcServed Z t q
+  pub served-is : (t : ArcLent) (q : Ask) → arcRefusal Z t (calling q) ≡ 0 → arcCall Z t q ≡ arcServed Z t q
   unfolding arcCall
   served-is t q e = rw (e, arcCall) refl
 
@@ -215,7 +215,7 @@ module _ (Z : Sizes) where
     served-passes =
         subst ArcPasses (sym served-lent) (right-passes ((arcOutcome t q) .kept) ((arcOutcome t q) .outcome .box) outcome-right after (found t q e .fits))
 
-    served-counters : ((arcCall Z t q) .lent) .base .counters ≡ after
+    pub served-counters : ((arcCall Z t q) .lent) .base .counters ≡ after
     unfolding lentOf
     served-counters = ap (λ x. x .base .counters) served-lent
 
@@ -300,7 +300,7 @@ module _ (Z : Sizes) where
         counters = y .1 .1 .1 .0;
       }
 
-  folder-served : (t : ArcLent) (l b : List ℕ) → arcFolderRefusal Z t l b ≡ 0 → arcFolderCall Z t l b ≡ arcServedFolder Z t l
+  pub folder-served : (t : ArcLent) (l b : List ℕ) → arcFolderRefusal Z t l b ≡ 0 → arcFolderCall Z t l b ≡ arcServedFolder Z t l
   unfolding arcFolderCall
   folder-served t l b e = rw (e, arcFolderCall) refl
 
@@ -329,6 +329,17 @@ module _ (Z : Sizes) where
         ap (boxOf Z) folder-lent
         ∙ box-back ((folderFrom Z t l) .kept) ((folderFrom Z t l) .batched .box) folder-right ((folderFrom Z t l) .batched .counters)
         (folder-found t l b e .fits)
+
+    pub folder-lists : listsOf ((arcFolderCall Z t l b) .lent) ≡ (folderFrom Z t l) .kept
+    unfolding arcLentOf
+    folder-lists =
+        ap listsOf folder-lent
+        ∙ lists-out ((folderFrom Z t l) .kept) ((folderFrom Z t l) .batched .box) folder-right ((folderFrom Z t l) .batched .counters)
+        (folder-found t l b e .fits)
+
+    pub folder-counters : ((arcFolderCall Z t l b) .lent) .base .counters ≡ (folderFrom Z t l) .batched .counters
+    unfolding arcLentOf lentOf
+    folder-counters = ap (λ x. x .base .counters) folder-lent
 
     pub folder-passes : ArcPasses ((arcFolderCall Z t l b) .lent)
     unfolding arcLentOf
