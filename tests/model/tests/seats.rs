@@ -112,8 +112,8 @@ fn used() -> Lent {
 #[test]
 fn what_six_asks_for() {
     for call in CALLS.into_iter().filter(|call| *call != Call::Open) {
-        for (place, number) in [(37, 0), (38, 0), (39, 6), (ROW + 37, 0), (ROW + 38, 0), (ROW + 39, 6), (2 * ROW + 37, 6), (2 * ROW + 38, 6), (2 * ROW + 39, 6)] {
-            let mut lent = used();
+        for (row, byte, number) in (0..3).flat_map(|row| [37, 38, 39].map(|byte| (row, byte, if row == 2 || byte == 39 { 6 } else { 0 }))) {
+            let (mut lent, place) = (used(), row * ROW + byte);
             lent.addresses[place] ^= 0x81;
             assert_eq!(refusal(call, 5, &lent), number, "{call:?}, byte {place}");
             assert_eq!(REPORTS.map(|report| refusal_report(report, &lent, 3 * report.row())), [number; 2], "byte {place}");
