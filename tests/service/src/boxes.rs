@@ -36,6 +36,18 @@ pub fn office(lent: &Lent) -> Label {
     lent.label[..].try_into().unwrap()
 }
 
+/// The number of a seat: any, and as often one of the edges, of which some differ in one of their two bytes alone.
+pub fn any_seat(random: &mut Random) -> u16 {
+    let any = random.number() as u16;
+    pick(random, &[0, 1, 255, 256, 65_535, any, any, any, any, any])
+}
+
+/// One of these calls, by any seat where it is a write.
+pub fn pick_call(random: &mut Random, calls: &[Call]) -> Call {
+    let call = pick(random, calls);
+    call.by_seat(any_seat(random))
+}
+
 /// How many rows a flush is to clean at most: none, few, as many as can be held, more, and the largest number.
 pub fn most(random: &mut Random, m: usize) -> usize {
     let few = random.below(4);
@@ -115,7 +127,7 @@ pub fn unopened(random: &mut Random, shape: Shape, contents: &Contents) -> Lent 
 }
 
 /// A sound box, reachable or not: addresses without blocks beside blocks without addresses, dirty rows that share a block, slots in any
-/// order, a used fingerprint of zeros, fingerprints that are not those of the blocks in their slots, counters up to the largest.
+/// order, a used fingerprint of zeros, fingerprints that are not those of the blocks in their slots, any seats, counters up to the largest.
 pub fn sound(random: &mut Random, shape: Shape) -> Lent {
     sound_at(random, shape, None)
 }
@@ -186,7 +198,8 @@ pub fn sound_at(random: &mut Random, shape: Shape, place: Option<usize>) -> Lent
     for address in &addresses[..n] {
         let k = random.below(choice);
         let dirty = (k < used && random.below(2) == 0) as u8;
-        rows.extend(AddressRow { address: *address, fingerprint: fingerprints[k], dirty, padding: [0; 3] }.to_bytes());
+        let seat = any_seat(random);
+        rows.extend(AddressRow { address: *address, fingerprint: fingerprints[k], dirty, seat, padding: 0 }.to_bytes());
     }
     rows.resize(m * ROW, 0);
     lent.addresses = rows;
@@ -249,6 +262,7 @@ pub enum Damage {
     DirtyAboveOne,
     AddressPadding,
     TailNotZero,
+    SeatBehind,
     FreeAfterUsed,
     UsedAboveOne,
     BlockPadding,
@@ -264,7 +278,7 @@ pub enum Damage {
 }
 
 /// With the number of each, in the order of the checks. Several are applied from the last to the first.
-pub const DAMAGES: [(Damage, u32); 29] = [
+pub const DAMAGES: [(Damage, u32); 30] = [
     (Damage::B, 1),
     (Damage::P, 1),
     (Damage::M, 1),
@@ -282,6 +296,7 @@ pub const DAMAGES: [(Damage, u32); 29] = [
     (Damage::DirtyAboveOne, 6),
     (Damage::AddressPadding, 6),
     (Damage::TailNotZero, 6),
+    (Damage::SeatBehind, 6),
     (Damage::FreeAfterUsed, 7),
     (Damage::UsedAboveOne, 7),
     (Damage::BlockPadding, 7),
@@ -417,8 +432,10 @@ pub fn damage(random: &mut Random, lent: &mut Lent, address: &mut u32, kind: Dam
             lent.addresses[two * ROW..two * ROW + 4].copy_from_slice(&rows[one].address.to_le_bytes());
         }
         Damage::DirtyAboveOne if n > 0 => lent.addresses[row + 36] = nonzero.max(2),
-        Damage::AddressPadding if n > 0 => lent.addresses[row + 37 + random.below(3)] = nonzero,
+        Damage::AddressPadding if n > 0 => lent.addresses[row + 39] = nonzero,
         Damage::TailNotZero if n < m => lent.addresses[n * ROW + random.below((m - n) * ROW)] = nonzero,
+        // A seat in a row that is not held.
+        Damage::SeatBehind if n < m => lent.addresses[(n + random.below(m - n)) * ROW + 37 + random.below(2)] = nonzero,
         Damage::FreeAfterUsed if !used.is_empty() && !free.is_empty() => {
             let (one, two) = (pick(random, &free), pick(random, &used));
             let (first, second) = (blocks[one].to_bytes(), blocks[two].to_bytes());
@@ -496,8 +513,9 @@ pub fn noise(random: &mut Random) -> Lent {
     if random.below(2) == 0 {
         for (k, row) in lent.addresses.chunks_exact_mut(ROW).enumerate() {
             row[1..4].fill(0);
-            row[36..].fill(0);
+            // The seat may be any, and its bytes are left as they are.
             row[36] = (random.below(4) == 0) as u8;
+            row[39] = 0;
             if k as u64 >= n {
                 row.fill(0);
             }

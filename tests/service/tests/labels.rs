@@ -3,7 +3,7 @@
 use common::Random;
 use model::{fingerprint, read_tables, Answer, Call, Fingerprint, Folder, Label, Lent, Numbers};
 use model::{BLOCK_SIZES, CALLS, HIT, LABEL, ROW, SAME, STATE, ZEROS};
-use service::boxes::{any_label, damage, fill, folder, folder_count, most, office, pick, sound, unopened, Contents, Shape, DAMAGES};
+use service::boxes::{any_label, any_seat, damage, fill, folder, folder_count, most, office, pick, pick_call, sound, unopened, Contents, Shape, DAMAGES};
 use service::calls::{call, call_many};
 use service::compare::{compare, compare_many};
 use service::progress::{count, seed, Progress};
@@ -28,9 +28,9 @@ fn ask(random: &mut Random, shape: Shape, contents: &Contents) -> Asked {
     }
     let kind = match random.below(12) {
         0..=3 => Call::Read,
-        4 | 5 => Call::Through,
-        6 | 7 => Call::Back,
-        8 => Call::Invalidate,
+        4 | 5 => Call::Through(any_seat(random)),
+        6 | 7 => Call::Back(any_seat(random)),
+        8 => Call::Invalidate(any_seat(random)),
         9 => Call::FlushSome(most(random, shape.m)),
         10 => Call::Flush,
         _ => Call::Look,
@@ -161,7 +161,7 @@ fn under(label: Label, b: usize) -> Lent {
         answer: vec![0; 24],
         label: label.to_vec(),
     };
-    assert_eq!([(Call::Open, 0), (Call::Through, 0), (Call::Read, 1), (Call::Read, 2)].map(|(kind, a)| call(kind, a, &mut lent)), [0; 4]);
+    assert_eq!([(Call::Open, 0), (Call::Through(1), 0), (Call::Read, 1), (Call::Read, 2)].map(|(kind, a)| call(kind, a, &mut lent)), [0; 4]);
     lent
 }
 
@@ -283,7 +283,7 @@ fn calls_keep_the_label() {
             let mut many = folder(&mut random, &[address], shape.b, 3);
             compare_many(&mut lent, &mut many, random.below(32), &context)
         } else {
-            let kind = CALLS[1 + random.below(7)];
+            let kind = pick_call(&mut random, &CALLS[1..]);
             compare(kind, address, &mut lent, random.below(32), &context)
         };
         assert_eq!(lent.state[PLACE..], label, "{}", context());
