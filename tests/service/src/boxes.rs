@@ -1,7 +1,7 @@
 //! Random boxes in bytes: fresh ones, sound ones that no list of calls need reach, each way of breaking one, and any bytes.
 use common::Random;
 use model::{fingerprint, read_tables, AddressRow, BlockRow, Call, Fingerprint, Folder, Label, Lent, Numbers};
-use model::{ANSWER, BLOCK_SIZES, LABEL, MANY_ANSWER, MOST_COUNTED, ROW, ZEROS};
+use model::{ANSWER, BLOCK_SIZES, LABEL, MANY_ANSWER, MOST_COUNTED, REPORT_CHECKS, ROW, ZEROS};
 use std::collections::HashSet;
 
 pub fn fill(random: &mut Random, bytes: &mut [u8]) {
@@ -319,8 +319,18 @@ pub fn number_of(call: Call, damages: &[Damage]) -> u32 {
         Damage::Address => call.takes_address(),
         _ => true,
     };
+    first_number(call.checks(), damages, asked)
+}
+
+/// The same of a report, which has no block, no label and no address.
+pub fn number_of_report(damages: &[Damage]) -> u32 {
+    first_number(&REPORT_CHECKS, damages, |damage| ![Damage::BlockLength, Damage::LabelLength, Damage::Address].contains(damage))
+}
+
+/// The first of these checks that one of the damages fails, of those that are asked for.
+fn first_number(checks: &[u32], damages: &[Damage], asked: impl Fn(&Damage) -> bool) -> u32 {
     let numbers: Vec<u32> = DAMAGES.iter().filter(|(damage, _)| damages.contains(damage) && asked(damage)).map(|(_, number)| *number).collect();
-    call.checks().iter().copied().find(|number| numbers.contains(number)).unwrap_or(0)
+    checks.iter().copied().find(|number| numbers.contains(number)).unwrap_or(0)
 }
 
 fn set_state(lent: &mut Lent, place: usize, number: u64) {
@@ -475,6 +485,28 @@ pub fn damage(random: &mut Random, lent: &mut Lent, address: &mut u32, kind: Dam
         _ => return false,
     }
     true
+}
+
+/// Numbers of a small box, with blocks of 64 bytes more often than not.
+pub fn small(random: &mut Random) -> Shape {
+    let b = pick(random, &[64, 64, 64, 64, 128, 256]);
+    Shape::below(random, Shape { b, p: 10, m: 6, d: 5 })
+}
+
+/// A sound box with these damages, made of as many boxes as it takes; the address is of the box unless the damage is there.
+pub fn damaged(random: &mut Random, damages: &[Damage], shape: fn(&mut Random) -> Shape) -> (Lent, u32) {
+    for _ in 0..200 {
+        let shape = shape(random);
+        let mut lent = sound(random, shape);
+        let mut address = random.below(shape.p) as u32;
+        // From the last check to the first, as DAMAGES says.
+        let mut in_order: Vec<Damage> = DAMAGES.iter().map(|(kind, _)| *kind).filter(|kind| damages.contains(kind)).collect();
+        in_order.reverse();
+        if in_order.iter().all(|kind| damage(random, &mut lent, &mut address, *kind)) {
+            return (lent, address);
+        }
+    }
+    panic!("no box can be broken by {damages:?}");
 }
 
 /// Any numbers and any bytes: small tables, lengths that fit more often than not.

@@ -1,30 +1,9 @@
 //! Boxes that must be refused: the number is right and every byte is kept.
 use common::Random;
 use model::{Call, CALLS, LABEL, STATE};
-use service::boxes::{any_seat, damage, fill, noise, number_of, pick, pick_call, sound, Damage, Shape, DAMAGES};
+use service::boxes::{any_seat, damaged, fill, noise, number_of, pick, pick_call, small, sound, Damage, Shape, DAMAGES};
 use service::compare::compare;
 use service::progress::{count, seed, Progress};
-
-fn small(random: &mut Random) -> Shape {
-    let b = pick(random, &[64, 64, 64, 64, 128, 256]);
-    Shape::below(random, Shape { b, p: 10, m: 6, d: 5 })
-}
-
-/// A sound box with these damages, made of as many boxes as it takes; the address is of the box unless the damage is there.
-fn damaged(random: &mut Random, damages: &[Damage], shape: fn(&mut Random) -> Shape) -> (model::Lent, u32) {
-    for _ in 0..200 {
-        let shape = shape(random);
-        let mut lent = sound(random, shape);
-        let mut address = random.below(shape.p) as u32;
-        // From the last check to the first, as DAMAGES says.
-        let mut in_order: Vec<Damage> = DAMAGES.iter().map(|(kind, _)| *kind).filter(|kind| damages.contains(kind)).collect();
-        in_order.reverse();
-        if in_order.iter().all(|kind| damage(random, &mut lent, &mut address, *kind)) {
-            return (lent, address);
-        }
-    }
-    panic!("no box can be broken by {damages:?}");
-}
 
 /// Tries damages with every call and gives how many calls were refused with each number.
 fn try_all(random: &mut Random, damages: &[Damage], shape: fn(&mut Random) -> Shape, numbers: &mut [usize; 10], seed: u64) -> usize {

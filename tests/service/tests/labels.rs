@@ -1,60 +1,17 @@
 //! The office's label: two offices with equal pages, each bit of the label, refused openings, what the calls do with the label, and a label that was damaged
 //! between two calls.
 use common::Random;
-use model::{fingerprint, read_tables, Answer, Call, Fingerprint, Folder, Label, Lent, Numbers};
+use model::{fingerprint, read_tables, Answer, Call, Fingerprint, Label, Lent, Numbers};
 use model::{BLOCK_SIZES, CALLS, HIT, LABEL, ROW, SAME, STATE, ZEROS};
-use service::boxes::{any_label, any_seat, damage, fill, folder, folder_count, most, office, pick, pick_call, sound, unopened, Contents, Shape, DAMAGES};
-use service::calls::{call, call_many};
+use service::asked::{answered, ask, Asked};
+use service::boxes::{any_label, damage, fill, folder, office, pick, pick_call, sound, unopened, Contents, Shape, DAMAGES};
+use service::calls::call;
 use service::compare::{compare, compare_many};
 use service::progress::{count, seed, Progress};
 use std::collections::HashSet;
 
 /// The place of the label in the state.
 const PLACE: usize = STATE - LABEL;
-
-/// What is asked of a box: a call with its address and the block lent to it, or a folder.
-enum Asked {
-    One(Call, u32, Vec<u8>),
-    Many(Folder),
-}
-
-/// Mostly served; an address or a length is wrong now and then.
-fn ask(random: &mut Random, shape: Shape, contents: &Contents) -> Asked {
-    let address = |random: &mut Random| if random.below(30) == 0 { shape.p } else { random.below(shape.p) } as u32;
-    if random.below(6) == 0 {
-        let some: Vec<u32> = (0..1 + random.below(6)).map(|_| address(random)).collect();
-        let count = folder_count(random);
-        return Asked::Many(folder(random, &some, shape.b, count));
-    }
-    let kind = match random.below(12) {
-        0..=3 => Call::Read,
-        4 | 5 => Call::Through(any_seat(random)),
-        6 | 7 => Call::Back(any_seat(random)),
-        8 => Call::Invalidate(any_seat(random)),
-        9 => Call::FlushSome(most(random, shape.m)),
-        10 => Call::Flush,
-        _ => Call::Look,
-    };
-    let mut block = contents.one(random).clone();
-    if random.below(40) == 0 {
-        block.pop();
-    }
-    Asked::One(kind, address(random), block)
-}
-
-/// Asks it of a box. Gives the number, the answer, and the lent block or the folder's buffer.
-fn answered(lent: &mut Lent, asked: &Asked) -> (u32, Vec<u8>, Vec<u8>) {
-    match asked {
-        Asked::One(kind, address, block) => {
-            lent.block.clone_from(block);
-            (call(*kind, *address, lent), lent.answer.clone(), lent.block.clone())
-        }
-        Asked::Many(folder) => {
-            let mut folder = folder.clone();
-            (call_many(lent, &mut folder), folder.answer, folder.buffer)
-        }
-    }
-}
 
 /// The fingerprints of the held rows and of the used block rows, in the order of the rows.
 fn fingerprints(lent: &Lent) -> Vec<Fingerprint> {

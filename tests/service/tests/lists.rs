@@ -56,6 +56,7 @@ impl Met {
         let refused = self.refused[10];
         println!("  {calls} calls for folders: {reads} reads, {hits} hits, {fetches} fetches, {missed_repeats} repeats that miss; {refused} refused with 10");
         assert!(hits > 0 && fetches > 0 && self.refused[10] > 0, "a kind of folder never came");
+        assert!(self.reports > 0 && self.seats > self.reports, "hardly a seat in the reports");
         assert!(self.words[1..].iter().all(|count| *count > 0) && self.written_back > 0, "a kind of answer never came");
     }
 }

@@ -11,8 +11,8 @@ use service::progress::{count, seed, Progress};
 const B: usize = 64;
 const OFFICE: Label = [0x4F; LABEL];
 
-/// A box of held rows (address, content, dirty; each content has a seat of its own) and used block rows (content by the fingerprint, content of the slot), in the order of the rows; disk block k
-/// has the byte k.
+/// A box of held rows (address, content, dirty; each content has a seat of its own) and used block rows (content by the fingerprint, content of the slot), in
+/// the order of the rows; disk block k has the byte k.
 fn made(p: usize, m: usize, d: usize, held: &[(u32, u8, u8)], used: &[(u8, u8)]) -> Lent {
     let print = |content: u8| fingerprint(&OFFICE, &[content; B]);
     let row = |(address, content, dirty): &(u32, u8, u8)| {
