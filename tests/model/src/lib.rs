@@ -8,7 +8,7 @@ mod cache;
 mod lent;
 pub mod machines;
 
-pub use cache::{Answer, Cache, Counters, ManyAnswer};
+pub use cache::{Answer, Cache, Counters, Held, ManyAnswer};
 pub use lent::{carry_out, carry_out_many, carry_out_report, read_tables, refusal, refusal_many, refusal_report};
 pub use lent::{AddressRow, BlockRow, Folder, Lent, Numbers};
 

@@ -19,7 +19,7 @@ fn the_example() {
 #[test]
 fn the_rows() {
     let mut cache = Cache::fresh(64, 8, 3, 2, ZEROS, (0..8).flat_map(|k| vec![k; 64]).collect(), vec![0; 128]);
-    cache.call(Call::Back, 5, &mut vec![7; 64]).unwrap();
+    cache.call(Call::Back(0), 5, &mut vec![7; 64]).unwrap();
     let mut lent = Lent { state: vec![], disk: vec![], flash: vec![], addresses: vec![], blocks: vec![], block: vec![], answer: vec![], label: vec![] };
     cache.store(&mut lent);
     let bytes = |text: &str| text.split_whitespace().map(|byte| u8::from_str_radix(byte, 16).unwrap()).collect::<Vec<u8>>();
