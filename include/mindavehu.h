@@ -368,8 +368,8 @@ uint32_t mindavehu_look(const uint8_t *state, size_t state_length, uint32_t addr
                         const uint8_t *blocks, size_t blocks_length,
                         uint8_t *answer, size_t answer_length);
 
-/* The manager's report: address, dirty byte and seat of each held address, oldest use first, then zeros. Nothing else is changed and nothing is counted; a
- * refused report keeps its bytes. */
+/* The manager's report: address, dirty byte and seat of each held address, oldest use first, then zeros. The state's n is the number of parts. Nothing else is
+ * changed and nothing is counted; a refused report keeps its bytes. */
 uint32_t mindavehu_manager_report(const uint8_t *state, size_t state_length,
                                   const uint8_t *disk, size_t disk_length,
                                   const uint8_t *flash, size_t flash_length,
