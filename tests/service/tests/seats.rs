@@ -80,21 +80,16 @@ fn worked() {
         expected.resize(3 * 7, 0);
         assert_eq!(report(Report::Manager, &mut lent), expected, "step {k}: {kind:?} {address}");
     }
-    // In a folder each read is as by itself: address 3 is held, 4 takes the place of 2, and 2 comes back with 0.
-    let mut lent = fresh(8, 2, 2);
-    for (seat, address) in [(21, 2), (22, 3)] {
-        assert_eq!(call(Call::Back(seat), address, &mut lent), 0);
+    // In a folder each read is as by itself: held addresses keep their seats, and where 4 takes the place of 2, 2 comes back with 0.
+    let folders: [(&[u32], [u8; 14]); 2] =
+        [(&[3, 2], [3, 0, 0, 0, 1, 22, 0, 2, 0, 0, 0, 1, 21, 0]), (&[3, 4, 2, 4], [2, 0, 0, 0, 0, 0, 0, 4, 0, 0, 0, 0, 0, 0])];
+    for (asked, expected) in folders {
+        let mut lent = fresh(8, 2, 2);
+        assert_eq!((call(Call::Back(21), 2, &mut lent), call(Call::Back(22), 3, &mut lent)), (0, 0));
+        let mut folder = Folder { asked: asked.to_vec(), buffer: vec![0; asked.len() * B], answer: vec![0; 32] };
+        assert_eq!(call_many(&mut lent, &mut folder), 0);
+        assert_eq!(report(Report::Manager, &mut lent), expected, "{asked:?}");
     }
-    let mut folder = Folder { asked: vec![3, 4, 2, 4], buffer: vec![0; 4 * B], answer: vec![0; 32] };
-    assert_eq!(call_many(&mut lent, &mut folder), 0);
-    assert_eq!(report(Report::Manager, &mut lent), [2, 0, 0, 0, 0, 0, 0, 4, 0, 0, 0, 0, 0, 0]);
-    let mut folder = Folder { asked: vec![3, 2], buffer: vec![0; 2 * B], answer: vec![0; 32] };
-    let mut lent = fresh(8, 2, 2);
-    for (seat, address) in [(21, 2), (22, 3)] {
-        assert_eq!(call(Call::Back(seat), address, &mut lent), 0);
-    }
-    assert_eq!(call_many(&mut lent, &mut folder), 0);
-    assert_eq!(report(Report::Manager, &mut lent), [3, 0, 0, 0, 1, 22, 0, 2, 0, 0, 0, 1, 21, 0]);
     println!("13 calls and two folders, with the manager's report after each");
 }
 
