@@ -395,15 +395,7 @@ pub fn look<I: Index>(state: &[u8], a: u32, disk: &[u8], flash: &[u8], addresses
 }
 
 /// Address and dirty byte of each held row, oldest first, each with its seat where `seats` says so; zeros follow. Nothing else is changed.
-pub fn report<I: Index>(
-    state: &[u8],
-    disk: &[u8],
-    flash: &[u8],
-    addresses: &[u8],
-    blocks: &[u8],
-    report: &mut [u8],
-    seats: bool,
-) -> Result<(), u32> {
+pub fn report<I: Index>(state: &[u8], disk: &[u8], flash: &[u8], addresses: &[u8], blocks: &[u8], report: &mut [u8], seats: bool) -> Result<(), u32> {
     if state.len() != STATE {
         return Err(2);
     }

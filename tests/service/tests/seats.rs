@@ -50,11 +50,14 @@ fn the_bytes() {
     println!("rows and reports of {} seats, byte for byte", SEATS.len());
 }
 
-/// Calls on a box of three addresses and two blocks, each with the manager's report that follows: address, dirty byte, seat.
+/// A call, its address and the byte of its block, and the manager's report after it: address, dirty byte, seat.
+type Step = (Call, u32, u8, &'static [(u32, u8, u16)]);
+
+/// Calls on a box of three addresses and two blocks, each with the manager's report that follows.
 #[test]
 fn worked() {
     let mut lent = fresh(8, 3, 2);
-    let steps: [(Call, u32, u8, &[(u32, u8, u16)]); 13] = [
+    let steps: [Step; 13] = [
         (Call::Back(7), 1, 9, &[(1, 1, 7)]),
         (Call::Through(8), 2, 9, &[(1, 1, 7), (2, 0, 8)]),
         (Call::Read, 3, 0, &[(1, 1, 7), (2, 0, 8), (3, 0, 0)]),
