@@ -19,7 +19,7 @@ fits c = sym (c .before .fit .ensures) ∙ not-false _ (c .if1 .left)
 returns : tie.Need-returns
 returns c =
     let a = start (c .before) .args in
-    unchanged (askOf (a .kind) (a .address) (a .block .now) (a .seat)) (a .state .now) (a .disk .now) (a .flash .now) (a .addresses .now) (a .blocks .now) (a .answer .now) (sym (c .before .fit .ensures) ∙ not-true _ (c .if1 .taken)) _ (sym (asks-write (a .kind) 0 (a .address) (a .block .now) .block))
+    unchanged (askOf (a .kind) (a .address) (a .block .now) (a .seat)) (a .state .now) (a .disk .now) (a .flash .now) (a .addresses .now) (a .blocks .now) (a .answer .now) (sym (c .before .fit .ensures) ∙ not-true _ (c .if1 .taken)) _ (sym (asks-write (a .kind) 0 (a .address) (a .seat) (a .block .now) .block))
 
 record-in-requires : tie.Need-record-in-requires
 record-in-requires c κs = lengths _ _ _ (fits (c .before)) .0
