@@ -29,10 +29,6 @@ use Rattle.seats.specs.Bare.{bareCall, bareBox, bareOutcome, bareBatched
 
 -- ---- what of a call does not depend on its seat
 
--- a function that is the same of a call and of the bare one is the same of two calls that differ in their seats alone
-alike : {A : Type 0} (f : Ask → A) → ((q : Ask) → f (bareAsk q) ≡ f q) → (q r : Ask) → bareAsk q ≡ bareAsk r → f q ≡ f r
-alike f h q r e = sym (h q) ∙ ap f e ∙ h r
-
 call-bare : (B : ℕ) (q : Ask) → bareCall (callOf B (bareAsk q)) ≡ bareCall (callOf B q)
 unfolding callOf
 call-bare B (Ask.read a l) = refl
@@ -118,23 +114,25 @@ module _ (N : Numbers) where
       ∙ desk-bare (N .m) ((boxIn N u) .rows) in
       ap₂ (λ n x. cond (eqb n 0) x lent) (k .numbers (report desk lent)) rows
 
-  -- ---- one of document 01's calls
+  -- ---- one of document 01's calls, and the same call with the seat 0
 
-  module _ (t u : Lent) (q r : Ask) (k : Like t u) (e : bareAsk q ≡ bareAsk r) where
-    same-call : bareCall (callOf (N .B) q) ≡ bareCall (callOf (N .B) r)
-    same-call = alike (λ x. bareCall (callOf (N .B) x)) (call-bare (N .B)) q r e
+  module _ (t u : Lent) (q : Ask) (k : Like t u) where
+    abbrev r : Ask
+    r = bareAsk q
 
     same-number : refusal N t (calling q) ≡ refusal N u (calling r)
-    same-number = k .numbers (one q) ∙ alike (λ x. refusal N u (calling x)) (refusal-bare N u) q r e
+    same-number = k .numbers (one q) ∙ sym (refusal-bare N u q)
 
     same-outcome : bareOutcome H (outcome N t q) ≡ bareOutcome H (outcome N u r)
     same-outcome =
-        sym (serve-bare H N (boxIn N t) (callOf (N .B) q)) ∙ ap₂ (serve H N) (k .box) same-call ∙ serve-bare H N (boxIn N u) (callOf (N .B) r)
+        sym (serve-bare H N (boxIn N t) (callOf (N .B) q))
+        ∙ ap₂ (serve H N) (k .box) (sym (call-bare (N .B) q))
+        ∙ serve-bare H N (boxIn N u) (callOf (N .B) r)
 
     same-counted : counted (t .counters) (callOf (N .B) q) (outcome N t q) ≡ counted (u .counters) (callOf (N .B) r) (outcome N u r)
     same-counted =
         sym (counted-bare H (t .counters) (callOf (N .B) q) (outcome N t q))
-        ∙ ap₂ (λ c o. counted (t .counters) c o) same-call same-outcome
+        ∙ ap₂ (λ c o. counted (t .counters) c o) (sym (call-bare (N .B) q)) same-outcome
         ∙ ap (λ n. counted n (bareCall (callOf (N .B) r)) (bareOutcome H (outcome N u r))) (k .counters)
         ∙ counted-bare H (u .counters) (callOf (N .B) r) (outcome N u r)
 
@@ -150,8 +148,17 @@ module _ (N : Numbers) where
         (ap (λ x. x .counters) (served-lent N t q z) ∙ same-counted ∙ sym (ap (λ x. x .counters) (served-lent N u r z′))))
         (λ y.
         let z = eqb-false (refusal N t (calling q)) 0 y in
-        let z′ : refusal N u (calling r) ≢ 0 = λ w. z (same-number ∙ w) in
-        subst₂ Like (sym (keeps N t q z .lent)) (sym (keeps N u r z′ .lent)) k)
+        subst₂ Like (sym (keeps N t q z .lent)) (sym (keeps N u r (λ w. z (same-number ∙ w)) .lent)) k)
+
+    -- what it tells when it is served
+    same-told : let o = outcome N t q in let o′ = outcome N u r in
+        single (answered (o .word) (o .flashWrites) (o .primaryWrites)) (blockAfter q (o .block)) (partAfter q (o .block))
+        ≡ single (answered (o′ .word) (o′ .flashWrites) (o′ .primaryWrites)) (blockAfter r (o′ .block)) (partAfter r (o′ .block))
+    same-told =
+        let b = (outcome N t q) .block in
+        ap₂ (single (answered ((outcome N t q) .word) ((outcome N t q) .flashWrites) ((outcome N t q) .primaryWrites)))
+        (sym (block-bare b q)) (sym (part-bare b q))
+        ∙ ap (λ o. single (answered (o .word) (o .flashWrites) (o .primaryWrites)) (blockAfter r (o .block)) (partAfter r (o .block))) same-outcome
 
     call-tells : tells N t (one q) ≡ tells N u (one r)
     unfolding served
@@ -159,21 +166,15 @@ module _ (N : Numbers) where
         by-test (eqb (refusal N t (calling q)) 0)
         (λ y.
         let z = eqb-true (refusal N t (calling q)) 0 y in
-        let z′ = sym same-number ∙ z in
-        let s = same-outcome in
-        let a = ap (λ o. answered (o .word) (o .flashWrites) (o .primaryWrites)) s in
-        let b = alike (λ x. blockAfter x ((outcome N t q) .block)) (block-bare ((outcome N t q) .block)) q r e ∙ ap (λ o. blockAfter r (o .block)) s in
-        let p = alike (λ x. partAfter x ((outcome N t q) .block)) (part-bare ((outcome N t q) .block)) q r e ∙ ap (λ o. partAfter r (o .block)) s in
         ap (λ x. single (x .answer) (x .block) (x .part)) (served-is N t q z)
-        ∙ (λ i. single (a i) (b i) (p i))
-        ∙ sym (ap (λ x. single (x .answer) (x .block) (x .part)) (served-is N u r z′)))
+        ∙ same-told
+        ∙ sym (ap (λ x. single (x .answer) (x .block) (x .part)) (served-is N u r (sym same-number ∙ z))))
         (λ y.
         let z = eqb-false (refusal N t (calling q)) 0 y in
-        let z′ : refusal N u (calling r) ≢ 0 = λ w. z (same-number ∙ w) in
         let x = keeps N t q z in
-        let x′ = keeps N u r z′ in
+        let x′ = keeps N u r (λ w. z (same-number ∙ w)) in
         let a = x .answer ∙ ap refused same-number ∙ sym (x′ .answer) in
-        let b = x .block ∙ alike lentBlock lent-bare q r e ∙ sym (x′ .block) in
+        let b = x .block ∙ sym (lent-bare q) ∙ sym (x′ .block) in
         let p = x .part ∙ sym (x′ .part) in
         λ i. single (a i) (b i) (p i))
 
@@ -221,12 +222,38 @@ module _ (N : Numbers) where
         let b = x .buffer-kept ∙ sym (x′ .buffer-kept) in
         λ i. folder (a i) (b i))
 
-  -- ---- a call of a list
+  -- ---- a list
 
-  -- which kind a call is, and its parts, by the bare calls
-  abbrev Same : Asking → Asking → Type 0
-  Same (one q) (one r) = bareAsk q ≡ bareAsk r
-  Same (one q) (many l b) = ⊥
-  Same (one q) (report w l) = ⊥
-  Same (many l b) y = many l b ≡ y
-  Same (report w l) y = report w l ≡ y
+  next-bare : (t u : Lent) (q : Asking) → Like t u → Like (next N t q) (next N u (bareAsking q))
+  next-bare t u (one q) k = call-next t u q k
+  next-bare t u (many l buffer) k = batch-next t u l buffer k
+  next-bare t u (report w lent) k = k
+
+  tells-bare : (t u : Lent) (q : Asking) → Like t u → tells N t q ≡ tells N u (bareAsking q)
+  tells-bare t u (one q) k = call-tells t u q k
+  tells-bare t u (many l buffer) k = batch-tells t u l buffer k
+  tells-bare t u (report w lent) k = ap number (k .numbers (report w lent))
+
+  seen-bare : (lent : List ℕ) (t u : Lent) (q : Asking) → Like t u → seen N lent t q ≡ seen N lent u (bareAsking q)
+  seen-bare lent t u q k =
+      let x = next-bare t u q k in
+      let a = tells-bare t u q k in
+      let d = desk-like lent (next N t q) (next N u (bareAsking q)) x in
+      let c = x .counters in
+      λ i. record { told = a i; report = d i; counters = c i }
+
+  sees-bare : (lent : List ℕ) (t u : Lent) (qs : List Asking) → Like t u → deskSees N lent t qs ≡ deskSees N lent u (map bareAsking qs)
+  unfolding deskSees
+  sees-bare lent t u [] k = refl
+  sees-bare lent t u (q ∷ qs) k =
+      ap₂ {C = List Seen} (λ x l. x ∷ l) (seen-bare lent t u q k) (sees-bare lent (next N t q) (next N u (bareAsking q)) qs (next-bare t u q k))
+
+  like-itself : (t : Lent) → Like t t
+  like-itself t = record { box = refl; counters = refl; numbers = λ q. refl }
+
+-- "Two runs from one state, with the same calls but different seat numbers, must give the desk identical reports, answers and counts."
+-- From any lent memory, whatever is refused.
+pub two-runs : (N : Numbers) (lent : List ℕ) (t : Lent) (qs rs : List Asking) → map bareAsking qs ≡ map bareAsking rs
+    → deskSees N lent t qs ≡ deskSees N lent t rs
+two-runs N lent t qs rs e =
+    sees-bare N lent t t qs (like-itself N t) ∙ ap (deskSees N lent t) e ∙ sym (sees-bare N lent t t rs (like-itself N t))
