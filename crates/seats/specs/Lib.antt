@@ -1,6 +1,7 @@
 -- What a reader must believe: what the desk sees of a run
 pub mod TwoRuns
--- the theorem
+-- the theorem, and the reports' refusals
 pub mod TwoRunsLaws
+pub mod ReportLaws
 -- lemmas
 pub mod Bare
