@@ -1,5 +1,6 @@
--- What a reader must believe: what the desk sees of a run
+-- What a reader must believe: what the desk sees of a run; the reports by example
 pub mod TwoRuns
+pub mod Reported
 -- the theorem, and the reports' refusals
 pub mod TwoRunsLaws
 pub mod ReportLaws
