@@ -1,12 +1,12 @@
 -- Boxes and calls but for their seats: each step and each call commutes with the forgetting of seats.
 -- Assumes nothing.
-use mathlib.Core.Path.{_≡_, refl, ap, ap₂, _∙_}
+use mathlib.Core.Path.{_≡_, refl, sym, ap, ap₂, _∙_}
 use mathlib.Core.Bool.{Bool, true, false, not, _&&_, _||_, cond}
 use mathlib.Core.List.{List, [], _∷_, _++_, map, map-append}
 use mathlib.Core.Option.{Option, none, some, Option·map}
 use Prim.Native.Nat.{ℕ, zero, suc, _+_, _-_, _*_}
 use lib.Dec.{eqb}
-use lib.ListN.{length, getD, set, take, drop, length-map}
+use lib.ListN.{length, getD, set, take, length-map}
 use Rattle.tables.specs.Rows.{flat, zeros}
 use Rattle.paper.specs.KeyedLaws.{by-test}
 use Rattle.paper.specs.Cache.{Numbers, Hashing, AddressRow, BlockRow, Box, Request, RowOut, BlockRows, Taken, Stepped, newest, blockRow, held, rowOf, seatIn}
@@ -16,7 +16,7 @@ use Rattle.paper.specs.Cache.{Call, read, through, back, invalidate, look, flus
 use Rattle.paper.specs.Cache.{sameOrNew, onDisk, writeThrough, dirtied, backRequest, writeBack, dropped, writeInvalidate, lookAs, flushed, serve}
 use Rattle.paper.specs.Cache.{Counters, counted}
 use Rattle.paper.specs.Reports.{desk, reportRow, reportOf}
-use Rattle.paper.specs.Batch.{Batched, start, source, firstRead, added, seen, batchRead, batch}
+use Rattle.paper.specs.Batch.{Batched, source, firstRead, added, seen, batchRead, batch}
 
 -- a call but for its seat
 abbrev pub bareCall : {X : Type 0} → Call X → Call X
@@ -50,19 +50,10 @@ module _ {F : Type 0} where
       (λ e. rw e (without-bare a rs))
       (λ e. rw e (ap {B = List (AddressRow F)} (λ l. bare r ∷ l) (without-bare a rs)))
 
-  append-bare : (rows more : List (AddressRow F)) → bares rows ++ bares more ≡ bares (rows ++ more)
-  append-bare [] more = refl
-  append-bare (r ∷ rs) more = ap {B = List (AddressRow F)} (λ l. bare r ∷ l) (append-bare rs more)
-
   take-bare : (i : ℕ) (rows : List (AddressRow F)) → take i (bares rows) ≡ bares (take i rows)
   take-bare zero rows = refl
   take-bare (suc i) [] = refl
   take-bare (suc i) (r ∷ rs) = ap {B = List (AddressRow F)} (λ l. bare r ∷ l) (take-bare i rs)
-
-  drop-bare : (i : ℕ) (rows : List (AddressRow F)) → drop i (bares rows) ≡ bares (drop i rows)
-  drop-bare zero rows = refl
-  drop-bare (suc i) [] = refl
-  drop-bare (suc i) (r ∷ rs) = drop-bare i rs
 
   seat-bare : (o : Option (AddressRow F)) → seatIn (Option·map bare o) ≡ (0, 0)
   seat-bare none = refl
@@ -208,7 +199,7 @@ module _ {F X : Type 0} (H : Hashing F X) where
       ap (λ (x : RowOut F X). let r = x .rows ++ (bare new ∷ []) in
       step4 H r (step3 H (x .gone) (x .rows) r bs) (s .flash) (x .disk) (q .fingerprint) (q .block) (x .primary)) (step1-bare m s (q .address))
       ∙ ap (λ r. step4 H r (step3 H (o .gone) (bares (o .rows)) r bs) (s .flash) (o .disk) (q .fingerprint) (q .block) (o .primary))
-      (append-bare (o .rows) (new ∷ []))
+      (sym (map-append bare (o .rows) (new ∷ [])))
       ∙ ap (λ t. step4 H (bares rows) t (s .flash) (o .disk) (q .fingerprint) (q .block) (o .primary)) (step3-bare (o .gone) (o .rows) rows bs)
       ∙ step4-bare rows (step3 H (o .gone) (o .rows) rows bs) (s .flash) (o .disk) (q .fingerprint) (q .block) (o .primary)
 

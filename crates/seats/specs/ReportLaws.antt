@@ -1,11 +1,11 @@
 -- Reports: each refusal exactly where its test is the first to hold, a refused report's bytes kept, and how long a served one is.
 use mathlib.Core.Path.{_≡_, refl, ap, _∙_}
-use mathlib.Core.Bool.{Bool, true, false, _||_}
-use mathlib.Core.List.{List, [], _∷_, _++_, map}
+use mathlib.Core.Bool.{Bool, true, _||_}
+use mathlib.Core.List.{List, [], _∷_, map}
 use mathlib.Core.Logic.{_↔_, _≢_}
 use Prim.Native.Nat.{ℕ, _≤_, _-_, _*_}
 use native.Mathlib.Omega.{arith}
-use lib.ListN.{length, take, drop, length-append, length-map}
+use lib.ListN.{length, take, drop, length-append}
 use borrow.Author.Tests.{ne-eqb}
 use Rattle.tables.specs.Rows.{flat, zeros}
 use Rattle.tables.specs.ShiftLaws.{length-zeros}
@@ -81,11 +81,21 @@ rows-length desk (r ∷ rs) = omega (arith, rows-length desk rs)
 whole-length : {F : Type 0} (w : Reader) (m : ℕ) (rows : List (AddressRow F)) → length rows ≤ m → length (reportOf w m rows) ≡ m * width w
 unfolding reportOf
 whole-length manager m rows h =
-    omega (arith, h, length-append (flat (map (reportRow manager) rows)) (zeros ((m - length rows) * 7)), rows-length manager rows,
-    length-zeros ((m - length rows) * 7))
+    omega (
+      arith,
+      h,
+      length-append (flat (map (reportRow manager) rows)) (zeros ((m - length rows) * 7)),
+      rows-length manager rows,
+      length-zeros ((m - length rows) * 7),
+    )
 whole-length desk m rows h =
-    omega (arith, h, length-append (flat (map (reportRow desk) rows)) (zeros ((m - length rows) * 5)), rows-length desk rows,
-    length-zeros ((m - length rows) * 5))
+    omega (
+      arith,
+      h,
+      length-append (flat (map (reportRow desk) rows)) (zeros ((m - length rows) * 5)),
+      rows-length desk rows,
+      length-zeros ((m - length rows) * 5),
+    )
 
 pub report-length : (N : Numbers) (t : Lent) (w : Reader) (report : List ℕ) → reportRefusal N t w report ≡ 0
     → length (reported N t w report) ≡ N .m * width w

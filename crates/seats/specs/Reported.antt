@@ -6,7 +6,7 @@ use Prim.Native.Nat.{ℕ, _+_, _^_}
 use lib.ListN.{replicate, set}
 use Rattle.tables.specs.Rows as Rows
 use Rattle.tables.specs.Records as Records
-use Rattle.tables.specs.Records.{AddressRow, addressRow, bytes2, blockRow, freeRow, paddingByte, addressTable, blockTable}
+use Rattle.tables.specs.Records.{addressRow, bytes2, blockRow, freeRow, paddingByte, addressTable, blockTable}
 use Rattle.tables.specs.Find as Find
 use Rattle.tables.specs.Unsound as Unsound
 use Rattle.paper.specs.Cache.{Numbers, Counters, noCounts}

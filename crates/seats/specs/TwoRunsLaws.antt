@@ -1,30 +1,26 @@
 -- The theorem of two runs: what the desk sees is the same, whatever seats the calls carry.
 use mathlib.Core.Path.{_≡_, refl, sym, ap, ap₂, _∙_, subst₂}
-use mathlib.Core.Bool.{true, false, not, _&&_, _||_, cond}
+use mathlib.Core.Bool.{cond}
 use mathlib.Core.List.{List, [], _∷_, map}
 use mathlib.Core.Logic.{_≢_}
 use mathlib.Core.Option.{Option}
-use Prim.Native.Nat.{ℕ, suc}
-use native.Mathlib.Omega.{arith}
+use Prim.Native.Nat.{ℕ}
 use lib.Dec.{eqb}
-use lib.ListN.{length}
 use borrow.Author.Tests.{eqb-true, eqb-false}
-use Rattle.paper.specs.Cache.{Numbers, Hashing, Box, Outcome, Call, Counters, counted, serve}
+use Rattle.paper.specs.Cache.{Numbers, Hashing, Box, counted, serve}
 use Rattle.paper.specs.KeyedLaws.{by-test}
-use Rattle.paper.specs.Order.{tail-≡}
 use Rattle.paper.specs.Engine.{Fixed, labelled}
-use Rattle.paper.specs.Lent.{Lent, Ask, Answer, refused, answered, calling, callOf, lentBlock, wrongBuffers, refusal, served, call, boxIn, lentOf}
+use Rattle.paper.specs.Lent.{Lent, Ask, refused, answered, calling, callOf, lentBlock, wrongBuffers, refusal, served, call, boxIn, lentOf}
 use Rattle.paper.specs.Lent.{join, blockAfter, partAfter}
 use Rattle.paper.specs.LentLaws.{Passes}
 use Rattle.paper.specs.RefusalLaws.{served-is, keeps}
 use Rattle.paper.specs.CallLaws.{outcome, served-lent, served-box, served-passes}
-use Rattle.paper.specs.Reports.{Reader, desk, reportOf, reportRefusal, reported}
-use Rattle.paper.specs.Batch.{Batched, start, blocksIn, batch}
+use Rattle.paper.specs.Reports.{desk, reportOf, reportRefusal, reported}
+use Rattle.paper.specs.Batch.{start, blocksIn, batch}
 use Rattle.paper.specs.BatchLent.{Asking, one, many, report, BatchAnswer, batched, batchRefusal, batchedFrom, servedBatch, callBatch}
 use Rattle.paper.specs.BatchLentLaws.{batch-served, batch-keeps, batch-lent, batch-box, batch-passes}
 use Rattle.paper.specs.Demand3.{numberOf, next}
-use Rattle.paper.specs.Demand3Laws.{head-≡}
-use Rattle.seats.specs.TwoRuns.{bareAsk, bareAsking, Told, single, folder, number, tells, Seen, seen, deskSees}
+use Rattle.seats.specs.TwoRuns.{bareAsk, bareAsking, single, folder, number, tells, Seen, seen, deskSees}
 use Rattle.seats.specs.Bare.{bareCall, bareBox, bareOutcome, bareBatched, desk-bare, serve-bare, counted-bare, batch-bare}
 
 -- ---- what of a call does not depend on its seat
