@@ -421,6 +421,36 @@ more =
       disk = slotsFrom 0 8;
       counters = counters 1 0 2 0;
     })
+    -- U7: a write sets the seat, also one that leaves a clean row clean; a read hit, and cleaning, keep it; invalidate takes the row out.
+    ∷ example 3 3 (record {
+      said = says (Call.back 0 9 (1, 2)) newBlock 1 0 ∷ says (Call.through 1 5 (3, 4)) newBlock 1 1 ∷ says (Call.back 1 5 (5, 6)) sameBlock 0 0
+          ∷ says (Call.back 2 5 (7, 8)) sameBlock 0 0 ∷ says (Call.invalidate 2 6 (9, 9)) newBlock 0 1 ∷ says (read 0) hit 0 0 ∷ says (flush 3) done 0 1 ∷ [];
+      returned = 9 ∷ [];
+      rows = newest 1 5 false (5, 6) ∷ newest 0 9 false (1, 2) ∷ [];
+      blocks = freeIn 2 ∷ blockIn 5 1 ∷ blockIn 9 0 ∷ [];
+      flash = 9 ∷ 5 ∷ 99 ∷ [];
+      disk = 9 ∷ 5 ∷ 6 ∷ 3 ∷ 4 ∷ 5 ∷ 6 ∷ 7 ∷ [];
+      counters = counters 1 1 2 3;
+    })
+    -- A miss of an address that is held without its block keeps the seat; an address that was evicted comes back with 0.
+    ∷ example 2 1 (record {
+      said = says (Call.through 0 9 (1, 2)) newBlock 1 1 ∷ says (Call.through 1 5 (3, 4)) newBlock 1 1 ∷ says (read 0) miss 1 0 ∷ [];
+      returned = 9 ∷ [];
+      rows = newest 1 5 false (3, 4) ∷ newest 0 9 false (1, 2) ∷ [];
+      blocks = blockIn 9 0 ∷ [];
+      flash = 9 ∷ [];
+      disk = 9 ∷ 5 ∷ 2 ∷ 3 ∷ 4 ∷ 5 ∷ 6 ∷ 7 ∷ [];
+      counters = counters 1 0 3 2;
+    })
+    ∷ example 1 1 (record {
+      said = says (Call.through 0 9 (1, 2)) newBlock 1 1 ∷ says (read 1) miss 1 0 ∷ says (read 0) miss 1 0 ∷ [];
+      returned = 1 ∷ 9 ∷ [];
+      rows = newest 0 9 false (0, 0) ∷ [];
+      blocks = blockIn 9 0 ∷ [];
+      flash = 9 ∷ [];
+      disk = 9 ∷ 1 ∷ 2 ∷ 3 ∷ 4 ∷ 5 ∷ 6 ∷ 7 ∷ [];
+      counters = counters 2 0 3 1;
+    })
     ∷ []
 
 pub further-states : map play more ≡ map (λ e. e .seen) more

@@ -132,7 +132,18 @@ pub fn write(
     if number != 0 {
         return refused(number, b, c);
     }
-    let s = serve::serve_write(kind, b, a, seat, disk, flash, addresses, blocks, block, &heads);
+    let s = serve::serve_write(
+        kind,
+        b,
+        a,
+        seat,
+        disk,
+        flash,
+        addresses,
+        blocks,
+        block,
+        &heads,
+    );
     answered(b, write_word(s.yes), s, c, 0, 0)
 }
 

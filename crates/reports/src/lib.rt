@@ -83,7 +83,15 @@ pub fn report(
         (now (report .entry))) ⌝ }
 {
     let bytes = width_of(reader);
-    let number = refusals::report::of_report(b, bytes, report.len(), disk, flash, addresses, blocks);
+    let number = refusals::report::of_report(
+        b,
+        bytes,
+        report.len(),
+        disk,
+        flash,
+        addresses,
+        blocks,
+    );
     if number != 0 {
         return number;
     }

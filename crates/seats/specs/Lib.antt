@@ -1,6 +1,5 @@
--- What a reader must believe: what the desk sees of a run; the reports by example
+-- What a reader must believe: what the desk sees of a run
 pub mod TwoRuns
-pub mod Reported
 -- the theorem, two runs computed, and the reports' refusals
 pub mod TwoRunsLaws
 pub mod TwoRunsWorked

@@ -327,7 +327,15 @@ pub extern "C" fn mindavehu_manager_report(
         ≡ leavesReport manager (now (state .entry)) (now (disk .entry)) (now (flash .entry)) (now (addresses .entry)) (now (blocks .entry))
         (now (report .entry)) ⌝ }
 {
-    held_report(Reader::Manager, state, disk, flash, addresses, blocks, report)
+    held_report(
+        Reader::Manager,
+        state,
+        disk,
+        flash,
+        addresses,
+        blocks,
+        report,
+    )
 }
 
 // The desk's report: address and dirty byte of each held row.

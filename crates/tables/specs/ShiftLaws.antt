@@ -113,7 +113,7 @@ seat-made w g x s t lw lg =
     let lp : length p ≡ 37 = omega (arith, lw, lg, length-append w (g ++ (x ∷ [])), length-append g (x ∷ [])) in
     let lq : length q ≡ 38 = omega (arith, lw, lg, length-append w (g ++ (x ∷ s ∷ [])), length-append g (x ∷ s ∷ [])) in
     let shape : (u v : List ℕ) → (w ++ (g ++ u)) ++ v ≡ w ++ (g ++ (u ++ v))
-        = λ u v. append-assoc w (g ++ u) v ∙ ap (λ (y : List ℕ). w ++ y) (append-assoc g u v) in
+    = λ u v. append-assoc w (g ++ u) v ∙ ap (λ (y : List ℕ). w ++ y) (append-assoc g u v) in
     ap (λ (y : List ℕ). set (set y 37 s) 38 t) (sym (shape (x ∷ []) (0 ∷ 0 ∷ 0 ∷ [])))
     ∙ ap (λ (y : List ℕ). set y 38 t) (set-at p 0 (0 ∷ 0 ∷ []) s 37 lp ∙ shape (x ∷ []) (s ∷ 0 ∷ 0 ∷ []) ∙ sym (shape (x ∷ s ∷ []) (0 ∷ 0 ∷ [])))
     ∙ set-at q 0 (0 ∷ []) t 38 lq ∙ shape (x ∷ s ∷ []) (t ∷ 0 ∷ [])

@@ -33,6 +33,7 @@ const TAIL: usize = 4;
 
 // Where an address row has its seat: the low byte behind its dirty byte, then the high byte.
 const SEAT: usize = 37;
+
 const SEAT_HIGH: usize = 38;
 
 // The last byte of a row, which is zero.

@@ -24,7 +24,14 @@ pub extern "C" fn tables_probe_remove_row(t: &mut [u8], n: usize, i: usize)
 
 // Adds a row behind the first `n`.
 #[no_mangle]
-pub extern "C" fn tables_probe_push_address(t: &mut [u8], n: usize, a: u32, g: &[u8], dirty: u8, seat: u16)
+pub extern "C" fn tables_probe_push_address(
+    t: &mut [u8],
+    n: usize,
+    a: u32,
+    g: &[u8],
+    dirty: u8,
+    seat: u16,
+)
     ensures { λ _. ⌜ now (t .exit) ≡ cond (fitsMore n (now (t .entry)) (now (g .entry)))
         (rowAdded n (addressBytes (addressRow a (now (g .entry)) dirty (bytes2 seat))) (now (t .entry))) (now (t .entry)) ⌝ }
 {

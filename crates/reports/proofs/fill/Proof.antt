@@ -61,8 +61,7 @@ loop-again c =
     let l = cut-length (a .bytes) r (start .pre .1) (at-row .row-bytes .ensures .1) in
     let e : a .bytes - 0 ≡ a .bytes = omega arith in
     let is = ap₂ {C = List ℕ} take e (at-row .row-bytes .ensures .0) in
-    let fits : k * a .bytes + a .bytes ≤ length d = omega (arith, row-in k (a .m) (a .bytes) (omega arith), i .1, start .pre .3) in
-    (
+    let fits : k * a .bytes + a .bytes ≤ length d = omega (arith, row-in k (a .m) (a .bytes) (omega arith), i .1, start .pre .3) in (
       omega arith,
       ap length (at-put .put .ensures) ∙ length-splice (k * a .bytes) s d (omega (arith, fits, l)) ∙ i .1,
       ap (take ((k + 1) * a .bytes)) (at-put .put .ensures) ∙ row-next (a .bytes) (a .n) (a .addresses .now) k d s fits l is (i .2),
