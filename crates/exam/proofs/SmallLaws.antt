@@ -100,7 +100,8 @@ put-four n k h n1 (of4 w x y z) a d l =
     let xz = or-false-left (eqb x z) false (or-false-right (eqb x y) (eqb x z || false) (d .1 .0)) in
     let yz = or-false-left (eqb y z) false (d .1 .1 .0) in
     by-test (eqb k z)
-    (λ e. rw (e, other k y z e yz, other k x z e xz, other k w z e wz) (subst (λ j. Holds (four w x y z) (w ∷ x ∷ y ∷ j ∷ [])) (sym (eqb-true k z e)) (of4 w x y z)))
+    (λ e. rw (e, other k y z e yz, other k x z e xz, other k w z e wz)
+    (subst (λ j. Holds (four w x y z) (w ∷ x ∷ y ∷ j ∷ [])) (sym (eqb-true k z e)) (of4 w x y z)))
     (λ e. by-test (eqb k y)
     (λ f. rw (e, f, other k x y f xy, other k w y f wy) (of4 w x z k))
     (λ f. by-test (eqb k x)

@@ -24,6 +24,9 @@ pub struct Tally {
     pub counts: [u64; 9],
 }
 
+// The bytes that are lent for the nine counts.
+pub const COUNTS: usize = 72;
+
 // Refusal 2: the length of the label, of the disk or of what is lent for the counts isn't right.
 pub(crate) fn lengths_wrong(b: BoxRecord, label: &[u8], disk: &[u8], room: usize) -> bool
     requires { ⌜ (b .size ≤ 4096) × (b .blocks ≤ 65536) ⌝ }
@@ -35,7 +38,7 @@ pub(crate) fn lengths_wrong(b: BoxRecord, label: &[u8], disk: &[u8], room: usize
     if label.len() != 64 {
         return true;
     }
-    room != 72
+    room != COUNTS
 }
 
 // Refusal 17: more than the search is for.

@@ -41,7 +41,8 @@ loop-again c =
     let lo = s .before .before .before .before .before in
     let a = lo .before .before .before .args in
     let t = sym (compared s) ∙ c .if1 .left in
-    (omega arith, lo .loop .inv .1 ∙ first-on (test (a .b .label) (a .disk .now) (a .a)) (lo .loop .i) (a .a) (omega arith) t, lo .loop .inv .2, lo .loop .inv .3)
+    let e = lo .loop .inv .1 ∙ first-on (test (a .b .label) (a .disk .now) (a .a)) (lo .loop .i) (a .a) (omega arith) t in
+    (omega arith, e, lo .loop .inv .2, lo .loop .inv .3)
 
 returns-2 : tie.Need-returns-2 Inv-loop μ-loop
 returns-2 c =

@@ -74,7 +74,8 @@ pub +search-spec : {M : Type 1} → statement M
     let lo = re .before .before .before in
     let st = lo .before .before .before in
     let a = st .args in
-    let e = c .up .ensures ∙ ap₂ upNine (c .before .before .search .ensures ∙ ap (λ z. searched (a .q) z (a .k - 1)) (re .read .ensures)) (c .before .hits .ensures) in
+    let below = c .before .before .search .ensures ∙ ap (λ z. searched (a .q) z (a .k - 1)) (re .read .ensures) in
+    let e = c .up .ensures ∙ ap₂ upNine below (c .before .hits .ensures) in
     rw (lo .loop .inv .1, e) (room (a .q) (a .s) (a .k) (lo .loop .a) (st .pre .1 .0) (st .pre .1 .1) (re .before .if2 .taken)))
     (λ c.
     let th = c .before .before .before .before .before in
@@ -87,7 +88,8 @@ pub +search-spec : {M : Type 1} → statement M
     let re = c .before .before .before .before in
     let lo = re .before .before .before in
     let a = lo .before .before .before .args in
-    let e = c .before .up .ensures ∙ ap₂ upNine (c .before .before .before .search .ensures ∙ ap (λ z. searched (a .q) z (a .k - 1)) (re .read .ensures)) (c .before .before .hits .ensures) in
+    let below = c .before .before .before .search .ensures ∙ ap (λ z. searched (a .q) z (a .k - 1)) (re .read .ensures) in
+    let e = c .before .up .ensures ∙ ap₂ upNine below (c .before .before .hits .ensures) in
     (omega (arith, re .before .if2 .taken), c .plus .ensures ∙ ap₂ plusNine (lo .loop .inv .1) e ∙ summed-next (branch (a .q) (a .s) (a .k)) (lo .loop .a)))
     (λ c.
     let lo = c .before .before in
