@@ -34,7 +34,7 @@
 #define BAR 40
 
 static size_t B, P, m, d, k;
-static uint8_t *disk;
+static uint8_t nothing[1], *disk = nothing;
 static size_t disk_length;
 static uint8_t counts[MINDAVEHU_COUNTS];
 static const uint8_t label[MINDAVEHU_LABEL] = {0};
@@ -126,7 +126,7 @@ static void print_table(void)
     printf("hits   lists    share\n");
     for (size_t h = 0; h <= MOST_K; h++) {
         size_t count = count_of(h), tenths = (2000 * count + total) / (2 * total), bar = (BAR * count + most - 1) / most;
-        printf("%4zu %7zu %6zu.%zu %%%s", h, count, tenths / 10, tenths % 10, bar ? "  " : "");
+        printf("%4zu %7zu %4zu.%zu %%%s", h, count, tenths / 10, tenths % 10, bar ? "  " : "");
         while (bar-- > 0)
             printf("#");
         printf("\n");
@@ -270,6 +270,5 @@ int main(int words, char **word)
         print_lists();
     if (fflush(stdout) != 0 || ferror(stdout))
         fail(1, "the output cannot be written: %s", strerror(errno));
-    free(disk);
     return 0;
 }

@@ -56,6 +56,7 @@ fn what_is_there() {
     assert_eq!(found, files(&root().join("dist")), "the copy and dist/");
     let wanted = [
         "bin/replay",
+        "bin/exam",
         "include/mindavehu.h",
         "lib/libmindavehu.a",
         "lib/pkgconfig/mindavehu.pc",
@@ -112,6 +113,18 @@ fn the_week_without_a_toolchain() {
     println!("{}", version.replace('\n', ", "));
 }
 
+/// The exam's command of the tree prints what that of the checkout does.
+#[test]
+fn exam_questions_without_a_toolchain() {
+    let path = commands("exam-no-toolchain", &PLAIN_COMMANDS);
+    let words = ["--list", "2", "3", "64", "4", "3", "2", "5"];
+    let done = Command::new(tree().join("bin/exam")).args(words).env_clear().env("PATH", &path).stdin(Stdio::null()).output().unwrap();
+    let own = Command::new(root().join("exam")).args(words).stdin(Stdio::null()).output().unwrap();
+    assert!(done.status.success() && done.stderr.is_empty() && own.status.success(), "{}", String::from_utf8_lossy(&done.stderr));
+    assert!(done.stdout == own.stdout && !done.stdout.is_empty());
+    println!("{}", String::from_utf8_lossy(&done.stdout).lines().next().unwrap());
+}
+
 /// The page needs python3: without it that is said, and with it the page is the one of docs/.
 #[test]
 fn the_page() {
@@ -127,7 +140,7 @@ fn the_page() {
 /// The programs need the C library and nothing else that is loaded.
 #[test]
 fn the_c_library_alone() {
-    for name in ["replay_cli", "states", "mark"] {
+    for name in ["replay_cli", "states", "exam", "mark"] {
         let done = Command::new("ldd").arg(tree().join("libexec/mindavehu").join(name)).output().unwrap();
         let said = String::from_utf8(done.stdout).unwrap() + &String::from_utf8_lossy(&done.stderr);
         let others: Vec<&str> = said
@@ -136,7 +149,7 @@ fn the_c_library_alone() {
             .collect();
         assert!(others.is_empty() && !said.is_empty(), "{name}: {said}");
     }
-    println!("three programs, and the C library alone");
+    println!("four programs, and the C library alone");
 }
 
 fn pkg_config(words: &[&str]) -> String {
