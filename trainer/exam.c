@@ -87,16 +87,17 @@ static void fill_disk(const char *contents)
     lend_disk(P * B);
     for (size_t a = 0; a < P; a++)
         memset(disk + a * B, (int)(a % 256), B);
-    for (size_t a = 0; contents && *contents; a++) {
-        size_t digits = strspn(contents, "0123456789");
-        unsigned long content = strtoul(contents, NULL, 10);
-        const char *rest = contents + digits;
-        if (digits == 0 || digits > 3 || (digits > 1 && *contents == '0') || content > 255 || (*rest && (*rest != ',' || !rest[1])))
+    const char *rest = contents;
+    for (size_t a = 0; rest && *rest; a++) {
+        size_t digits = strspn(rest, "0123456789");
+        unsigned long content = strtoul(rest, NULL, 10);
+        const char *end = rest + digits;
+        if (digits == 0 || digits > 3 || (digits > 1 && *rest == '0') || content > 255 || (*end && (*end != ',' || !end[1])))
             fail(2, "--disk takes contents from 0 to 255 with commas between them, such as 0,7,7; this is no such list: %s", contents);
         if (a >= P)
-            fail(2, "--disk has more contents than the disk has blocks, from here on: %s", contents);
+            fail(2, "--disk has more contents than the disk has blocks, from here on: %s", rest);
         memset(disk + a * B, (int)content, B);
-        contents = *rest ? rest + 1 : rest;
+        rest = *end ? end + 1 : end;
     }
 }
 

@@ -116,7 +116,7 @@ const MOST_AT_WORST: f64 = 140_000.0;
 const LEAST_OF_HITS: f64 = 5.0;
 const LEAST_OF_MISSES: f64 = 0.97;
 /// The most milliseconds of an exam question.
-const MOST_OF_QUESTION: f64 = 20.0;
+const MOST_OF_QUESTION: f64 = 5.0;
 
 fn print_what_is_measured() {
     let sha = if cfg!(feature = "soft") { "portable code (`force-soft`)" } else { "the processor's SHA instructions where it has them" };
