@@ -65,6 +65,7 @@ fn what_is_there() {
     ];
     for name in wanted.iter().chain(&[
         "share/man/man1/replay.1",
+        "share/man/man1/exam.1",
         "share/mindavehu/lessons/week.txt",
         "share/mindavehu/docs/week.html",
         "share/mindavehu/docs/FORMATS.md",
@@ -179,7 +180,7 @@ fn from_c_by_pkg_config() {
     }
 }
 
-/// Every option that --help names is in the manual page, and the other way round.
+/// Every option that --help names is in the command's manual page, and the other way round.
 #[test]
 fn the_manual_page() {
     let options = |text: &str| {
@@ -192,9 +193,13 @@ fn the_manual_page() {
         found.dedup();
         found
     };
-    let page = std::fs::read_to_string(tree().join("share/man/man1/replay.1")).unwrap().replace("\\-", "-");
-    let help = String::from_utf8(Command::new(root().join("replay")).arg("--help").output().unwrap().stdout).unwrap();
-    assert_eq!(options(&page), options(&help));
-    assert!(options(&page).len() >= 9 && !page.contains("@VERSION@"));
-    println!("the manual page: {}", options(&page).join(" "));
+    for (name, least) in [("replay", 9), ("exam", 3)] {
+        let page = std::fs::read_to_string(tree().join(format!("share/man/man1/{name}.1"))).unwrap().replace("\\-", "-");
+        // Of ./replay the exam's help names options too, each behind its name.
+        let help = String::from_utf8(Command::new(root().join(name)).arg("--help").output().unwrap().stdout).unwrap();
+        let own = if name == "exam" { help.replace("./replay --build", "").replace("./replay --disk", "") } else { help };
+        assert_eq!(options(&page), options(&own), "{name}");
+        assert!(options(&page).len() >= least && !page.contains("@VERSION@"));
+        println!("the manual page of {name}: {}", options(&page).join(" "));
+    }
 }
