@@ -7,7 +7,7 @@
  * d cached blocks (1 to 256). n is the number of addresses held now.
  *
  * The buffers. Each is given as a pointer and a length in bytes:
- *   state      72             B, P, m, d, n, reads, hits, flash writes, primary writes: 8 bytes each, little-endian
+ *   state      136            B, P, m, d, n, reads, hits, flash writes, primary writes: 8 bytes each, little-endian; then the label
  *   disk       P x B          block k starts at byte k x B
  *   flash      d x B          likewise
  *   addresses  m x 40         the address table; the library's own layout
@@ -15,25 +15,28 @@
  *   block      B              the one block that a read fills or a write takes
  *   answer     24             the word, the flash writes and the primary writes: 8 bytes each, little-endian
  *                             (a look: the word, the byte where the part starts, the part's length)
+ * for an opening, beside the state, the disk, the flash and the tables:
+ *   label      64             the office's label, any bytes: a served opening puts it into the state, from which all other calls take it
  * and for the one call that reads a list of addresses, in place of the block and of that answer:
  *   asked      count          the addresses, 1 to 64 of them; this length alone is a number of uint32_t, not of bytes
  *   buffer     count x B      the blocks read: block i of it is that at asked[i]
  *   answer     32             the hits, the flash writes, the primary writes and the fetches: 8 bytes each, little-endian
  *
  * The result of each function is the number of a refusal, or MINDAVEHU_SERVED. A refused call changes no buffer, but for a refused
- * opening, which writes n = 0 into the state. A state that is not 72 bytes, or an answer that is not 24 (of the call for a list: not 32), gives
- * MINDAVEHU_WRONG_LENGTH before anything else is looked at, and nothing at all is changed.
+ * opening, which writes n = 0 and a label of zeros into the state. A state that is not 136 bytes, or an answer that is not 24 (of the call for a list:
+ * not 32), gives MINDAVEHU_WRONG_LENGTH before anything else is looked at, and nothing at all is changed.
  * Where several refusals apply, the first of 1, 2, 10, 3, 6, 7, 8, 9 is told. Only the call for a list has 10. Flush has no 3, look no 9, opening
  * only 1 and 2.
  *
  * The caller's duties, which no call can check:
  *   - each pointer is to that many bytes (asked: to that many uint32_t), readable, and writable where it is not const; none is NULL, even at
  *     length 0;
- *   - the buffers of one call do not overlap, unless both are const;
+ *   - the buffers of one call do not overlap, unless both are const (so the label of an opening is not that in its own state);
  *   - nobody else reads or writes them while a call runs (a look only reads all but its answer, so looks may run beside each other);
  *   - between calls the buffers are kept as they were left. Other bytes do no harm to the program: a damaged table is refused with
  *     6, 7 or 8, and sound tables of another history are served as what they say.
- * Blocks are told apart by SHA-256 alone: two blocks with one fingerprint are taken for the same block.
+ * The fingerprint of a block is SHA-256 over the box's label followed by the block. Blocks are told apart by it alone: two blocks with one fingerprint
+ * are taken for the same block. Under different labels equal blocks have unrelated fingerprints; where that is not wanted, a label of zeros will do.
  *
  * The header is C99. A call needs at most MINDAVEHU_STACK bytes of stack, beside the lent buffers.
  *
@@ -47,12 +50,13 @@
  *     enum { B = 64, P = 8, M = 3, D = 2 };
  *     static uint8_t disk[MINDAVEHU_DISK_LENGTH(B, P)], flash[MINDAVEHU_FLASH_LENGTH(B, D)], block[MINDAVEHU_BLOCK_LENGTH(B)];
  *     static uint8_t addresses[MINDAVEHU_ADDRESSES_LENGTH(M)], blocks[MINDAVEHU_BLOCKS_LENGTH(D)];
+ *     static const uint8_t label[MINDAVEHU_LABEL] = "Office 7";
  *
  *     int main(void)
  *     {
  *         struct mindavehu_box box;
  *         mindavehu_box_lend(&box, disk, sizeof disk, flash, sizeof flash, addresses, sizeof addresses, blocks, sizeof blocks);
- *         if (mindavehu_box_open(&box, B, P, M, D) != MINDAVEHU_SERVED)
+ *         if (mindavehu_box_open(&box, label, sizeof label, B, P, M, D) != MINDAVEHU_SERVED)
  *             return 1;
  *         memset(block, 7, sizeof block);
  *         if (mindavehu_box_write_back(&box, 5, block, sizeof block) != MINDAVEHU_SERVED)
@@ -77,6 +81,7 @@
  *     #include "mindavehu.h"
  *
  *     static uint8_t state[MINDAVEHU_STATE], answer[MINDAVEHU_ANSWER], many[MINDAVEHU_MANY_ANSWER];
+ *     static const uint8_t label[MINDAVEHU_LABEL] = "Office 7";
  *     static uint8_t disk[8 * 64], flash[2 * 64], addresses[3 * MINDAVEHU_ROW], blocks[2 * MINDAVEHU_ROW], block[64], buffer[4 * 64];
  *     static const uint32_t asked[4] = {5, 2, 6, 2};
  *
@@ -86,7 +91,7 @@
  *         mindavehu_put(state, MINDAVEHU_P, 8);
  *         mindavehu_put(state, MINDAVEHU_M, 3);
  *         mindavehu_put(state, MINDAVEHU_D, 2);
- *         if (mindavehu_open(state, sizeof state, disk, sizeof disk, flash, sizeof flash,
+ *         if (mindavehu_open(state, sizeof state, label, sizeof label, disk, sizeof disk, flash, sizeof flash,
  *                            addresses, sizeof addresses, blocks, sizeof blocks) != MINDAVEHU_SERVED)
  *             return 1;
  *         memset(block, 7, sizeof block);
@@ -116,17 +121,19 @@
 extern "C" {
 #endif
 
-/* The version of this header and of the library that belongs to it. */
-#define MINDAVEHU_VERSION "1.0.0"
-#define MINDAVEHU_VERSION_MAJOR 1
+/* The version of this header and of the library that belongs to it. Version 1 had a state of 72 bytes without a label, and opened a box without one; in
+ * version 2 the layout of the state is another: the label follows the nine numbers. */
+#define MINDAVEHU_VERSION "2.0.0"
+#define MINDAVEHU_VERSION_MAJOR 2
 #define MINDAVEHU_VERSION_MINOR 0
 #define MINDAVEHU_VERSION_PATCH 0
 
 /* The most bytes of stack that a call needs. */
 #define MINDAVEHU_STACK 24576
 
-/* Lengths in bytes: of the state, of an answer, of the answer of the call for a list, and of a row of either table. */
-#define MINDAVEHU_STATE 72
+/* Lengths in bytes: of the state, of a label, of an answer, of the answer of the call for a list, and of a row of either table. */
+#define MINDAVEHU_STATE 136
+#define MINDAVEHU_LABEL 64
 #define MINDAVEHU_ANSWER 24
 #define MINDAVEHU_MANY_ANSWER 32
 #define MINDAVEHU_ROW 40
@@ -162,7 +169,7 @@ extern "C" {
 #define MINDAVEHU_DISK 6   /* a look: the part is of the disk */
 #define MINDAVEHU_DONE 7   /* a flush, whole or in parts */
 
-/* The fields of the state, by the byte where each starts. */
+/* The fields of the state, by the byte where each starts. The last is no number but the MINDAVEHU_LABEL bytes of the label. */
 #define MINDAVEHU_B 0
 #define MINDAVEHU_P 8
 #define MINDAVEHU_M 16
@@ -172,6 +179,7 @@ extern "C" {
 #define MINDAVEHU_HITS 48
 #define MINDAVEHU_FLASH_WRITES 56
 #define MINDAVEHU_PRIMARY_WRITES 64
+#define MINDAVEHU_STATE_LABEL 72
 
 /* The fields of an answer; of a look's, START and LENGTH stand for the second and the third. The answer of the call for a list has no word: its
  * first field is MANY_HITS, and a fourth is added, FETCHES. */
@@ -231,9 +239,10 @@ static inline const char *mindavehu_word_name(uint64_t word)
     }
 }
 
-/* Opens a box of the B, P, m and d in the state. Both tables become fresh, n and the counters 0; disk and flash keep their bytes.
- * Refused with 1 or 2: n = 0 is written, and nothing else. */
+/* Opens a box of the B, P, m and d in the state under a label, which is copied into the state. Both tables become fresh, n and the counters 0; disk and
+ * flash keep their bytes. Refused with 1 or 2: n = 0 and a label of zeros are written, and nothing else. */
 uint32_t mindavehu_open(uint8_t *state, size_t state_length,
+                        const uint8_t *label, size_t label_length,
                         const uint8_t *disk, size_t disk_length,
                         const uint8_t *flash, size_t flash_length,
                         uint8_t *addresses, size_t addresses_length,
@@ -346,13 +355,14 @@ static inline void mindavehu_box_lend(struct mindavehu_box *box, uint8_t *disk, 
 #define MINDAVEHU_BOX_MEMORY box->disk, box->disk_length, box->flash, box->flash_length, box->addresses, box->addresses_length, box->blocks, box->blocks_length
 #define MINDAVEHU_BOX_ANSWER box->answer, sizeof box->answer
 
-static inline uint32_t mindavehu_box_open(struct mindavehu_box *box, uint64_t B, uint64_t P, uint64_t m, uint64_t d)
+static inline uint32_t mindavehu_box_open(struct mindavehu_box *box, const uint8_t *label, size_t label_length,
+                                          uint64_t B, uint64_t P, uint64_t m, uint64_t d)
 {
     mindavehu_put(box->state, MINDAVEHU_B, B);
     mindavehu_put(box->state, MINDAVEHU_P, P);
     mindavehu_put(box->state, MINDAVEHU_M, m);
     mindavehu_put(box->state, MINDAVEHU_D, d);
-    return mindavehu_open(MINDAVEHU_BOX_STATE, MINDAVEHU_BOX_MEMORY);
+    return mindavehu_open(MINDAVEHU_BOX_STATE, label, label_length, MINDAVEHU_BOX_MEMORY);
 }
 
 static inline uint32_t mindavehu_box_read(struct mindavehu_box *box, uint32_t address, uint8_t *block, size_t block_length)

@@ -41,8 +41,8 @@ h2 code {{ background: #eee; padding: 0 0.3em; border-radius: 4px; }}
 <body>
 <h1>{title}</h1>
 <p class="key">{box}<br>
-Equal contents have one colour. A red frame and <b>*</b>: a dirty address, flash is newer than disk there. A dashed cell: a free row or slot. A hatched cell with a dotted frame: an
-address without its block, or a block without an address. A black label: changed by this line.</p>
+Equal contents have one colour. A red frame and <b>*</b>: a dirty address, flash is newer than disk there. A dashed cell: a free row or slot.
+A hatched cell with a dotted frame: an address without its block, or a block without an address. A black label: changed by this line.</p>
 """
 
 WORDS = {
@@ -79,8 +79,8 @@ class State:
 
 
 class Step:
-    """A line of the replay's output, the line of the list that it answers, and the lines after it: what was done and why, then, where there is a box, four lines
-    of its state."""
+    """A line of the replay's output, the line of the list that it answers, and the lines after it: what was done and why, then, where there is
+    a box, four lines of its state."""
 
     def __init__(self, asked, answer):
         self.asked, self.answer, self.lines = asked, answer, []

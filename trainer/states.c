@@ -77,6 +77,9 @@ static uint8_t addresses[MOST_M * MINDAVEHU_ROW], blocks[MOST_D * MINDAVEHU_ROW]
 static size_t B, P, m, d;
 static int full, parts, explains, counting;
 
+/* A replay's label is all zeros. */
+static const uint8_t label[MINDAVEHU_LABEL] = {0};
+
 /* The contents of the first disk blocks, where they are given; the reads so far, and what stopped the counting. */
 static uint32_t given[MOST_P];
 static size_t given_count;
@@ -112,6 +115,7 @@ struct call {
 #define TABLES addresses, m *MINDAVEHU_ROW, blocks, d *MINDAVEHU_ROW
 #define MEMORY disk, P *B, flash, d *B, TABLES
 #define STATE state, sizeof state
+#define LABEL label, sizeof label
 #define ANSWER answer, sizeof answer
 
 /* ---- Counting, from the list alone. */
@@ -263,10 +267,10 @@ static uint32_t open_box(const uint32_t numbers[4])
     if (P <= MOST_P && P * B <= MOST_BYTES && d * B <= MOST_BYTES && m <= MOST_M && d <= MOST_D) {
         for (size_t k = 0; k < P; k++)
             memset(disk + k * B, (int)first_content(k), B);
-        return mindavehu_open(STATE, MEMORY);
+        return mindavehu_open(STATE, LABEL, MEMORY);
     }
     /* More than there is memory for. Opened with no memory at all, the engine tells numbers outside their sets from a length that isn't right. */
-    uint32_t refusal = mindavehu_open(STATE, disk, 0, flash, 0, addresses, 0, blocks, 0);
+    uint32_t refusal = mindavehu_open(STATE, LABEL, disk, 0, flash, 0, addresses, 0, blocks, 0);
     return refusal == MINDAVEHU_OUTSIDE ? refusal : TOO_LARGE;
 }
 

@@ -11,6 +11,7 @@ enum { B = 4096, P = 2048, M = 1024, D = 256, STACK = 1 << 20, PAINT = 0xA5 };
 
 static uint8_t buffer[MINDAVEHU_MANY_MOST * B], many[MINDAVEHU_MANY_ANSWER];
 static uint8_t state[MINDAVEHU_STATE], answer[MINDAVEHU_ANSWER], addresses[M * MINDAVEHU_ROW], blocks[D * MINDAVEHU_ROW], block[B];
+static const uint8_t label[MINDAVEHU_LABEL] = "Office 7";
 static uint8_t *disk, *flash;
 
 #define MEMORY disk, P *B, flash, D *B, addresses, sizeof addresses, blocks, sizeof blocks
@@ -20,7 +21,7 @@ static void *nothing(void *unused) { return unused; }
 
 static void *opens(void *unused)
 {
-    mindavehu_open(state, sizeof state, MEMORY);
+    mindavehu_open(state, sizeof state, label, sizeof label, MEMORY);
     return unused;
 }
 

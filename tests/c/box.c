@@ -18,6 +18,7 @@ struct memory {
 
 static struct memory one, other;
 static struct mindavehu_box box;
+static const uint8_t label[MINDAVEHU_LABEL] = "Office 7";
 
 #define STATE other.state, sizeof other.state
 #define MEMORY other.disk, sizeof other.disk, other.flash, sizeof other.flash, other.addresses, sizeof other.addresses, other.blocks, sizeof other.blocks
@@ -89,8 +90,9 @@ static void the_same_calls(void)
     mindavehu_box_lend(&box, one.disk, sizeof one.disk, one.flash, sizeof one.flash, one.addresses, sizeof one.addresses, one.blocks, sizeof one.blocks);
     for (size_t k = 0; k < 4; k++)
         mindavehu_put(other.state, 8 * k, numbers[k]);
-    EXPECT(mindavehu_box_open(&box, B, P, M, D) == MINDAVEHU_SERVED);
-    EXPECT(mindavehu_open(STATE, MEMORY) == MINDAVEHU_SERVED);
+    EXPECT(mindavehu_box_open(&box, label, sizeof label, B, P, M, D) == MINDAVEHU_SERVED);
+    EXPECT(mindavehu_open(STATE, label, sizeof label, MEMORY) == MINDAVEHU_SERVED);
+    EXPECT(memcmp(box.state + MINDAVEHU_STATE_LABEL, label, sizeof label) == 0);
     expect_same();
     for (int k = 0; k < CALLS; k++) {
         unsigned kind = random_below(8);
@@ -108,19 +110,19 @@ static void the_same_calls(void)
 static void the_lengths(void)
 {
     static const struct { size_t B, P, m, d; } boxes[] = {{64, 1, 1, 1}, {64, 9, 4, 3}, {1024, 40, 30, 20}, {4096, 16, 1024, 256}};
-    static uint8_t bytes[4][4096 * 256 + 1];
+    static uint8_t bytes[5][4096 * 256 + 1];
     for (size_t k = 0; k < sizeof boxes / sizeof *boxes; k++) {
-        size_t lengths[4] = {MINDAVEHU_DISK_LENGTH(boxes[k].B, boxes[k].P), MINDAVEHU_FLASH_LENGTH(boxes[k].B, boxes[k].d),
-                             MINDAVEHU_ADDRESSES_LENGTH(boxes[k].m), MINDAVEHU_BLOCKS_LENGTH(boxes[k].d)};
-        /* 4: all are right. */
-        for (int wrong = 0; wrong <= 4; wrong++)
+        size_t lengths[5] = {MINDAVEHU_DISK_LENGTH(boxes[k].B, boxes[k].P), MINDAVEHU_FLASH_LENGTH(boxes[k].B, boxes[k].d),
+                             MINDAVEHU_ADDRESSES_LENGTH(boxes[k].m), MINDAVEHU_BLOCKS_LENGTH(boxes[k].d), MINDAVEHU_LABEL};
+        /* 5: all are right. */
+        for (int wrong = 0; wrong <= 5; wrong++)
             for (int more = 0; more < 2; more++) {
-                size_t given[4];
-                for (int i = 0; i < 4; i++)
+                size_t given[5];
+                for (int i = 0; i < 5; i++)
                     given[i] = lengths[i] + (i == wrong ? (more ? (size_t)1 : (size_t)-1) : 0);
                 mindavehu_box_lend(&box, bytes[0], given[0], bytes[1], given[1], bytes[2], given[2], bytes[3], given[3]);
-                uint32_t refusal = mindavehu_box_open(&box, boxes[k].B, boxes[k].P, boxes[k].m, boxes[k].d);
-                EXPECT(refusal == (wrong == 4 ? MINDAVEHU_SERVED : MINDAVEHU_WRONG_LENGTH));
+                uint32_t refusal = mindavehu_box_open(&box, bytes[4], given[4], boxes[k].B, boxes[k].P, boxes[k].m, boxes[k].d);
+                EXPECT(refusal == (wrong == 5 ? MINDAVEHU_SERVED : MINDAVEHU_WRONG_LENGTH));
             }
     }
     EXPECT(MINDAVEHU_DISK_LENGTH(4096, 65536) == (size_t)4096 * 65536);

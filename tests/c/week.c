@@ -1,5 +1,5 @@
 /* A week of calls through the header: the document's replay (E1), write back and sharing, eviction, flush, whole and in parts, looks, a folder opened
- * with one call, and refusals.
+ * with one call, two offices with equal pages, and refusals.
  * Prints what it checked, or the line that failed. */
 #include <stdio.h>
 #include <stdlib.h>
@@ -52,7 +52,16 @@ static void drop(struct box *b)
 #define BLOCK(b) (b)->block, (b)->block_length
 #define ANSWER(b) (b)->answer, MINDAVEHU_ANSWER
 
-static uint32_t open_box(struct box *b) { return mindavehu_open(STATE(b), MEMORY(b)); }
+/* Under a label whose bytes are all the same, in a piece of the heap of that length. */
+static uint32_t open_under(struct box *b, int byte, size_t length)
+{
+    uint8_t *label = piece(length + (length == 0));
+    memset(label, byte, length);
+    uint32_t refusal = mindavehu_open(STATE(b), label, length, MEMORY(b));
+    free(label);
+    return refusal;
+}
+static uint32_t open_box(struct box *b) { return open_under(b, 0x4F, MINDAVEHU_LABEL); }
 static uint32_t read_block(struct box *b, uint32_t a)
 {
     memset(b->block, 0xEE, b->block_length);
@@ -270,6 +279,49 @@ static void folder(void)
     drop(&b), drop(&copy), drop_folder(&f);
 }
 
+/* Whether the state's label has this byte throughout. */
+static int labelled(const struct box *b, int byte) { return filled(b->state + MINDAVEHU_STATE_LABEL, MINDAVEHU_LABEL, byte); }
+
+/* The fingerprint of a row of the address table: behind the address, 32 bytes. */
+static const uint8_t *fingerprint(const struct box *b, size_t row) { return b->addresses + row * MINDAVEHU_ROW + 4; }
+
+/* Two offices with equal pages: the same answers and blocks, and no fingerprint of one is the other's. A box under the first one's label has its tables. */
+static void offices(void)
+{
+    struct box one = make(64, 8, 3, 2), two = make(64, 8, 3, 2), twin = make(64, 8, 3, 2), *boxes[3] = {&one, &two, &twin};
+    for (size_t k = 0; k < 3; k++) {
+        struct box *b = boxes[k];
+        EXPECT(open_under(b, k == 1 ? 0x02 : 0x01, MINDAVEHU_LABEL) == MINDAVEHU_SERVED && labelled(b, k == 1 ? 0x02 : 0x01));
+        EXPECT(read_block(b, 1) == 0 && says(b, MINDAVEHU_MISS, 1, 0) && filled(b->block, 64, 1));
+        EXPECT(back(b, 3, 1) == 0 && says(b, MINDAVEHU_SAME, 0, 0));
+        EXPECT(through(b, 4, 9) == 0 && says(b, MINDAVEHU_NEW, 1, 1));
+        EXPECT(read_block(b, 3) == 0 && says(b, MINDAVEHU_HIT, 0, 0) && filled(b->block, 64, 1));
+        EXPECT(counted(b, 2, 1, 2, 1) && labelled(b, k == 1 ? 0x02 : 0x01));
+    }
+    EXPECT(same(one.disk, two.disk, one.disk_length) && same(one.flash, two.flash, one.flash_length));
+    EXPECT(same(one.addresses, twin.addresses, one.addresses_length) && same(one.blocks, twin.blocks, one.blocks_length));
+    EXPECT(same(fingerprint(&one, 0), fingerprint(&one, 2), 32) && !same(fingerprint(&one, 0), fingerprint(&one, 1), 32));
+    for (size_t i = 0; i < 3; i++)
+        for (size_t k = 0; k < 3; k++)
+            EXPECT(!same(fingerprint(&one, i), fingerprint(&two, k), 32));
+    drop(&one), drop(&two), drop(&twin);
+}
+
+/* A label that has not 64 bytes is refused, after numbers outside their sets; n and the label are zeros then. */
+static void labels(void)
+{
+    static const size_t lengths[] = {0, 1, 63, 65, 72, 128, 136};
+    for (size_t k = 0; k < sizeof lengths / sizeof *lengths; k++) {
+        struct box b = make(64, 8, 3, 2);
+        EXPECT(open_box(&b) == 0 && back(&b, 3, 1) == 0 && labelled(&b, 0x4F));
+        EXPECT(open_under(&b, 0x77, lengths[k]) == MINDAVEHU_WRONG_LENGTH);
+        EXPECT(mindavehu_get(b.state, MINDAVEHU_N) == 0 && labelled(&b, 0) && counted(&b, 0, 0, 1, 0) && b.addresses[0] == 3);
+        mindavehu_put(b.state, MINDAVEHU_D, 257);
+        EXPECT(open_under(&b, 0x77, lengths[k]) == MINDAVEHU_OUTSIDE && labelled(&b, 0));
+        drop(&b);
+    }
+}
+
 /* Everything that a call can change, to compare. */
 static uint8_t *all(const struct box *b, size_t *length)
 {
@@ -301,11 +353,12 @@ static void refusals(void)
     EXPECT(open_box(&b) == 0 && back(&b, 3, 1) == 0);
     KEPT(&b, mindavehu_read(STATE(&b), 8, MEMORY(&b), BLOCK(&b), ANSWER(&b)), MINDAVEHU_NO_ADDRESS);
     KEPT(&b, mindavehu_look(STATE(&b), 0xFFFFFFFF, MEMORY(&b), ANSWER(&b)), MINDAVEHU_NO_ADDRESS);
-    KEPT(&b, mindavehu_read(b.state, 71, 1, MEMORY(&b), BLOCK(&b), ANSWER(&b)), MINDAVEHU_WRONG_LENGTH);
+    KEPT(&b, mindavehu_read(b.state, 135, 1, MEMORY(&b), BLOCK(&b), ANSWER(&b)), MINDAVEHU_WRONG_LENGTH);
+    KEPT(&b, mindavehu_read(b.state, 72, 1, MEMORY(&b), BLOCK(&b), ANSWER(&b)), MINDAVEHU_WRONG_LENGTH);
     KEPT(&b, mindavehu_flush(STATE(&b), MEMORY(&b), b.answer, 23), MINDAVEHU_WRONG_LENGTH);
-    KEPT(&b, mindavehu_flush_some(b.state, 71, 1, MEMORY(&b), ANSWER(&b)), MINDAVEHU_WRONG_LENGTH);
+    KEPT(&b, mindavehu_flush_some(b.state, 135, 1, MEMORY(&b), ANSWER(&b)), MINDAVEHU_WRONG_LENGTH);
     KEPT(&b, mindavehu_look(STATE(&b), 1, MEMORY(&b), b.answer, 0), MINDAVEHU_WRONG_LENGTH);
-    KEPT(&b, mindavehu_open(b.state, 8, MEMORY(&b)), MINDAVEHU_WRONG_LENGTH);
+    KEPT(&b, mindavehu_open(b.state, 72, b.block, 64, MEMORY(&b)), MINDAVEHU_WRONG_LENGTH);
     KEPT(&b, mindavehu_write_back(STATE(&b), 1, MEMORY(&b), b.block, 63, ANSWER(&b)), MINDAVEHU_WRONG_LENGTH);
     mindavehu_put(b.state, MINDAVEHU_READS, (1ull << 63) + 1);
     KEPT(&b, mindavehu_read(STATE(&b), 1, MEMORY(&b), BLOCK(&b), ANSWER(&b)), MINDAVEHU_COUNTER_FULL);
@@ -324,6 +377,7 @@ static void refusals(void)
     mindavehu_put(b.state, MINDAVEHU_HITS, 77);
     EXPECT(open_box(&b) == MINDAVEHU_OUTSIDE);
     EXPECT(mindavehu_get(b.state, MINDAVEHU_N) == 0 && mindavehu_get(b.state, MINDAVEHU_HITS) == 77 && mindavehu_get(b.state, MINDAVEHU_B) == 96);
+    EXPECT(labelled(&b, 0));
     mindavehu_put(b.state, MINDAVEHU_B, 64);
     EXPECT(open_box(&b) == 0 && counted(&b, 0, 0, 0, 0) && filled(b.addresses, b.addresses_length, 0));
     drop(&b);
@@ -370,7 +424,7 @@ static void folder_refusals(void)
                 MINDAVEHU_OUTSIDE);
     FOLDER_KEPT(&b, &f, mindavehu_read_many(STATE(&b), FOLDER(&f), MEMORY(&b), f.buffer, f.buffer_length, f.answer, MINDAVEHU_ANSWER),
                 MINDAVEHU_WRONG_LENGTH);
-    FOLDER_KEPT(&b, &f, mindavehu_read_many(b.state, 71, FOLDER(&f), MEMORY(&b), INTO(&f)), MINDAVEHU_WRONG_LENGTH);
+    FOLDER_KEPT(&b, &f, mindavehu_read_many(b.state, 72, FOLDER(&f), MEMORY(&b), INTO(&f)), MINDAVEHU_WRONG_LENGTH);
     drop(&b), drop_folder(&f), drop_folder(&none), drop_folder(&above);
 }
 
@@ -382,6 +436,8 @@ int main(void)
     in_parts();
     writes();
     folder();
+    offices();
+    labels();
     refusals();
     folder_refusals();
     printf("week: %u facts hold\n", checks);

@@ -154,13 +154,18 @@ impl<I: Index> Taken<'_, I> {
     }
 }
 
-pub fn open(state: &mut [u8], disk: &[u8], flash: &[u8], addresses: &mut [u8], blocks: &mut [u8]) -> Result<(), u32> {
-    if state.len() != 72 {
+pub fn open(state: &mut [u8], label: &[u8], disk: &[u8], flash: &[u8], addresses: &mut [u8], blocks: &mut [u8]) -> Result<(), u32> {
+    if state.len() != STATE {
         return Err(2);
     }
     set_number(state, 4, 0);
+    set_label(state, &[0; LABEL]);
     numbers(state, [disk.len(), flash.len(), addresses.len(), blocks.len()], None, None)?;
-    state[FIRST_COUNTER * 8..].fill(0);
+    if label.len() != LABEL {
+        return Err(2);
+    }
+    set_label(state, label);
+    state[FIRST_COUNTER * 8..STATE - LABEL].fill(0);
     addresses.fill(0);
     blocks.fill(0);
     for (k, row) in blocks.chunks_exact_mut(ROW).enumerate() {
@@ -183,7 +188,7 @@ fn checked<I: Index>(
     answer: &[u8],
     counted: bool,
 ) -> Result<Sizes, u32> {
-    if state.len() != 72 || answer.len() != 24 {
+    if state.len() != STATE || answer.len() != 24 {
         return Err(2);
     }
     let sizes = numbers(state, [disk.len(), flash.len(), addresses.len(), blocks.len()], a, block)?;
@@ -212,7 +217,7 @@ fn read_one<I: Index>(mut taken: Taken<I>, a: u32, block: &mut [u8], given: Opti
                 Some(given) => block.copy_from_slice(given),
                 None => copy(taken.disk, a as usize, block, 0, b),
             }
-            let g = fingerprint(block);
+            let g = fingerprint(label(taken.state), block);
             (MISS, g, taken.index.find(taken.blocks, &g), false)
         }
     };
@@ -221,7 +226,16 @@ fn read_one<I: Index>(mut taken: Taken<I>, a: u32, block: &mut [u8], given: Opti
 }
 
 #[allow(clippy::too_many_arguments)]
-pub fn read<I: Index>(state: &mut [u8], a: u32, disk: &mut [u8], flash: &mut [u8], addresses: &mut [u8], blocks: &mut [u8], block: &mut [u8], answer: &mut [u8]) -> Result<(), u32> {
+pub fn read<I: Index>(
+    state: &mut [u8],
+    a: u32,
+    disk: &mut [u8],
+    flash: &mut [u8],
+    addresses: &mut [u8],
+    blocks: &mut [u8],
+    block: &mut [u8],
+    answer: &mut [u8],
+) -> Result<(), u32> {
     let mut index = I::default();
     let sizes = checked(&mut index, state, Some(a), disk, flash, addresses, blocks, Some(block.len()), answer, true)?;
     let taken = Taken { sizes, index: &index, state, disk, flash, addresses, blocks };
@@ -246,7 +260,7 @@ pub fn read_many<I: Index>(
     buffer: &mut [u8],
     answer: &mut [u8],
 ) -> Result<(), u32> {
-    if state.len() != 72 || answer.len() != 32 {
+    if state.len() != STATE || answer.len() != 32 {
         return Err(2);
     }
     let sizes = numbers(state, [disk.len(), flash.len(), addresses.len(), blocks.len()], None, None)?;
@@ -287,11 +301,21 @@ pub fn read_many<I: Index>(
 }
 
 #[allow(clippy::too_many_arguments)]
-pub fn write<I: Index>(state: &mut [u8], a: u32, disk: &mut [u8], flash: &mut [u8], addresses: &mut [u8], blocks: &mut [u8], block: &[u8], answer: &mut [u8], dirty: bool) -> Result<(), u32> {
+pub fn write<I: Index>(
+    state: &mut [u8],
+    a: u32,
+    disk: &mut [u8],
+    flash: &mut [u8],
+    addresses: &mut [u8],
+    blocks: &mut [u8],
+    block: &[u8],
+    answer: &mut [u8],
+    dirty: bool,
+) -> Result<(), u32> {
     let mut index = I::default();
     let sizes = checked(&mut index, state, Some(a), disk, flash, addresses, blocks, Some(block.len()), answer, true)?;
     let held = held(&sizes, addresses, a);
-    let g = fingerprint(block);
+    let g = fingerprint(label(state), block);
     let cached = index.find(blocks, &g);
     let word = if cached.is_some() { SAME } else { NEW };
     if !dirty {
@@ -304,10 +328,19 @@ pub fn write<I: Index>(state: &mut [u8], a: u32, disk: &mut [u8], flash: &mut [u
 }
 
 #[allow(clippy::too_many_arguments)]
-pub fn write_invalidate<I: Index>(state: &mut [u8], a: u32, disk: &mut [u8], flash: &[u8], addresses: &mut [u8], blocks: &mut [u8], block: &[u8], answer: &mut [u8]) -> Result<(), u32> {
+pub fn write_invalidate<I: Index>(
+    state: &mut [u8],
+    a: u32,
+    disk: &mut [u8],
+    flash: &[u8],
+    addresses: &mut [u8],
+    blocks: &mut [u8],
+    block: &[u8],
+    answer: &mut [u8],
+) -> Result<(), u32> {
     let mut index = I::default();
     let sizes = checked(&mut index, state, Some(a), disk, flash, addresses, blocks, Some(block.len()), answer, true)?;
-    let word = if index.find(blocks, &fingerprint(block)).is_some() { SAME } else { NEW };
+    let word = if index.find(blocks, &fingerprint(label(state), block)).is_some() { SAME } else { NEW };
     copy(block, 0, disk, a as usize, sizes.b);
     if let Some(k) = held(&sizes, addresses, a) {
         let old = *row(addresses, k);

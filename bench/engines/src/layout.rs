@@ -5,8 +5,22 @@ pub const ROW: usize = 40;
 pub type Row = [u8; ROW];
 pub type Fingerprint = [u8; 32];
 
-pub fn fingerprint(block: &[u8]) -> Fingerprint {
-    Sha256::digest(block).into()
+/// The state: nine numbers of 8 bytes, then the office's label.
+pub const STATE: usize = 136;
+pub const LABEL: usize = 64;
+pub type Label = [u8; LABEL];
+
+pub fn label(state: &[u8]) -> &Label {
+    state[STATE - LABEL..].try_into().unwrap()
+}
+
+pub fn set_label(state: &mut [u8], label: &[u8]) {
+    state[STATE - LABEL..].copy_from_slice(label);
+}
+
+/// SHA-256 over the label followed by the block.
+pub fn fingerprint(label: &Label, block: &[u8]) -> Fingerprint {
+    Sha256::new().chain_update(label).chain_update(block).finalize().into()
 }
 
 pub fn number(bytes: &[u8], k: usize) -> u64 {

@@ -17,11 +17,20 @@ fn number_of(result: Result<(), u32>) -> u32 {
 /// The functions of an engine, as the service has them: all of its calls on slices, with the number of the refusal as result.
 macro_rules! calls {
     ($index:ty) => {
-        pub fn open(state: &mut [u8], disk: &[u8], flash: &[u8], addresses: &mut [u8], blocks: &mut [u8]) -> u32 {
-            crate::number_of(crate::engine::open(state, disk, flash, addresses, blocks))
+        pub fn open(state: &mut [u8], label: &[u8], disk: &[u8], flash: &[u8], addresses: &mut [u8], blocks: &mut [u8]) -> u32 {
+            crate::number_of(crate::engine::open(state, label, disk, flash, addresses, blocks))
         }
         #[allow(clippy::too_many_arguments)]
-        pub fn read(state: &mut [u8], address: u32, disk: &mut [u8], flash: &mut [u8], addresses: &mut [u8], blocks: &mut [u8], block: &mut [u8], answer: &mut [u8]) -> u32 {
+        pub fn read(
+            state: &mut [u8],
+            address: u32,
+            disk: &mut [u8],
+            flash: &mut [u8],
+            addresses: &mut [u8],
+            blocks: &mut [u8],
+            block: &mut [u8],
+            answer: &mut [u8],
+        ) -> u32 {
             crate::number_of(crate::engine::read::<$index>(state, address, disk, flash, addresses, blocks, block, answer))
         }
         #[allow(clippy::too_many_arguments)]
@@ -38,15 +47,42 @@ macro_rules! calls {
             crate::number_of(crate::engine::read_many::<$index>(state, asked, disk, flash, addresses, blocks, buffer, answer))
         }
         #[allow(clippy::too_many_arguments)]
-        pub fn write_through(state: &mut [u8], address: u32, disk: &mut [u8], flash: &mut [u8], addresses: &mut [u8], blocks: &mut [u8], block: &[u8], answer: &mut [u8]) -> u32 {
+        pub fn write_through(
+            state: &mut [u8],
+            address: u32,
+            disk: &mut [u8],
+            flash: &mut [u8],
+            addresses: &mut [u8],
+            blocks: &mut [u8],
+            block: &[u8],
+            answer: &mut [u8],
+        ) -> u32 {
             crate::number_of(crate::engine::write::<$index>(state, address, disk, flash, addresses, blocks, block, answer, false))
         }
         #[allow(clippy::too_many_arguments)]
-        pub fn write_back(state: &mut [u8], address: u32, disk: &mut [u8], flash: &mut [u8], addresses: &mut [u8], blocks: &mut [u8], block: &[u8], answer: &mut [u8]) -> u32 {
+        pub fn write_back(
+            state: &mut [u8],
+            address: u32,
+            disk: &mut [u8],
+            flash: &mut [u8],
+            addresses: &mut [u8],
+            blocks: &mut [u8],
+            block: &[u8],
+            answer: &mut [u8],
+        ) -> u32 {
             crate::number_of(crate::engine::write::<$index>(state, address, disk, flash, addresses, blocks, block, answer, true))
         }
         #[allow(clippy::too_many_arguments)]
-        pub fn write_invalidate(state: &mut [u8], address: u32, disk: &mut [u8], flash: &[u8], addresses: &mut [u8], blocks: &mut [u8], block: &[u8], answer: &mut [u8]) -> u32 {
+        pub fn write_invalidate(
+            state: &mut [u8],
+            address: u32,
+            disk: &mut [u8],
+            flash: &[u8],
+            addresses: &mut [u8],
+            blocks: &mut [u8],
+            block: &[u8],
+            answer: &mut [u8],
+        ) -> u32 {
             crate::number_of(crate::engine::write_invalidate::<$index>(state, address, disk, flash, addresses, blocks, block, answer))
         }
         pub fn flush(state: &mut [u8], disk: &mut [u8], flash: &[u8], addresses: &mut [u8], blocks: &[u8], answer: &mut [u8]) -> u32 {

@@ -15,10 +15,10 @@ struct Cached {
     stamp: u64,
 }
 
-#[derive(Default)]
 pub struct Persistent {
     b: usize,
     m: usize,
+    label: Label,
     clock: u64,
     held: HashMap<u32, Held>,
     addresses: BTreeMap<u64, u32>,
@@ -35,9 +35,27 @@ pub struct Persistent {
 }
 
 impl Persistent {
+    fn empty(b: usize, m: usize, label: Label, counters: [u64; 4]) -> Persistent {
+        Persistent {
+            b,
+            m,
+            label,
+            clock: 0,
+            held: HashMap::new(),
+            addresses: BTreeMap::new(),
+            free: Vec::new(),
+            cached: ByFingerprint::default(),
+            fingerprints: BTreeMap::new(),
+            users: ByFingerprint::default(),
+            unwanted: BTreeMap::new(),
+            rows_without_block: 0,
+            counters,
+        }
+    }
+
     pub fn load(state: &[u8], addresses: &[u8], blocks: &[u8]) -> Persistent {
         let Sizes { b, m, d, n, .. } = sizes(state).expect("a box that the service takes");
-        let mut engine = Persistent { b, m, counters: std::array::from_fn(|k| number(state, 5 + k)), ..Persistent::default() };
+        let mut engine = Persistent::empty(b, m, *label(state), std::array::from_fn(|k| number(state, 5 + k)));
         for k in (0..d).rev().filter(|k| !is_used(row(blocks, *k))) {
             engine.free.push(slot(row(blocks, k)) as u32);
         }
@@ -191,7 +209,7 @@ impl Persistent {
             }
             None => {
                 block.copy_from_slice(&disk[a as usize * b..(a as usize + 1) * b]);
-                (2, fingerprint(block), false)
+                (2, fingerprint(&self.label, block), false)
             }
         };
         let writes = self.step(a, g, block, dirty, disk, flash);
@@ -203,7 +221,7 @@ impl Persistent {
     }
 
     pub fn write_through(&mut self, a: u32, disk: &mut [u8], flash: &mut [u8], block: &[u8], answer: &mut [u8]) -> u32 {
-        let g = fingerprint(block);
+        let g = fingerprint(&self.label, block);
         let word = self.same_or_new(&g);
         disk[a as usize * self.b..(a as usize + 1) * self.b].copy_from_slice(block);
         let [flash_writes, primary_writes] = self.step(a, g, block, false, disk, flash);
@@ -211,7 +229,7 @@ impl Persistent {
     }
 
     pub fn write_back(&mut self, a: u32, disk: &mut [u8], flash: &mut [u8], block: &[u8], answer: &mut [u8]) -> u32 {
-        let g = fingerprint(block);
+        let g = fingerprint(&self.label, block);
         let word = self.same_or_new(&g);
         let unchanged = self.held.get(&a).is_some_and(|row| !row.dirty && row.fingerprint == g);
         let writes = self.step(a, g, block, !unchanged, disk, flash);
@@ -219,7 +237,7 @@ impl Persistent {
     }
 
     pub fn write_invalidate(&mut self, a: u32, disk: &mut [u8], block: &[u8], answer: &mut [u8]) -> u32 {
-        let word = self.same_or_new(&fingerprint(block));
+        let word = self.same_or_new(&fingerprint(&self.label, block));
         disk[a as usize * self.b..(a as usize + 1) * self.b].copy_from_slice(block);
         if self.held.contains_key(&a) {
             let q = self.take_out(a);

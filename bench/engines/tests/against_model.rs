@@ -2,14 +2,14 @@
 use common::Random;
 use engines::persistent::Persistent;
 use engines::{array, maps};
-use model::{carry_out, carry_out_many, Call, Folder, Lent, ManyAnswer, Numbers, CALLS, ROW};
+use model::{carry_out, carry_out_many, Call, Folder, Label, Lent, ManyAnswer, Numbers, CALLS, LABEL, ROW, STATE};
 
 /// A call by the functions of an engine's module.
 macro_rules! by {
     ($engine:ident, $call:expr, $a:expr, $lent:expr) => {{
-        let Lent { state, disk, flash, addresses, blocks, block, answer } = $lent;
+        let Lent { state, disk, flash, addresses, blocks, block, answer, label } = $lent;
         match $call {
-            Call::Open => $engine::open(state, disk, flash, addresses, blocks),
+            Call::Open => $engine::open(state, label, disk, flash, addresses, blocks),
             Call::Read => $engine::read(state, $a, disk, flash, addresses, blocks, block, answer),
             Call::Through => $engine::write_through(state, $a, disk, flash, addresses, blocks, block, answer),
             Call::Back => $engine::write_back(state, $a, disk, flash, addresses, blocks, block, answer),
@@ -31,7 +31,7 @@ macro_rules! many_by {
 }
 
 fn by_persistent(engine: &mut Persistent, call: Call, a: u32, lent: &mut Lent) -> u32 {
-    let Lent { state, disk, flash, addresses, blocks, block, answer } = lent;
+    let Lent { state, disk, flash, addresses, blocks, block, answer, .. } = lent;
     let number = match call {
         Call::Open => panic!("made by load"),
         Call::Read => engine.read(a, disk, flash, block, answer),
@@ -46,21 +46,50 @@ fn by_persistent(engine: &mut Persistent, call: Call, a: u32, lent: &mut Lent) -
     number
 }
 
+fn label(random: &mut Random) -> Label {
+    random.bytes(LABEL).try_into().unwrap()
+}
+
 fn unopened(random: &mut Random, b: usize, p: usize, m: usize, d: usize, contents: usize) -> Lent {
+    let (n, counters) = (random.number(), [random.number(); 4]);
+    let state = Numbers { b: b as u64, p: p as u64, m: m as u64, d: d as u64, n, counters, label: label(random) };
     Lent {
-        state: Numbers { b: b as u64, p: p as u64, m: m as u64, d: d as u64, n: random.number(), counters: [random.number(); 4] }.to_bytes(),
+        state: state.to_bytes(),
         disk: (0..p).flat_map(|_| vec![random.below(contents) as u8; b]).collect(),
         flash: random.bytes(d * b),
         addresses: random.bytes(m * ROW),
         blocks: random.bytes(d * ROW),
         block: random.bytes(b),
         answer: random.bytes(24),
+        label: label(random).to_vec(),
     }
 }
 
 fn is(given: u32, lent: &Lent, number: u32, expected: &Lent, context: &str) {
     assert_eq!(given, number, "{context}");
     assert_eq!(lent.difference(expected), None, "{context}");
+}
+
+/// A copy of a box with a byte changed, the label's among them, or a length.
+fn broken_copy(random: &mut Random, lent: &Lent) -> Lent {
+    let mut bad = lent.clone();
+    let Lent { state, disk, flash, addresses, blocks, block, answer, label } = &mut bad;
+    let changed = match random.below(10) {
+        0..=2 => &mut addresses[..],
+        3..=5 => &mut blocks[..],
+        6 => &mut state[..STATE - LABEL],
+        7 => &mut state[STATE - LABEL..],
+        8 => {
+            label.resize([0, 63, 65, 128][random.below(4)], 0);
+            return bad;
+        }
+        _ => {
+            [disk, flash, addresses, blocks, block, state, answer][random.below(7)].pop();
+            return bad;
+        }
+    };
+    changed[random.below(changed.len())] ^= 1 << random.below(8);
+    bad
 }
 
 #[test]
@@ -89,15 +118,8 @@ fn lists_and_broken_boxes() {
             for lent in [&mut one, &mut two, &mut three] {
                 lent.block.clone_from(&expected.block);
             }
-            // A copy with a byte changed, or a length.
-            if random.below(2) == 0 {
-                let mut bad = expected.clone();
-                match random.below(8) {
-                    0..=2 => bad.addresses[random.below(m * ROW)] ^= 1 << random.below(8),
-                    3..=5 => bad.blocks[random.below(d * ROW)] ^= 1 << random.below(8),
-                    6 => bad.state[random.below(72)] ^= 1 << random.below(8),
-                    _ => drop([&mut bad.disk, &mut bad.flash, &mut bad.addresses, &mut bad.blocks, &mut bad.block, &mut bad.state, &mut bad.answer][random.below(7)].pop()),
-                }
+            if random.below(8) < 5 {
+                let mut bad = broken_copy(&mut random, &expected);
                 let call = CALLS[random.below(8)];
                 let [mut first, mut second] = [bad.clone(), bad.clone()];
                 let number = carry_out(call, a, &mut bad);
@@ -126,7 +148,7 @@ fn crafted(random: &mut Random, same: usize) -> Lent {
     let used = random.below(d + 1);
     let mut lent = unopened(random, b, p, m, d, 2 * d);
     let n = random.below(m.min(p) + 1);
-    lent.state = Numbers { b: b as u64, p: p as u64, m: m as u64, d: d as u64, n: n as u64, counters: [7; 4] }.to_bytes();
+    lent.state = Numbers { n: n as u64, counters: [7; 4], ..lent.numbers() }.to_bytes();
     lent.addresses.fill(0);
     for (k, row) in lent.addresses.chunks_exact_mut(ROW).take(n).enumerate() {
         let print = random.below(prints.len());
@@ -186,9 +208,12 @@ fn folders() {
         let mut expected = crafted(&mut random, [2, 4, 8, 31][round % 4]);
         let (p, d) = (expected.disk.len() / 64, expected.blocks.len() / ROW);
         match random.below(12) {
-            0 => expected.state[random.below(72)] ^= 1 << random.below(8),
+            0 => expected.state[random.below(STATE - LABEL)] ^= 1 << random.below(8),
             1 => expected.blocks[random.below(d * ROW)] ^= 1,
-            2 => drop([&mut expected.disk, &mut expected.flash, &mut expected.addresses, &mut expected.blocks, &mut expected.state][random.below(5)].pop()),
+            2 => {
+                let Lent { state, disk, flash, addresses, blocks, .. } = &mut expected;
+                [disk, flash, addresses, blocks, state][random.below(5)].pop();
+            }
             _ => {}
         }
         let few = 1 + random.below(p.min(6));
@@ -198,7 +223,7 @@ fn folders() {
             many.asked[random.below(count)] = p as u32;
         }
         if random.below(20) == 0 {
-            drop([&mut many.buffer, &mut many.answer][random.below(2)].pop());
+            [&mut many.buffer, &mut many.answer][random.below(2)].pop();
         }
         let [mut one, mut two] = [(expected.clone(), many.clone()), (expected.clone(), many.clone())];
         let number = carry_out_many(&mut expected, &mut many);

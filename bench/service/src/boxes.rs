@@ -7,6 +7,14 @@ use std::time::Duration;
 
 pub const ROW: usize = 40;
 
+/// The office's label, under which every box here is opened.
+const LABEL: [u8; 64] = *b"The label of an office: 64 bytes before each block of its pages.";
+
+/// SHA-256 of the label and of what follows it, the block's first bytes.
+fn hashed(first: &[u8]) -> Sha256 {
+    Sha256::new_with_prefix(LABEL).chain_update(first)
+}
+
 #[derive(Clone, PartialEq)]
 pub struct Lent {
     pub state: Vec<u8>,
@@ -98,8 +106,9 @@ impl Start {
         let Shape { b, m, d, p } = shape;
         let name = format!("B {}, m {}, d {}, {words}", comma(b), comma(m), comma(d));
         let cached = used(&lent.blocks);
-        let held: Vec<(u32, bool)> =
-            lent.addresses.chunks_exact(ROW).take(number(&lent.state, 4) as usize).map(|row| (u32::from_le_bytes(row[..4].try_into().unwrap()), cached.contains(&row[4..36]))).collect();
+        let address = |row: &[u8]| u32::from_le_bytes(row[..4].try_into().unwrap());
+        let rows = lent.addresses.chunks_exact(ROW).take(number(&lent.state, 4) as usize);
+        let held: Vec<(u32, bool)> = rows.map(|row| (address(row), cached.contains(&row[4..36]))).collect();
         let with_block = held.iter().filter(|row| row.1).map(|row| row.0).collect();
         let without_block = held.iter().filter(|row| !row.1).map(|row| row.0).collect();
         let others = (0..p as u32).filter(|a| held.iter().all(|row| row.0 != *a)).collect();
@@ -127,7 +136,7 @@ fn opened(shape: Shape, contents: &[Vec<u8>]) -> Lent {
     let Shape { b, p, m, d } = shape;
     let mut random = Random(3);
     let mut lent = Lent {
-        state: [b, p, m, d, 0, 0, 0, 0, 0].iter().flat_map(|number| (*number as u64).to_le_bytes()).collect(),
+        state: [b, p, m, d, 0, 0, 0, 0, 0].iter().flat_map(|number| (*number as u64).to_le_bytes()).chain([0; LABEL.len()]).collect(),
         disk: (0..p).flat_map(|_| contents[random.below(contents.len())].iter().copied()).collect(),
         flash: vec![0; d * b],
         addresses: vec![0; m * ROW],
@@ -135,7 +144,7 @@ fn opened(shape: Shape, contents: &[Vec<u8>]) -> Lent {
         block: vec![0; b],
         answer: vec![0; 24],
     };
-    assert_eq!(maps::open(&mut lent.state, &lent.disk, &lent.flash, &mut lent.addresses, &mut lent.blocks), 0);
+    assert_eq!(maps::open(&mut lent.state, &LABEL, &lent.disk, &lent.flash, &mut lent.addresses, &mut lent.blocks), 0);
     lent
 }
 
@@ -184,7 +193,7 @@ fn bucket(g: &[u8]) -> u16 {
 pub fn one_bucket(shape: Shape) -> Start {
     let mut random = Random(5);
     let (most, mut last) = (random.bytes(shape.b - 64), random.bytes(64));
-    let first = Sha256::new_with_prefix(&most);
+    let first = hashed(&most);
     let mut tried = 0u64;
     let contents = (0..contents(shape).len())
         .map(|_| loop {
@@ -216,7 +225,7 @@ pub fn crafted(shape: Shape, same: usize, held: Held) -> Start {
     let Shape { p, m, d, .. } = shape;
     let mut random = Random(6);
     let contents = contents(shape);
-    let beginning = &Sha256::digest(&contents[0])[..same];
+    let beginning = &hashed(&contents[0]).finalize()[..same];
     let mut print = || [beginning, &random.bytes(32 - same)].concat();
     let mut lent = opened(shape, &contents[..1]);
     lent.state[32..40].copy_from_slice(&(m as u64).to_le_bytes());

@@ -38,9 +38,11 @@ impl Group {
 
     fn print(&self, place: usize) {
         let start = &self.boxes[place];
-        println!("\n{}. P = {}; {} held addresses have their block, {} have not.", start.name, start.shape.p, start.with_block.len(), start.without_block.len());
+        println!("\n{}. P = {}; {} held addresses have their block, {} have not.", start.name, start.shape.p, start.with_block.len(),
+                 start.without_block.len());
         println!("{:20}{:>48}   {:>36}", "", "nanoseconds of one call", "speed of the service over that of");
-        println!("{:20}{:>12}{:>12}{:>12}{:>12}   {:>12}{:>12}{:>12}{:>8}", "", ENGINES[0], ENGINES[1], ENGINES[2], ENGINES[3], ENGINES[1], ENGINES[2], ENGINES[3], "runs");
+        println!("{:20}{:>12}{:>12}{:>12}{:>12}   {:>12}{:>12}{:>12}{:>8}", "", ENGINES[0], ENGINES[1], ENGINES[2], ENGINES[3], ENGINES[1],
+                 ENGINES[2], ENGINES[3], "runs");
         for (scenario, row) in self.rows.iter().enumerate() {
             let Some(times) = self.times(scenario, place) else { continue };
             let [service, maps, array, persistent] = times;
@@ -115,16 +117,21 @@ const LEAST_OF_MISSES: f64 = 0.97;
 
 fn print_what_is_measured() {
     let sha = if cfg!(feature = "soft") { "portable code (`force-soft`)" } else { "the processor's SHA instructions where it has them" };
-    println!("SHA-256 of the Rust engines: RustCrypto's, {sha}. The service has its own, portable.");
+    println!("SHA-256 of the Rust engines: RustCrypto's, {sha}. The service has its own, portable. All hash the label of 64 bytes before each block.");
     if cfg!(feature = "double") {
         println!("The engine with maps stands for the service.");
     }
-    println!("maps: the same refusals over the same bytes; in each call a bit for each address and a std hash map of the fingerprints by their first eight bytes.");
-    println!("array: the same with an index in an array on the stack in place of the hash map. persistent: no refusals, maps kept from call to call, tables not written.");
+    println!("maps: the same refusals over the same bytes; in each call a bit for each address and a std hash map of the fingerprints by their first \
+             eight bytes.");
+    println!("array: the same with an index in an array on the stack in place of the hash map. persistent: no refusals, maps kept from call to call, \
+             tables not written.");
     println!("The engines take turns, and so do the boxes of a group; the time of each call is its best of all runs.");
-    println!("mixed: 40% reads, 20% each kind of write; half of the addresses held at first, half any; contents from 1.5 for each slot. read, miss: addresses not held.");
-    println!("A list has 64 calls or 65 (fewer where a kind empties the tables) and begins with the same tables; the first flush of a list finds dirty rows, the others none.");
-    println!("On tables made by hand (bytes the same) a list is one call, on the newest held address; B is 64 there, so that the time is that of the tables and not of the blocks.");
+    println!("mixed: 40% reads, 20% each kind of write; half of the addresses held at first, half any; contents from 1.5 for each slot. read, miss: \
+             addresses not held.");
+    println!("A list has 64 calls or 65 (fewer where a kind empties the tables) and begins with the same tables; the first flush of a list finds \
+             dirty rows, the others none.");
+    println!("On tables made by hand (bytes the same) a list is one call, on the newest held address; B is 64 there, so that the time is that of the \
+             tables and not of the blocks.");
 }
 
 // The places of the boxes in their groups.
@@ -167,7 +174,8 @@ fn main() {
         bounds.line(&what, format!("{service:.2}"), service <= MOST_OF_GROWTH * peer);
     }
     for scenario in [HIT, MISS, LOOK, FLUSH] {
-        let slowest = by_hand.slowest(scenario, 0..by_hand.boxes.len()).into_iter().chain(large.times(scenario, ONE_BUCKET)).map(|times| times[0]).fold(0.0, f64::max);
+        let slowest = by_hand.slowest(scenario, 0..by_hand.boxes.len()).into_iter().chain(large.times(scenario, ONE_BUCKET)).map(|times| times[0])
+            .fold(0.0, f64::max);
         let what = format!("worst case: {}, at most {} µs:", SCENARIOS[scenario], micro(MOST_AT_WORST));
         bounds.line(&what, micro(slowest), 0.0 < slowest && slowest <= MOST_AT_WORST);
     }

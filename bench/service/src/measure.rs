@@ -129,7 +129,9 @@ fn steps(scenario: usize, start: &Start) -> Option<Vec<Step>> {
     let length = 64;
     let few = length.min(start.shape.m / 2);
     let steps: Vec<Step> = match scenario {
-        MIXED => (0..65).map(|k| ([Kind::Read, Kind::Through, Kind::Back, Kind::Invalidate, Kind::Read][k % 5], any(&mut random), random.below(count))).collect(),
+        MIXED => {
+            (0..65).map(|k| ([Kind::Read, Kind::Through, Kind::Back, Kind::Invalidate, Kind::Read][k % 5], any(&mut random), random.below(count))).collect()
+        }
         HIT if start.with_block.is_empty() => return None,
         HIT => (0..length).map(|_| (Kind::Read, random.pick(&start.with_block), 0)).collect(),
         MISS => (0..length).map(|k| (Kind::Read, start.others[(k * 37) % start.others.len()], 0)).collect(),

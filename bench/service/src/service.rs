@@ -3,13 +3,17 @@ type P = *const u8;
 type M = *mut u8;
 
 extern "C" {
-    fn mindavehu_read(s: M, sl: usize, address: u32, d: M, dl: usize, f: M, fl: usize, a: M, al: usize, b: M, bl: usize, k: M, kl: usize, w: M, wl: usize) -> u32;
+    fn mindavehu_read(s: M, sl: usize, address: u32, d: M, dl: usize, f: M, fl: usize, a: M, al: usize, b: M, bl: usize, k: M, kl: usize, w: M,
+        wl: usize) -> u32;
     fn mindavehu_read_many(
         s: M, sl: usize, asked: *const u32, count: usize, d: M, dl: usize, f: M, fl: usize, a: M, al: usize, b: M, bl: usize, k: M, kl: usize, w: M, wl: usize,
     ) -> u32;
-    fn mindavehu_write_through(s: M, sl: usize, address: u32, d: M, dl: usize, f: M, fl: usize, a: M, al: usize, b: M, bl: usize, k: P, kl: usize, w: M, wl: usize) -> u32;
-    fn mindavehu_write_back(s: M, sl: usize, address: u32, d: M, dl: usize, f: M, fl: usize, a: M, al: usize, b: M, bl: usize, k: P, kl: usize, w: M, wl: usize) -> u32;
-    fn mindavehu_write_invalidate(s: M, sl: usize, address: u32, d: M, dl: usize, f: P, fl: usize, a: M, al: usize, b: M, bl: usize, k: P, kl: usize, w: M, wl: usize) -> u32;
+    fn mindavehu_write_through(s: M, sl: usize, address: u32, d: M, dl: usize, f: M, fl: usize, a: M, al: usize, b: M, bl: usize, k: P, kl: usize, w: M,
+        wl: usize) -> u32;
+    fn mindavehu_write_back(s: M, sl: usize, address: u32, d: M, dl: usize, f: M, fl: usize, a: M, al: usize, b: M, bl: usize, k: P, kl: usize, w: M,
+        wl: usize) -> u32;
+    fn mindavehu_write_invalidate(s: M, sl: usize, address: u32, d: M, dl: usize, f: P, fl: usize, a: M, al: usize, b: M, bl: usize, k: P, kl: usize, w: M,
+        wl: usize) -> u32;
     fn mindavehu_flush(s: M, sl: usize, d: M, dl: usize, f: P, fl: usize, a: M, al: usize, b: P, bl: usize, w: M, wl: usize) -> u32;
     fn mindavehu_look(s: P, sl: usize, address: u32, d: P, dl: usize, f: P, fl: usize, a: P, al: usize, b: P, bl: usize, w: M, wl: usize) -> u32;
 }
@@ -25,11 +29,16 @@ macro_rules! functions {
 }
 
 functions! {
-    read = mindavehu_read(s: &mut [u8], as_mut_ptr, address; d: &mut [u8], as_mut_ptr, f: &mut [u8], as_mut_ptr, a: &mut [u8], as_mut_ptr, b: &mut [u8], as_mut_ptr, k: &mut [u8], as_mut_ptr, w: &mut [u8], as_mut_ptr);
-    write_through = mindavehu_write_through(s: &mut [u8], as_mut_ptr, address; d: &mut [u8], as_mut_ptr, f: &mut [u8], as_mut_ptr, a: &mut [u8], as_mut_ptr, b: &mut [u8], as_mut_ptr, k: &[u8], as_ptr, w: &mut [u8], as_mut_ptr);
-    write_back = mindavehu_write_back(s: &mut [u8], as_mut_ptr, address; d: &mut [u8], as_mut_ptr, f: &mut [u8], as_mut_ptr, a: &mut [u8], as_mut_ptr, b: &mut [u8], as_mut_ptr, k: &[u8], as_ptr, w: &mut [u8], as_mut_ptr);
-    write_invalidate = mindavehu_write_invalidate(s: &mut [u8], as_mut_ptr, address; d: &mut [u8], as_mut_ptr, f: &[u8], as_ptr, a: &mut [u8], as_mut_ptr, b: &mut [u8], as_mut_ptr, k: &[u8], as_ptr, w: &mut [u8], as_mut_ptr);
-    flush = mindavehu_flush(s: &mut [u8], as_mut_ptr; d: &mut [u8], as_mut_ptr, f: &[u8], as_ptr, a: &mut [u8], as_mut_ptr, b: &[u8], as_ptr, w: &mut [u8], as_mut_ptr);
+    read = mindavehu_read(s: &mut [u8], as_mut_ptr, address; d: &mut [u8], as_mut_ptr, f: &mut [u8], as_mut_ptr, a: &mut [u8], as_mut_ptr, b: &mut [u8],
+        as_mut_ptr, k: &mut [u8], as_mut_ptr, w: &mut [u8], as_mut_ptr);
+    write_through = mindavehu_write_through(s: &mut [u8], as_mut_ptr, address; d: &mut [u8], as_mut_ptr, f: &mut [u8], as_mut_ptr, a: &mut [u8], as_mut_ptr,
+        b: &mut [u8], as_mut_ptr, k: &[u8], as_ptr, w: &mut [u8], as_mut_ptr);
+    write_back = mindavehu_write_back(s: &mut [u8], as_mut_ptr, address; d: &mut [u8], as_mut_ptr, f: &mut [u8], as_mut_ptr, a: &mut [u8], as_mut_ptr,
+        b: &mut [u8], as_mut_ptr, k: &[u8], as_ptr, w: &mut [u8], as_mut_ptr);
+    write_invalidate = mindavehu_write_invalidate(s: &mut [u8], as_mut_ptr, address; d: &mut [u8], as_mut_ptr, f: &[u8], as_ptr, a: &mut [u8], as_mut_ptr,
+        b: &mut [u8], as_mut_ptr, k: &[u8], as_ptr, w: &mut [u8], as_mut_ptr);
+    flush = mindavehu_flush(s: &mut [u8], as_mut_ptr; d: &mut [u8], as_mut_ptr, f: &[u8], as_ptr, a: &mut [u8], as_mut_ptr, b: &[u8], as_ptr, w: &mut [u8],
+        as_mut_ptr);
     look = mindavehu_look(s: &[u8], as_ptr, address; d: &[u8], as_ptr, f: &[u8], as_ptr, a: &[u8], as_ptr, b: &[u8], as_ptr, w: &mut [u8], as_mut_ptr);
 }
 

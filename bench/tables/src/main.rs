@@ -21,8 +21,10 @@ peers! {
     (tables_probe_addresses_unsound, c_six_clang, c_six_gcc)(t: P, length: usize, m: usize, n: usize, p: usize) -> bool;
     (tables_probe_blocks_unsound, c_seven_clang, c_seven_gcc)(t: P, length: usize, d: usize) -> bool;
     (tables_probe_refused, c_refused_clang, c_refused_gcc)(a: P, alength: usize, m: usize, n: usize, p: usize, b: P, blength: usize, d: usize) -> u32;
-    (tables_probe_some_uncached, c_some_uncached_clang, c_some_uncached_gcc)(a: P, alength: usize, m: usize, n: usize, p: usize, b: P, blength: usize, d: usize) -> usize;
-    (tables_probe_oldest_unknown, c_oldest_unknown_clang, c_oldest_unknown_gcc)(a: P, alength: usize, m: usize, n: usize, p: usize, b: P, blength: usize, d: usize) -> usize;
+    (tables_probe_some_uncached, c_some_uncached_clang, c_some_uncached_gcc)
+        (a: P, alength: usize, m: usize, n: usize, p: usize, b: P, blength: usize, d: usize) -> usize;
+    (tables_probe_oldest_unknown, c_oldest_unknown_clang, c_oldest_unknown_gcc)
+        (a: P, alength: usize, m: usize, n: usize, p: usize, b: P, blength: usize, d: usize) -> usize;
     (tables_probe_find_address, c_find_address_clang, c_find_address_gcc)(t: P, length: usize, n: usize, a: u32) -> usize;
     (tables_probe_find_fingerprint, c_find_fingerprint_clang, c_find_fingerprint_gcc)(t: P, length: usize, n: usize, g: P, glength: usize) -> usize;
     (tables_probe_find_cached, c_find_cached_clang, c_find_cached_gcc)(t: P, length: usize, d: usize, g: P, glength: usize) -> usize;
@@ -109,18 +111,30 @@ const PEERS: usize = 3;
 const OPERATIONS: [(&str, [Operation; PEERS]); 14] = [
     operation!("check for 6", [tables_probe_addresses_unsound, c_six_clang, c_six_gcc], |s, f| f(s.a.as_ptr(), s.a.len(), s.m, s.m, 65_536)),
     operation!("check for 7", [tables_probe_blocks_unsound, c_seven_clang, c_seven_gcc], |s, f| f(s.b.as_ptr(), s.b.len(), s.d)),
-    operation!("checks for 6, 7 and 8", [tables_probe_refused, c_refused_clang, c_refused_gcc], |s, f| f(s.a.as_ptr(), s.a.len(), s.m, s.m, 65_536, s.b.as_ptr(), s.b.len(), s.d)),
-    operation!("the checks, then: a row without its block", [tables_probe_some_uncached, c_some_uncached_clang, c_some_uncached_gcc], |s, f| f(s.a.as_ptr(), s.a.len(), s.m, s.m, 65_536, s.b.as_ptr(), s.b.len(), s.d)),
-    operation!("the checks, then: a block without an address", [tables_probe_oldest_unknown, c_oldest_unknown_clang, c_oldest_unknown_gcc], |s, f| f(s.a.as_ptr(), s.a.len(), s.m, s.m, 65_536, s.b.as_ptr(), s.b.len(), s.d)),
-    operation!("find an address, the last", [tables_probe_find_address, c_find_address_clang, c_find_address_gcc], |s, f| f(s.a.as_ptr(), s.a.len(), s.m, ((s.m - 1) * 37 % 65_536) as u32)),
-    operation!("find a fingerprint, none", [tables_probe_find_fingerprint, c_find_fingerprint_clang, c_find_fingerprint_gcc], |s, f| f(s.a.as_ptr(), s.a.len(), s.m, s.g.as_ptr(), 32)),
-    operation!("find a cached fingerprint, none", [tables_probe_find_cached, c_find_cached_clang, c_find_cached_gcc], |s, f| f(s.b.as_ptr(), s.b.len(), s.d, s.g.as_ptr(), 32)),
-    operation!("take out the oldest row", [tables_probe_remove_row, c_remove_row_clang, c_remove_row_gcc], |s, f| no_result!(f(s.a.as_mut_ptr(), s.a.len(), s.m, 0))),
-    operation!("add a newest row", [tables_probe_push_address, c_push_address_clang, c_push_address_gcc], |s, f| no_result!(f(s.a.as_mut_ptr(), s.a.len(), s.m - 1, 77, s.g.as_ptr(), 32, 1))),
-    operation!("make a row clean", [tables_probe_set_clean, c_set_clean_clang, c_set_clean_gcc], |s, f| no_result!(f(s.a.as_mut_ptr(), s.a.len(), s.m, s.m / 2))),
-    operation!("oldest block row to newest", [tables_probe_to_newest, c_to_newest_clang, c_to_newest_gcc], |s, f| no_result!(f(s.b.as_mut_ptr(), s.b.len(), s.d, 0))),
-    operation!("newest block row freed, to the front", [tables_probe_to_front, c_to_front_clang, c_to_front_gcc], |s, f| no_result!(f(s.b.as_mut_ptr(), s.b.len(), s.d, s.d - 1))),
-    operation!("oldest block row filled as newest", [tables_probe_put_block, c_put_block_clang, c_put_block_gcc], |s, f| no_result!(f(s.b.as_mut_ptr(), s.b.len(), s.d, 0, s.g.as_ptr(), 32))),
+    operation!("checks for 6, 7 and 8", [tables_probe_refused, c_refused_clang, c_refused_gcc],
+        |s, f| f(s.a.as_ptr(), s.a.len(), s.m, s.m, 65_536, s.b.as_ptr(), s.b.len(), s.d)),
+    operation!("the checks, then: a row without its block", [tables_probe_some_uncached, c_some_uncached_clang, c_some_uncached_gcc],
+        |s, f| f(s.a.as_ptr(), s.a.len(), s.m, s.m, 65_536, s.b.as_ptr(), s.b.len(), s.d)),
+    operation!("the checks, then: a block without an address", [tables_probe_oldest_unknown, c_oldest_unknown_clang, c_oldest_unknown_gcc],
+        |s, f| f(s.a.as_ptr(), s.a.len(), s.m, s.m, 65_536, s.b.as_ptr(), s.b.len(), s.d)),
+    operation!("find an address, the last", [tables_probe_find_address, c_find_address_clang, c_find_address_gcc],
+        |s, f| f(s.a.as_ptr(), s.a.len(), s.m, ((s.m - 1) * 37 % 65_536) as u32)),
+    operation!("find a fingerprint, none", [tables_probe_find_fingerprint, c_find_fingerprint_clang, c_find_fingerprint_gcc],
+        |s, f| f(s.a.as_ptr(), s.a.len(), s.m, s.g.as_ptr(), 32)),
+    operation!("find a cached fingerprint, none", [tables_probe_find_cached, c_find_cached_clang, c_find_cached_gcc],
+        |s, f| f(s.b.as_ptr(), s.b.len(), s.d, s.g.as_ptr(), 32)),
+    operation!("take out the oldest row", [tables_probe_remove_row, c_remove_row_clang, c_remove_row_gcc],
+        |s, f| no_result!(f(s.a.as_mut_ptr(), s.a.len(), s.m, 0))),
+    operation!("add a newest row", [tables_probe_push_address, c_push_address_clang, c_push_address_gcc],
+        |s, f| no_result!(f(s.a.as_mut_ptr(), s.a.len(), s.m - 1, 77, s.g.as_ptr(), 32, 1))),
+    operation!("make a row clean", [tables_probe_set_clean, c_set_clean_clang, c_set_clean_gcc],
+        |s, f| no_result!(f(s.a.as_mut_ptr(), s.a.len(), s.m, s.m / 2))),
+    operation!("oldest block row to newest", [tables_probe_to_newest, c_to_newest_clang, c_to_newest_gcc],
+        |s, f| no_result!(f(s.b.as_mut_ptr(), s.b.len(), s.d, 0))),
+    operation!("newest block row freed, to the front", [tables_probe_to_front, c_to_front_clang, c_to_front_gcc],
+        |s, f| no_result!(f(s.b.as_mut_ptr(), s.b.len(), s.d, s.d - 1))),
+    operation!("oldest block row filled as newest", [tables_probe_put_block, c_put_block_clang, c_put_block_gcc],
+        |s, f| no_result!(f(s.b.as_mut_ptr(), s.b.len(), s.d, 0, s.g.as_ptr(), 32))),
 ];
 
 /// The operations that go into README's table: those that C does in the same way.
@@ -221,7 +235,8 @@ fn stack() {
     // SAFETY: both functions take any pointer, and the state outlives the thread.
     let (empty, full) = unsafe { (stack_touched(nothing, std::ptr::null_mut()), stack_touched(deepest, &mut state as *mut State as *mut c_void)) };
     assert!(0 < empty && empty < full, "no thread could be painted: {empty}, {full}");
-    println!("\nStack of the deepest call (the checks, then the oldest block without an address, with the probe's own array of 2,048 bytes): {} bytes.", full - empty);
+    println!("\nStack of the deepest call (the checks, then the oldest block without an address, with the probe's own array of 2,048 bytes): \
+             {} bytes.", full - empty);
 }
 
 fn main() {
@@ -230,7 +245,8 @@ fn main() {
     sizes.iter().chain(&one_bucket).for_each(agree);
     println!("Best of {RUNS} interleaved runs. Tables full: m = 1,024 and d = 256, and half of each.\n");
     println!("{:46}{:>18}{:>18}{:>18}{:>36}", "", "proved, ns", "C clang / proved", "C gcc / proved", "growth");
-    println!("{:46}{:>9}{:>9}{:>9}{:>9}{:>9}{:>9}{:>9}{:>9}{:>9}{:>9}", "", "full", "half", "full", "half", "full", "half", "proved", "clang", "gcc", "at most");
+    println!("{:46}{:>9}{:>9}{:>9}{:>9}{:>9}{:>9}{:>9}{:>9}{:>9}{:>9}", "", "full", "half", "full", "half", "full", "half", "proved", "clang",
+             "gcc", "at most");
     let lines = OPERATIONS.iter().map(|(name, codes)| (*name, codes, &sizes)).chain([(ONE_BUCKET, &OPERATIONS[2].1, &one_bucket)]);
     let rows: Vec<Measured> = lines.map(|(name, codes, tables)| Measured { name, times: best(codes, tables) }).collect();
     let linear = growth_of_c(&rows, LINEAR);
@@ -245,11 +261,14 @@ fn main() {
             false => "MISSED",
         };
         kept &= bound != "MISSED";
-        print!("{:46}{:>9.0}{:>9.0}{:>9.2}{:>9.2}{:>9.2}{:>9.2}", row.name, full[0], half[0], full[1] / full[0], half[1] / half[0], full[2] / full[0], half[2] / half[0]);
+        let [clang, gcc] = [1, 2].map(|peer| [full[peer] / full[0], half[peer] / half[0]]);
+        print!("{:46}{:>9.0}{:>9.0}{:>9.2}{:>9.2}{:>9.2}{:>9.2}", row.name, full[0], half[0], clang[0], clang[1], gcc[0], gcc[1]);
         println!("{:>9.2}{:>9.2}{:>9.2}{allowed:>9.2} {bound}", row.growth(0), row.growth(1), row.growth(2));
     }
-    println!("\nGrowth is the time at full size over that at half. At most: {MOST_OF_GROWTH} times that of C, by the compiler whose code grows more; for the checks, where C");
-    println!("compares pairs of rows, that of C's search through all rows. All in one bucket is without a bound here: bench/service bounds a call's time then.");
+    println!("\nGrowth is the time at full size over that at half. At most: {MOST_OF_GROWTH} times that of C, by the compiler whose code grows more; \
+             for the checks, where C");
+    println!("compares pairs of rows, that of C's search through all rows. All in one bucket is without a bound here: \
+             bench/service bounds a call's time then.");
     println!("Above 1 in the columns of C / proved: the proved code is faster. The probe's own tests of its arguments are in its time.");
     stack();
     println!("\nNanoseconds of a search, m = 1,024 and d = 256, and how many times as fast the proved code is:\n");

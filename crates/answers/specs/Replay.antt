@@ -14,8 +14,9 @@ use Rattle.print.specs.Texts.{answerText, countersText}
 
 -- ---- the box line
 
+-- U6: "replay's label is all zeros"
 abbrev pub numbers : (B P m d : ℕ) → Numbers
-numbers B P m d = record { B = B; P = P; m = m; d = d }
+numbers B P m d = record { B = B; P = P; m = m; d = d; label = replicate 64 0 }
 
 -- "5: replay only: P above 256, or P × B or d × B above 16,384."
 unfoldable pub large : Numbers → ℕ

@@ -60,11 +60,13 @@ pub fn start(
         flash: 0,
         primary: 0,
     };
+    let label = b.label;
     open::open(
         b.size,
         b.blocks,
         b.rows,
         b.slots,
+        &label,
         disk,
         flash,
         addresses,

@@ -18,13 +18,15 @@ pub record Sizes : Type 0 where
   pub P : ℕ
   pub C : ℕ
   pub X : ℕ
+  -- U6: the office label
+  pub label : List ℕ
 
 abbrev pub mOf : Sizes → ℕ
 mOf Z = Z .C + Z .C + Z .X
 
 -- the base's numbers of it
-abbrev pub numbersOf : Sizes → Numbers
-numbersOf Z = record { B = Z .B; P = Z .P; m = mOf Z; d = Z .C }
+abbrev pub baseNumbers : Sizes → Numbers
+baseNumbers Z = record { B = Z .B; P = Z .P; m = mOf Z; d = Z .C; label = Z .label }
 
 -- "Beside the tables .. lie its lists T1, T2, B1, B2, B3, oldest first", "and the number p, first 0"
 pub record Lists : Type 0 where

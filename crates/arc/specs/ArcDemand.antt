@@ -9,11 +9,11 @@ use lib.Dec.{eqb}
 use lib.ListN.{length, getD}
 use Rattle.paper.specs.KeyedLaws.{All}
 use Rattle.paper.specs.Cache.{AddressRow, Box, held, rowWithBlock}
-use Rattle.paper.specs.Engine.{Fixed, engine}
+use Rattle.paper.specs.Engine.{Fixed, labelled}
 use Rattle.paper.specs.Lent.{Ask, calling, callOf, aboutAsk, boxIn, join, split, oneOf}
 use Rattle.paper.specs.BatchLent.{Asking, one, many}
 use Rattle.paper.specs.Machines.{plainNext, plainBlock, writtenBy, TrueFingerprints, NoTwoShare}
-use Rattle.arc.specs.Arc.{Sizes, numbersOf, mOf, Lists, onTop}
+use Rattle.arc.specs.Arc.{Sizes, baseNumbers, mOf, Lists, onTop}
 use Rattle.arc.specs.ArcMid.{named}
 use Rattle.arc.specs.ArcLent.{ArcLent, ArcAfter, listsIn, arcRefusal, arcCall}
 use Rattle.arc.specs.ArcFolder.{arcFolderRefusal, arcFolderCall, arcServedInTurn}
@@ -23,7 +23,7 @@ abbrev pub listsOf : ArcLent → Lists
 listsOf t = listsIn (t .sizes) (t .lists)
 
 abbrev pub boxOf : (Z : Sizes) → ArcLent → Box (Fixed 32) (Fixed (Z .B))
-boxOf Z t = boxIn (numbersOf Z) (t .base)
+boxOf Z t = boxIn (baseNumbers Z) (t .base)
 
 -- the number that a call of a list gets, 0 where it is served
 abbrev pub arcNumber : Sizes → ArcLent → Asking → ℕ
@@ -76,8 +76,8 @@ arcReturned q y = cond (aboutAsk q .reads) (y .block) (cond (aboutAsk q .returns
 
 abbrev pub ArcShows : (Z : Sizes) → ArcLent → List (Fixed (Z .B)) → Asking → Type 0
 ArcShows Z t plain (one q) =
-    arcReturned q (arcCall Z t q) ≡ Option·map (λ (b : Fixed (Z .B)). b .0) (plainBlock (engine (Z .B) .blank) plain (callOf (Z .B) q))
-ArcShows Z t plain (many l buffer) = (arcFolderCall Z t l buffer) .buffer ≡ join (map (λ a. getD plain a (engine (Z .B) .blank)) l)
+    arcReturned q (arcCall Z t q) ≡ Option·map (λ (b : Fixed (Z .B)). b .0) (plainBlock (labelled (baseNumbers Z) .blank) plain (callOf (Z .B) q))
+ArcShows Z t plain (many l buffer) = (arcFolderCall Z t l buffer) .buffer ≡ join (map (λ a. getD plain a (labelled (baseNumbers Z) .blank)) l)
 
 -- U2: "blocks, flash, tables, counters and disk are those of the reads done in turn, with 9 checked only before the first": the lists and p too
 abbrev pub ArcAsReads : (Z : Sizes) → ArcLent → List (Fixed (Z .B)) → Asking → Type 0
@@ -95,7 +95,7 @@ ArcCleanIsPlain Z t plain = All (λ r. r .dirty ≡ false) ((boxOf Z t) .rows) �
 -- "After every list of calls, each address of T1 and T2 has its block, T1, T2 and B3 hold at most C + X together, B1 and B2 together at most C";
 -- and the lists name each held address once and no other, and p isn't above C
 pub record ArcStateLaw (Z : Sizes) (t : ArcLent) : Type 0 where
-  pub blocks : (a : ℕ) → onTop (listsOf t) a ≡ true → (r : AddressRow (Fixed 32)) × (rowWithBlock (engine (Z .B)) (boxOf Z t) a ≡ some r)
+  pub blocks : (a : ℕ) → onTop (listsOf t) a ≡ true → (r : AddressRow (Fixed 32)) × (rowWithBlock (labelled (baseNumbers Z)) (boxOf Z t) a ≡ some r)
   pub fit : length (listsOf t .T1) + length (listsOf t .T2) + length (listsOf t .B3) ≤ Z .C + Z .X
   pub few : length (listsOf t .B1) + length (listsOf t .B2) ≤ Z .C
   pub names : (a : ℕ) → named a (listsOf t) ≡ cond (held a ((boxOf Z t) .rows)) 1 0
@@ -103,13 +103,13 @@ pub record ArcStateLaw (Z : Sizes) (t : ArcLent) : Type 0 where
 
 -- The premise, of the first plain disk and the blocks written in the list: no two different blocks of these share a fingerprint.
 abbrev pub ArcPremise : (Z : Sizes) → ArcLent → List Asking → Type 0
-ArcPremise Z t qs = NoTwoShare (engine (Z .B)) (diskOf Z t ++ arcWritten Z t qs)
+ArcPremise Z t qs = NoTwoShare (labelled (baseNumbers Z)) (diskOf Z t ++ arcWritten Z t qs)
 
 -- The claim. t is the fresh box, and the plain disk begins as the blocks of t's disk; the last five are under the premise: "a user reads the plain disk".
 pub record ArcDemand (Z : Sizes) (t : ArcLent) (qs : List Asking) : Type 0 where
   pub numbers : All ArcInList (arcRefusals Z t qs)
   pub state : ArcThroughout Z (λ x plain. ArcStateLaw Z x) t (diskOf Z t) qs
-  pub fingerprints : ArcPremise Z t qs → ArcThroughout Z (λ x plain. TrueFingerprints (engine (Z .B)) (boxOf Z x) plain) t (diskOf Z t) qs
+  pub fingerprints : ArcPremise Z t qs → ArcThroughout Z (λ x plain. TrueFingerprints (labelled (baseNumbers Z)) (boxOf Z x) plain) t (diskOf Z t) qs
   pub blocks : ArcPremise Z t qs → ArcEachServed Z (ArcShows Z) t (diskOf Z t) qs
   pub asReads : ArcPremise Z t qs → ArcEachServed Z (ArcAsReads Z) t (diskOf Z t) qs
   pub flushes : ArcPremise Z t qs → ArcEachServed Z (ArcFlushes Z) t (diskOf Z t) qs

@@ -16,9 +16,10 @@ use Rattle.tables.specs.Unsound.{elem, addressesUnsound, dirtyUncached}
 use Rattle.paper.specs.Cache as Paper
 use Rattle.paper.specs.Cache.{Numbers, Hashing, Box, Below, Within, rowWithBlock, noCounts, Counters, counted, isRead, isHit}
 use Rattle.paper.specs.KeyedLaws.{All, by-test, all-left, all-right, all-map, or-false-left, or-false-right, or-both, and-left, and-right}
-use Rattle.paper.specs.Engine.{Fixed, engine}
+use Rattle.paper.specs.Engine.{Fixed, labelled}
 use Rattle.paper.specs.Lent as Base
-use Rattle.paper.specs.Lent.{Ask, opening, calling, callOf, addressOf, lentBlock, between, otherLength, wrongBuffers, wrongBlock, outside, over, counts, boxIn, lentOf, blockAfter, partAfter, refused, join, split}
+use Rattle.paper.specs.Lent.{Ask, opening, calling, callOf, addressOf, lentBlock, between, otherLength, wrongBuffers, wrongBlock, outside, over}
+use Rattle.paper.specs.Lent.{counts, boxIn, lentOf, blockAfter, partAfter, refused, join, split}
 use Rattle.paper.specs.Machines.{plainNext, plainBlock, writtenBy, TrueFingerprints}
 use Rattle.paper.specs.Faithful.{at, BlockTrue, Faithful}
 use Rattle.paper.specs.PlainDisk.{clean-is-plain}
@@ -33,18 +34,20 @@ use Rattle.paper.specs.BatchLaws.{GrownBy}
 use Rattle.arc.specs.Policy.{Served, serveBy}
 use Rattle.arc.specs.PlainRows.{Only}
 use Rattle.arc.specs.Promise.{Promise, inv-read, inv-serve, faithful-serves, flushes-one, all-mem}
-use Rattle.arc.specs.Arc.{Sizes, numbersOf, mOf, Lists, noLists, arc}
+use Rattle.arc.specs.Arc.{Sizes, baseNumbers, mOf, Lists, noLists, arc}
 use Rattle.arc.specs.ArcStep.{ArcSound}
 use Rattle.arc.specs.ArcSays.{top-has-block, named-once}
 use Rattle.arc.specs.ArcLaws.{arc-promises, arc-fresh}
 use Rattle.arc.specs.Folder.{FolderBy, nextRead, folderRead, folder, ownRead, folderInTurn}
 use Rattle.arc.specs.FolderLaws.{folder-inv, folder-in-turn, folder-good, folder-blocks}
 use Rattle.arc.specs.ArcFew.{arc-read-few, arc-serve-few}
-use Rattle.arc.specs.ArcLent.{ArcLent, wordBytes, endToEnd, listBytes, recordOf, unfitArc, listsUnsound, topUncached, topsIn, wrongArcBuffers, arcRefusal, arcLentOf, arcServed, arcCall, arcOpened, noSizes}
+use Rattle.arc.specs.ArcLent.{ArcLent, wordBytes, endToEnd, listBytes, listRecord, unfitArc, listsUnsound, topUncached, topsIn, wrongArcBuffers}
+use Rattle.arc.specs.ArcLent.{arcRefusal, arcLentOf, arcServed, arcCall, arcOpened, noSizes}
 use Rattle.arc.specs.ArcLentLaws.{lists-back, lists-pass, tops-pass, passes-arc, total-end, length-words}
 use Rattle.arc.specs.ArcExactly.{arc-exactly, arc-exactly-opening, arc-exactly-folder}
 use Rattle.arc.specs.ArcFolder.{folderStart, folderFrom, folderLent, arcFolderRefusal, arcServedFolder, arcFolderCall, arcServedInTurn}
-use Rattle.arc.specs.ArcDemand.{listsOf, boxOf, diskOf, arcNext, arcPlain, ArcThroughout, ArcEachServed, ArcInList, arcNumber, arcRefusals, arcWrites, arcWritten, ArcShows, ArcAsReads, ArcFlushes, ArcCleanIsPlain, ArcStateLaw, ArcDemand}
+use Rattle.arc.specs.ArcDemand.{listsOf, boxOf, diskOf, arcNext, arcPlain, ArcThroughout, ArcEachServed, ArcInList, arcNumber, arcRefusals}
+use Rattle.arc.specs.ArcDemand.{arcWrites, arcWritten, ArcShows, ArcAsReads, ArcFlushes, ArcCleanIsPlain, ArcStateLaw, ArcDemand}
 
 -- numbers that pass 11
 pub record ArcFits (Z : Sizes) : Type 0 where
@@ -79,10 +82,10 @@ within P B q e = subst (λ x. Below P (x .address)) (sym (about-call B q)) (belo
 
 module _ (Z : Sizes) where
   abbrev H : Hashing (Fixed 32) (Fixed (Z .B))
-  H = engine (Z .B)
+  H = labelled (baseNumbers Z)
 
   abbrev M : Numbers
-  M = numbersOf Z
+  M = baseNumbers Z
 
   -- lent memory that passes 2, 6, 7 and 8
   pub record ArcPasses (t : ArcLent) : Type 0 where
@@ -132,7 +135,7 @@ module _ (Z : Sizes) where
   -- what right lists and a right box write passes, and is read back
   module _ (l : Lists) (s : Box (Fixed 32) (Fixed (Z .B))) (h : ArcSound H Z l s) (k : Counters) (f : ArcFits Z) where
     abbrev out : ArcLent
-    out = record { base = lentOf M s k; sizes = recordOf l; lists = listBytes (mOf Z) l }
+    out = record { base = lentOf M s k; sizes = listRecord l; lists = listBytes (mOf Z) l }
 
     low : Z .P ≤ 2 ^ 32
     low = let P1 = f .P-most in omega (arith, P1)
@@ -159,8 +162,8 @@ module _ (Z : Sizes) where
         record {
           base = sound-passes M s (h .sound) k (f .P-most) (f .C-most);
           width = ap not (eq-eqb (length (listBytes (mOf Z) l)) (mOf Z * 4) list-width);
-          six = subst (λ b. listsUnsound Z (b .rows) (recordOf l) (listBytes (mOf Z) l) ≡ false) (sym box-back) (lists-pass H Z low l s h (mOf Z));
-          eight = subst (λ b. topUncached H b (topsIn (recordOf l) (listBytes (mOf Z) l)) ≡ false) (sym box-back) (tops-pass H Z low l s h (mOf Z));
+          six = subst (λ b. listsUnsound Z (b .rows) (listRecord l) (listBytes (mOf Z) l) ≡ false) (sym box-back) (lists-pass H Z low l s h (mOf Z));
+          eight = subst (λ b. topUncached H b (topsIn (listRecord l) (listBytes (mOf Z) l)) ≡ false) (sym box-back) (tops-pass H Z low l s h (mOf Z));
         }
 
   -- the paper's outcome of a call on lent bytes
@@ -184,13 +187,18 @@ module _ (Z : Sizes) where
     outcome-right : ArcSound H Z ((arcOutcome t q) .kept) ((arcOutcome t q) .outcome .box)
     outcome-right =
         let x = found t q e in
-        inv-serve H M (arc H Z) (ArcSound H Z) (arc-promises H Z (x .fits .C-least)) (listsOf t) (boxOf Z t) (callOf (Z .B) q) (passes-right t (x .passes)) (x .inside)
+        inv-serve H M (arc H Z) (ArcSound H Z) (arc-promises H Z (x .fits .C-least)) (listsOf t) (boxOf Z t) (callOf (Z .B) q) (passes-right t (x .passes))
+        (x .inside)
 
     abbrev after : Counters
     after = counted (t .base .counters) (callOf (Z .B) q) ((arcOutcome t q) .outcome)
 
     pub served-lent : (arcCall Z t q) .lent
-        ≡ record { base = lentOf M ((arcOutcome t q) .outcome .box) after; sizes = recordOf ((arcOutcome t q) .kept); lists = listBytes (mOf Z) ((arcOutcome t q) .kept) }
+        ≡ record {
+          base = lentOf M ((arcOutcome t q) .outcome .box) after;
+          sizes = listRecord ((arcOutcome t q) .kept);
+          lists = listBytes (mOf Z) ((arcOutcome t q) .kept);
+        }
     unfolding arcServed arcLentOf
     served-lent = ap (λ x. x .lent) (served-is t q e)
 
@@ -317,13 +325,15 @@ module _ (Z : Sizes) where
     unfolding arcLentOf
     folder-box =
         ap (boxOf Z) folder-lent
-        ∙ box-back ((folderFrom Z t l) .kept) ((folderFrom Z t l) .batched .box) folder-right ((folderFrom Z t l) .batched .counters) (folder-found t l b e .fits)
+        ∙ box-back ((folderFrom Z t l) .kept) ((folderFrom Z t l) .batched .box) folder-right ((folderFrom Z t l) .batched .counters)
+        (folder-found t l b e .fits)
 
     pub folder-passes : ArcPasses ((arcFolderCall Z t l b) .lent)
     unfolding arcLentOf
     folder-passes =
         subst ArcPasses (sym folder-lent)
-        (right-passes ((folderFrom Z t l) .kept) ((folderFrom Z t l) .batched .box) folder-right ((folderFrom Z t l) .batched .counters) (folder-found t l b e .fits))
+        (right-passes ((folderFrom Z t l) .kept) ((folderFrom Z t l) .batched .box) folder-right ((folderFrom Z t l) .batched .counters)
+        (folder-found t l b e .fits))
 
   -- its counters: n reads add at most n to each of three, and n times 1,025 primary writes
   folder-grows : ArcFits Z → (r : FolderBy (Fixed 32) (Fixed (Z .B)) Lists) (l : List ℕ) → ArcSound H Z (r .kept) (r .batched .box) → All (λ a. a < Z .P) l
@@ -423,8 +433,10 @@ module _ (Z : Sizes) where
   unfolding arcRefusal arcFolderRefusal
   in-list t (one q) u p =
       let b = t .base in
-      let t6 = or-both (addressesUnsound (Z .P) (mOf Z) (b .n) (b .addresses)) (listsUnsound Z ((boxOf Z t) .rows) (t .sizes) (t .lists)) (p .base .addresses) (p .six) in
-      let t8 = or-both (dirtyUncached (b .n) (Z .C) (b .addresses) (b .blocks)) (topUncached H (boxOf Z t) (topsIn (t .sizes) (t .lists))) (p .base .dirty) (p .eight) in
+      let t6 = or-both (addressesUnsound (Z .P) (mOf Z) (b .n) (b .addresses)) (listsUnsound Z ((boxOf Z t) .rows) (t .sizes) (t .lists))
+      (p .base .addresses) (p .six) in
+      let t8 = or-both (dirtyUncached (b .n) (Z .C) (b .addresses) (b .blocks)) (topUncached H (boxOf Z t) (topsIn (t .sizes) (t .lists))) (p .base .dirty)
+      (p .eight) in
       rw u (by-test (wrongArcBuffers Z t || wrongBlock (Z .B) (lentBlock q))
       (λ e. rw e refl)
       (λ e. rw e (by-test (outside (Z .P) (addressOf q))
@@ -432,8 +444,10 @@ module _ (Z : Sizes) where
       (λ f. rw (f, t6, p .base .blocks, t8) (by-test (counts q && over (b .counters)) (λ g. rw g refl) (λ g. rw g refl))))))
   in-list t (many l buffer) u p =
       let b = t .base in
-      let t6 = or-both (addressesUnsound (Z .P) (mOf Z) (b .n) (b .addresses)) (listsUnsound Z ((boxOf Z t) .rows) (t .sizes) (t .lists)) (p .base .addresses) (p .six) in
-      let t8 = or-both (dirtyUncached (b .n) (Z .C) (b .addresses) (b .blocks)) (topUncached H (boxOf Z t) (topsIn (t .sizes) (t .lists))) (p .base .dirty) (p .eight) in
+      let t6 = or-both (addressesUnsound (Z .P) (mOf Z) (b .n) (b .addresses)) (listsUnsound Z ((boxOf Z t) .rows) (t .sizes) (t .lists))
+      (p .base .addresses) (p .six) in
+      let t8 = or-both (dirtyUncached (b .n) (Z .C) (b .addresses) (b .blocks)) (topUncached H (boxOf Z t) (topsIn (t .sizes) (t .lists))) (p .base .dirty)
+      (p .eight) in
       rw u (by-test (wrongArcBuffers Z t || otherLength buffer (length l * Z .B))
       (λ e. rw e refl)
       (λ e. rw e (by-test (badCount l)
@@ -567,7 +581,8 @@ module _ (Z : Sizes) where
         let c = x .fits .C-least in
         let m1 : 1 ≤ mOf Z = omega (arith, c) in
         let s = folderStart Z t in
-        let same = folder-in-turn H M (arc H Z) (ArcSound H Z) (arc-promises H Z c) m1 c In only s s plain (a ∷ l) refl (passes-right t (k .passes), k .faithful) tt (x .inside) in
+        let same = folder-in-turn H M (arc H Z) (ArcSound H Z) (arc-promises H Z c) m1 c In only s s plain (a ∷ l) refl
+        (passes-right t (k .passes), k .faithful) tt (x .inside) in
         folder-lent t (a ∷ l) b e ∙ ap (folderLent Z) same ∙ sym (in-turn-is (x .fits) t a l (k .passes) (x .inside))
 
     -- where the lent memory passes, its disk is that of its box
@@ -583,7 +598,8 @@ module _ (Z : Sizes) where
     fits-numbers = (arc-exactly-opening Z t .gives-0 .0 opens) .0
 
     lengths : Lengths M (t .base)
-    lengths = right-lengths M (t .base) (or-false-left (wrongBuffers M (t .base)) (otherLength (t .lists) (mOf Z * 4)) ((arc-exactly-opening Z t .gives-0 .0 opens) .1 .0))
+    lengths = right-lengths M (t .base) (or-false-left (wrongBuffers M (t .base)) (otherLength (t .lists) (mOf Z * 4))
+        ((arc-exactly-opening Z t .gives-0 .0 opens) .1 .0))
 
     flash : List (Fixed (Z .B))
     flash = split (Z .B) (Z .C) (t .base .flash)
@@ -595,7 +611,8 @@ module _ (Z : Sizes) where
     unfolding arcOpened
     opened-is = rw (opens, arcOpened) refl
 
-    fresh-lent : arcOpened Z t ≡ record { base = lentOf M (Paper.fresh (Z .C) flash disk) noCounts; sizes = recordOf noLists; lists = listBytes (mOf Z) noLists }
+    fresh-lent : arcOpened Z t
+        ≡ record { base = lentOf M (Paper.fresh (Z .C) flash disk) noCounts; sizes = listRecord noLists; lists = listBytes (mOf Z) noLists }
     unfolding Base.fresh lentOf freshAddresses freshBlocks flash disk listBytes wordBytes
     fresh-lent =
         let di = sym (join-split (Z .B) (Z .P) (t .base .disk) (lengths .disk)) in
@@ -627,7 +644,13 @@ module _ (Z : Sizes) where
     unfolding flash disk
     fresh-held In only i =
         let f : Faithful H In (Z .P) disk (Paper.fresh (Z .C) flash disk)
-        = record { rowsTrue = tt; blocksTrue = tt; plainIn = subst (All In) fresh-disk i; plainLength = length-split (Z .B) (Z .P) (t .base .disk); current = λ x h. refl } in
+        = record {
+          rowsTrue = tt;
+          blocksTrue = tt;
+          plainIn = subst (All In) fresh-disk i;
+          plainLength = length-split (Z .B) (Z .P) (t .base .disk);
+          current = λ x h. refl;
+        } in
         record { passes = fresh-passes; faithful = subst₂ (Faithful H In (Z .P)) (sym fresh-disk) (sym fresh-box) f }
 
     arc-demand-from : (qs : List Asking) → ArcDemand Z (arcOpened Z t) qs

@@ -80,14 +80,17 @@ module _ (l : Lists) (x : ℕ) (more : List ℕ) where
   end-b1b3 e =
       let pre = l .T1 ++ l .T2 in
       let mid = more ++ (l .B2 ++ l .B3) in
-      rw e (sym (ap (rotated (length pre) (length (pre ++ mid))) (sym (append-assoc (l .T1) (l .T2) (x ∷ mid))) ∙ rotate-end pre mid x ∙ append-assoc (l .T1) (l .T2) (mid ++ (x ∷ []))
+      rw e (sym (ap (rotated (length pre) (length (pre ++ mid))) (sym (append-assoc (l .T1) (l .T2) (x ∷ mid))) ∙ rotate-end pre mid x
+      ∙ append-assoc (l .T1) (l .T2) (mid ++ (x ∷ []))
       ∙ ap (λ w. l .T1 ++ (l .T2 ++ w)) (three more (l .B2) (l .B3) (x ∷ []))))
 
-  pub end-b2b3 : l .B2 ≡ x ∷ more → endToEnd (b2b3 l) ≡ rotated (length (l .T1 ++ (l .T2 ++ l .B1))) (length ((l .T1 ++ (l .T2 ++ l .B1)) ++ (more ++ l .B3))) (endToEnd l)
+  pub end-b2b3 : l .B2 ≡ x ∷ more → endToEnd (b2b3 l) ≡ rotated (length (l .T1 ++ (l .T2 ++ l .B1)))
+      (length ((l .T1 ++ (l .T2 ++ l .B1)) ++ (more ++ l .B3))) (endToEnd l)
   end-b2b3 e =
       let pre = l .T1 ++ (l .T2 ++ l .B1) in
       let mid = more ++ l .B3 in
-      rw e (sym (ap (rotated (length pre) (length (pre ++ mid))) (sym (three (l .T1) (l .T2) (l .B1) (x ∷ mid))) ∙ rotate-end pre mid x ∙ three (l .T1) (l .T2) (l .B1) (mid ++ (x ∷ []))
+      rw e (sym (ap (rotated (length pre) (length (pre ++ mid))) (sym (three (l .T1) (l .T2) (l .B1) (x ∷ mid))) ∙ rotate-end pre mid x
+      ∙ three (l .T1) (l .T2) (l .B1) (mid ++ (x ∷ []))
       ∙ ap (λ w. l .T1 ++ (l .T2 ++ (l .B1 ++ w))) (append-assoc more (l .B3) (x ∷ []))))
 
   -- evictions
@@ -95,13 +98,15 @@ module _ (l : Lists) (x : ℕ) (more : List ℕ) where
   end-b1Out e =
       let pre = l .T1 ++ l .T2 in
       let post = more ++ (l .B2 ++ l .B3) in
-      rw e (sym (ap (λ w. removeAt w (length pre)) (sym (append-assoc (l .T1) (l .T2) (x ∷ post))) ∙ remove-seam pre post x ∙ append-assoc (l .T1) (l .T2) post))
+      rw e (sym (ap (λ w. removeAt w (length pre)) (sym (append-assoc (l .T1) (l .T2) (x ∷ post))) ∙ remove-seam pre post x
+      ∙ append-assoc (l .T1) (l .T2) post))
 
   pub end-b2Out : l .B2 ≡ x ∷ more → endToEnd (b2Out l) ≡ removeAt (endToEnd l) (length (l .T1 ++ (l .T2 ++ l .B1)))
   end-b2Out e =
       let pre = l .T1 ++ (l .T2 ++ l .B1) in
       let post = more ++ l .B3 in
-      rw e (sym (ap (λ w. removeAt w (length pre)) (sym (three (l .T1) (l .T2) (l .B1) (x ∷ post))) ∙ remove-seam pre post x ∙ three (l .T1) (l .T2) (l .B1) post))
+      rw e (sym (ap (λ w. removeAt w (length pre)) (sym (three (l .T1) (l .T2) (l .B1) (x ∷ post))) ∙ remove-seam pre post x
+      ∙ three (l .T1) (l .T2) (l .B1) post))
 
 -- joining
 pub end-joinT1 : (a : ℕ) (l : Lists) → (l .T1 ++ (a ∷ [])) ++ (l .T2 ++ (l .B1 ++ (l .B2 ++ l .B3))) ≡ insertAt (length (l .T1)) a (endToEnd l)
@@ -112,4 +117,5 @@ end-joinT1 a l =
 pub end-joinT2 : (a : ℕ) (l : Lists) → l .T1 ++ ((l .T2 ++ (a ∷ [])) ++ (l .B1 ++ (l .B2 ++ l .B3))) ≡ insertAt (length (l .T1 ++ l .T2)) a (endToEnd l)
 end-joinT2 a l =
     let post = l .B1 ++ (l .B2 ++ l .B3) in
-    sym (ap (insertAt (length (l .T1 ++ l .T2)) a) (sym (append-assoc (l .T1) (l .T2) post)) ∙ insert-seam (l .T1 ++ l .T2) post a ∙ append-assoc (l .T1) (l .T2) (a ∷ post) ∙ ap (λ w. l .T1 ++ w) (sym (append-assoc (l .T2) (a ∷ []) post)))
+    sym (ap (insertAt (length (l .T1 ++ l .T2)) a) (sym (append-assoc (l .T1) (l .T2) post)) ∙ insert-seam (l .T1 ++ l .T2) post a
+    ∙ append-assoc (l .T1) (l .T2) (a ∷ post) ∙ ap (λ w. l .T1 ++ w) (sym (append-assoc (l .T2) (a ∷ []) post)))

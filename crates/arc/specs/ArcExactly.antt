@@ -6,11 +6,11 @@ use mathlib.Core.Logic.{_↔_, _≢_}
 use Prim.Native.Nat.{ℕ, _*_}
 use lib.ListN.{length, take, drop}
 use Rattle.tables.specs.Unsound.{addressesUnsound, blocksUnsound, dirtyUncached}
-use Rattle.paper.specs.Engine.{engine}
+use Rattle.paper.specs.Engine.{labelled}
 use Rattle.paper.specs.Lent.{Ask, opening, calling, addressOf, lentBlock, wrongBlock, otherLength, outside, over, counts, boxIn, test, oneOf}
 use Rattle.paper.specs.BatchLent.{badCount, anyOutside}
 use Rattle.paper.specs.RefusalLaws.{Apart, NoneOf, gives, gives-none, in-first}
-use Rattle.arc.specs.Arc.{Sizes, numbersOf, mOf}
+use Rattle.arc.specs.Arc.{Sizes, baseNumbers, mOf}
 use Rattle.arc.specs.ArcLent.{ArcLent, unfitArc, listsUnsound, topUncached, topsIn, wrongArcBuffers, arcTests, arcRefusal}
 use Rattle.arc.specs.ArcFolder.{arcFolderTests, arcFolderRefusal}
 
@@ -23,7 +23,7 @@ module _ (Z : Sizes) (t : ArcLent) (q : Ask) where
   arc3 = outside (Z .P) (addressOf q)
 
   abbrev pub arc6 : Bool
-  arc6 = addressesUnsound (Z .P) (mOf Z) (t .base .n) (t .base .addresses) || listsUnsound Z ((boxIn (numbersOf Z) (t .base)) .rows) (t .sizes) (t .lists)
+  arc6 = addressesUnsound (Z .P) (mOf Z) (t .base .n) (t .base .addresses) || listsUnsound Z ((boxIn (baseNumbers Z) (t .base)) .rows) (t .sizes) (t .lists)
 
   abbrev pub arc7 : Bool
   arc7 = blocksUnsound (Z .C) (t .base .blocks)
@@ -31,7 +31,7 @@ module _ (Z : Sizes) (t : ArcLent) (q : Ask) where
   abbrev pub arc8 : Bool
   arc8 =
       dirtyUncached (t .base .n) (Z .C) (t .base .addresses) (t .base .blocks)
-      || topUncached (engine (Z .B)) (boxIn (numbersOf Z) (t .base)) (topsIn (t .sizes) (t .lists))
+      || topUncached (labelled (baseNumbers Z)) (boxIn (baseNumbers Z) (t .base)) (topsIn (t .sizes) (t .lists))
 
   abbrev pub arc9 : Bool
   arc9 = counts q && over (t .base .counters)

@@ -16,7 +16,7 @@ use Rattle.paper.specs.KeyedLaws.{by-test}
 use Rattle.paper.specs.Sound.{Sound}
 use Rattle.paper.specs.FewWrites.{FewBy}
 use Rattle.arc.specs.Promise.{inv-onDisk}
-use Rattle.arc.specs.Arc.{Sizes, numbersOf, mOf, Lists, rowOut, blockNewest, parted, joined, arcStepAs, arcStep, arc}
+use Rattle.arc.specs.Arc.{Sizes, baseNumbers, mOf, Lists, rowOut, blockNewest, parted, joined, arcStepAs, arcStep, arc}
 use Rattle.arc.specs.ArcMid.{OutlastsOut}
 use Rattle.arc.specs.ArcStore.{by-storedIn}
 use Rattle.arc.specs.ArcStep.{ArcSound, OutlastsStore, OutlastsNewest, ready}
@@ -34,11 +34,13 @@ module _ {F X : Type 0} (H : Hashing F X) where
       by-test (eqb x (r .address)) (λ e. rw e (omega (arith, ih))) (λ e. rw e (omega (arith, ih)))
 
   -- the row that is taken out was one of the dirty ones, if it is copied
-  copies-out : (c : F → Bool) (x : ℕ) (rows : List (AddressRow F)) (r : AddressRow F) → rowOf x rows ≡ some r → copies H c (r ∷ []) + copies H c (withoutAddress x rows) ≤ copies H c rows
+  copies-out : (c : F → Bool) (x : ℕ) (rows : List (AddressRow F)) (r : AddressRow F) → rowOf x rows ≡ some r
+      → copies H c (r ∷ []) + copies H c (withoutAddress x rows) ≤ copies H c rows
   copies-out c x [] r = λ h. absurd (Option·none-ne-some r h)
   copies-out c x (y ∷ ys) r =
       by-test (eqb x (y .address))
-      (λ e. rw e (λ h. subst (λ z. copies H c (z ∷ []) + copies H c (withoutAddress x ys) ≤ copies H c (y ∷ ys)) (Option·some-injective y r h) (let w = copies-without c x ys in omega (arith, w))))
+      (λ e. rw e (λ h. subst (λ z. copies H c (z ∷ []) + copies H c (withoutAddress x ys) ≤ copies H c (y ∷ ys)) (Option·some-injective y r h)
+      (let w = copies-without c x ys in omega (arith, w))))
       (λ e. rw e (λ h. let ih = copies-out c x ys r h in omega (arith, ih)))
 
   -- the rows that become clean were dirty
@@ -72,7 +74,7 @@ module _ {F X : Type 0} (H : Hashing F X) (Z : Sizes) (a n : ℕ) where
       (λ u p e. (let w = copies-cleaned H (isLost H (some (u .fingerprint))) (t .stepped .box .rows) in omega (arith, w, k), omega arith))
 
 module _ {F X : Type 0} (H : Hashing F X) (Z : Sizes) (c1 : 1 ≤ Z .C) where
-  spent-parted : (l : Lists) (s : Box F X) (a : ℕ) → Sound H (numbersOf Z) s → (w : _) → Spent H (mOf Z) ((parted H (Z .C) l s a w) .stepped)
+  spent-parted : (l : Lists) (s : Box F X) (a : ℕ) → Sound H (baseNumbers Z) s → (w : _) → Spent H (mOf Z) ((parted H (Z .C) l s a w) .stepped)
   unfolding parted
   spent-parted l s a h w =
       let f = h .few in
@@ -81,20 +83,24 @@ module _ {F X : Type 0} (H : Hashing F X) (Z : Sizes) (c1 : 1 ≤ Z .C) where
       (omega (arith, f, c, d), omega arith)
 
   -- a step stores at most one block and copies at most m
-  pub step-few : (l : Lists) (s : Box F X) (q : Request F X) → ArcSound H Z l s → ((arcStep H Z l s q) .stepped .flashWrites ≤ 1) × ((arcStep H Z l s q) .stepped .primaryWrites ≤ mOf Z)
+  pub step-few : (l : Lists) (s : Box F X) (q : Request F X) → ArcSound H Z l s
+      → ((arcStep H Z l s q) .stepped .flashWrites ≤ 1) × ((arcStep H Z l s q) .stepped .primaryWrites ≤ mOf Z)
   unfolding arcStep arcStepAs joined
   step-few l s q h =
       let a = q .address in
-      let r = ready H Z a (q .fingerprint) (q .block) (Spent H (mOf Z)) (spent-out H Z a (mOf Z)) (spent-store H Z a (mOf Z) (q .fingerprint) (q .block)) (spent-newest H Z a (mOf Z) (q .fingerprint)) c1 l s h (spent-parted l s a (h .sound)) in
+      let r = ready H Z a (q .fingerprint) (q .block) (Spent H (mOf Z)) (spent-out H Z a (mOf Z)) (spent-store H Z a (mOf Z) (q .fingerprint) (q .block))
+      (spent-newest H Z a (mOf Z) (q .fingerprint)) c1 l s h (spent-parted l s a (h .sound)) in
       let k = r .good .0 in
       (r .good .1, omega (arith, k))
 
-  answer-few : (w : Word) (b : Option X) (more : ℕ) (t : Stepped F X) → (t .flashWrites ≤ 1) × (t .primaryWrites ≤ mOf Z) → more ≤ 1 → FewBy H (mOf Z + 1) (answer H w b more t)
+  answer-few : (w : Word) (b : Option X) (more : ℕ) (t : Stepped F X) → (t .flashWrites ≤ 1) × (t .primaryWrites ≤ mOf Z) → more ≤ 1
+      → FewBy H (mOf Z + 1) (answer H w b more t)
   unfolding answer
   answer-few w b more t f h = let f₁ = f .1 in (f .0, omega (arith, f₁, h))
 
   -- and a call at most one more: its counters fit in 64 bits wherever 9 isn't given. A read, whatever block a miss takes:
-  pub arc-read-few : (l : Lists) (s : Box F X) (a : ℕ) (x : X) (o : Option (AddressRow F)) → ArcSound H Z l s → FewBy H (mOf Z + 1) ((readBy H (arc H Z) l s a x o) .outcome)
+  pub arc-read-few : (l : Lists) (s : Box F X) (a : ℕ) (x : X) (o : Option (AddressRow F)) → ArcSound H Z l s
+      → FewBy H (mOf Z + 1) ((readBy H (arc H Z) l s a x o) .outcome)
   unfolding readBy answeredBy
   arc-read-few l s a x (some r) h =
       let b = blockOf H (r .fingerprint) (s .used) (s .flash) in
@@ -110,7 +116,7 @@ module _ {F X : Type 0} (H : Hashing F X) (Z : Sizes) (c1 : 1 ≤ Z .C) where
   arc-serve-few l s (through a b) h =
       let q : Request F X = record { address = a; fingerprint = H .hash b; block = b; dirty = false } in
       answer-few (sameOrNew H s b) none 1 ((arcStep H Z l (onDisk H s a b) q) .stepped)
-      (step-few l (onDisk H s a b) q (inv-onDisk H (numbersOf Z) (arc H Z) (ArcSound H Z) (arc-promises H Z c1) l s a b h)) (omega arith)
+      (step-few l (onDisk H s a b) q (inv-onDisk H (baseNumbers Z) (arc H Z) (ArcSound H Z) (arc-promises H Z c1) l s a b h)) (omega arith)
   arc-serve-few l s (back a b) h =
       let q : Request F X = backRequest H s a b in
       answer-few (sameOrNew H s b) none 0 ((arcStep H Z l s q) .stepped) (step-few l s q h) (omega arith)

@@ -5,12 +5,12 @@ use mathlib.Core.List.{List, [], _∷_}
 use Prim.Native.Nat.{ℕ, _*_}
 use lib.Dec.{eqb}
 use lib.ListN.{length}
-use Rattle.paper.specs.Engine.{Fixed, engine}
+use Rattle.paper.specs.Engine.{Fixed, labelled}
 use Rattle.paper.specs.Lent.{Ask, Test, test, first, otherLength, over, boxIn, lentOf, join}
 use Rattle.paper.specs.Batch.{start, blocksIn}
 use Rattle.paper.specs.BatchLent.{badCount, anyOutside, BatchAnswer, refused, batched}
 use Rattle.arc.specs.Folder.{FolderBy, folder}
-use Rattle.arc.specs.Arc.{Sizes, numbersOf, Lists, arc}
+use Rattle.arc.specs.Arc.{Sizes, baseNumbers, Lists, arc}
 use Rattle.arc.specs.ArcLent.{ArcLent, listsIn, unfitArc, wrongArcBuffers, arcTableTests, arcLentOf, arcServed}
 
 -- "It refuses with 10 an empty list or one above 64, checked after 2, and with 3 if any address is too large"; 11 in place of 1
@@ -32,14 +32,14 @@ pub record ArcFolderAfter : Type 0 where
 
 -- before the first read, and after the reads of l
 abbrev pub folderStart : (Z : Sizes) → ArcLent → FolderBy (Fixed 32) (Fixed (Z .B)) Lists
-folderStart Z t = record { kept = listsIn (t .sizes) (t .lists); batched = start (boxIn (numbersOf Z) (t .base)) (t .base .counters) }
+folderStart Z t = record { kept = listsIn (t .sizes) (t .lists); batched = start (boxIn (baseNumbers Z) (t .base)) (t .base .counters) }
 
 abbrev pub folderFrom : (Z : Sizes) → ArcLent → List ℕ → FolderBy (Fixed 32) (Fixed (Z .B)) Lists
-folderFrom Z t l = folder (engine (Z .B)) (arc (engine (Z .B)) Z) (folderStart Z t) l
+folderFrom Z t l = folder (labelled (baseNumbers Z)) (arc (labelled (baseNumbers Z)) Z) (folderStart Z t) l
 
 -- the bytes of what it leaves
 abbrev pub folderLent : (Z : Sizes) → FolderBy (Fixed 32) (Fixed (Z .B)) Lists → ArcLent
-folderLent Z r = arcLentOf Z (r .kept) (lentOf (numbersOf Z) (r .batched .box) (r .batched .counters))
+folderLent Z r = arcLentOf Z (r .kept) (lentOf (baseNumbers Z) (r .batched .box) (r .batched .counters))
 
 unfoldable pub arcServedFolder : Sizes → ArcLent → List ℕ → ArcFolderAfter
 arcServedFolder Z t l =

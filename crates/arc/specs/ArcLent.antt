@@ -11,12 +11,12 @@ use Rattle.tables.specs.Records.{bytes4}
 use Rattle.tables.specs.Find.{any}
 use Rattle.tables.specs.Unsound.{elem, nonzero, addressesUnsound, blocksUnsound, dirtyUncached}
 use Rattle.paper.specs.Cache.{Hashing, AddressRow, Box, cached, counted}
-use Rattle.paper.specs.Engine.{engine}
+use Rattle.paper.specs.Engine.{labelled}
 use Rattle.paper.specs.Lent as Base
 use Rattle.paper.specs.Lent.{Lent, Ask, Asked, opening, calling, callOf, addressOf, lentBlock, between, otherLength, wrongBuffers, wrongBlock, outside, over}
 use Rattle.paper.specs.Lent.{counts, boxIn, lentOf, Test, test, first, Answer, refused, answered, blockAfter, partAfter}
 use Rattle.arc.specs.Policy.{serveBy}
-use Rattle.arc.specs.Arc.{Sizes, numbersOf, mOf, Lists, isIn, arc}
+use Rattle.arc.specs.Arc.{Sizes, baseNumbers, mOf, Lists, isIn, arc}
 use Rattle.arc.specs.Tally.{count}
 
 -- "the record has their sizes and the number p"
@@ -68,8 +68,8 @@ endToEnd l = l .T1 ++ (l .T2 ++ (l .B1 ++ (l .B2 ++ l .B3)))
 unfoldable pub listBytes : ℕ → Lists → List ℕ
 listBytes m l = wordBytes (endToEnd l) ++ zeros ((m - length (endToEnd l)) * 4)
 
-abbrev pub recordOf : Lists → ListRecord
-recordOf l = record { t1 = length (l .T1); t2 = length (l .T2); b1 = length (l .B1); b2 = length (l .B2); b3 = length (l .B3); p = l .p }
+abbrev pub listRecord : Lists → ListRecord
+listRecord l = record { t1 = length (l .T1); t2 = length (l .T2); b1 = length (l .B1); b2 = length (l .B2); b3 = length (l .B3); p = l .p }
 
 -- "It refuses with 11, in place of 1, if B or P is outside its set, C isn't 1 to 256, or 2 × C + X exceeds 1,024."
 unfoldable pub unfitArc : Sizes → Bool
@@ -104,16 +104,16 @@ topsIn r t = words (r .t1 + r .t2) t
 
 -- "2: a lent length isn't the one above.": the lists lie "in m × 4 bytes"
 abbrev pub wrongArcBuffers : Sizes → ArcLent → Bool
-wrongArcBuffers Z t = wrongBuffers (numbersOf Z) (t .base) || otherLength (t .lists) (mOf Z * 4)
+wrongArcBuffers Z t = wrongBuffers (baseNumbers Z) (t .base) || otherLength (t .lists) (mOf Z * 4)
 
 -- the tests of the tables and the lists, which every call but opening makes
 abbrev pub arcTableTests : Sizes → ArcLent → List Test → List Test
 arcTableTests Z t rest =
     let b = t .base in
-    let s = boxIn (numbersOf Z) b in
+    let s = boxIn (baseNumbers Z) b in
     test (addressesUnsound (Z .P) (mOf Z) (b .n) (b .addresses) || listsUnsound Z (s .rows) (t .sizes) (t .lists)) 6
     ∷ test (blocksUnsound (Z .C) (b .blocks)) 7
-    ∷ test (dirtyUncached (b .n) (Z .C) (b .addresses) (b .blocks) || topUncached (engine (Z .B)) s (topsIn (t .sizes) (t .lists))) 8
+    ∷ test (dirtyUncached (b .n) (Z .C) (b .addresses) (b .blocks) || topUncached (labelled (baseNumbers Z)) s (topsIn (t .sizes) (t .lists))) 8
     ∷ rest
 
 -- "Checked in the order 1, 2, 3, 6, 7, 8, 9, the first that applies. Flush has no 3, look no 9, opening only 1 and 2."; here 11 "in place of 1"
@@ -137,16 +137,16 @@ pub record ArcAfter : Type 0 where
   pub part : List ℕ
 
 unfoldable pub arcLentOf : Sizes → Lists → Lent → ArcLent
-arcLentOf Z l b = record { base = b; sizes = recordOf l; lists = listBytes (mOf Z) l }
+arcLentOf Z l b = record { base = b; sizes = listRecord l; lists = listBytes (mOf Z) l }
 
 unfoldable pub arcServed : Sizes → ArcLent → Ask → ArcAfter
 arcServed Z t q =
-    let H = engine (Z .B) in
+    let H = labelled (baseNumbers Z) in
     let c = callOf (Z .B) q in
-    let o = serveBy H (arc H (Z)) (listsIn (t .sizes) (t .lists)) (boxIn (numbersOf Z) (t .base)) c in
+    let o = serveBy H (arc H (Z)) (listsIn (t .sizes) (t .lists)) (boxIn (baseNumbers Z) (t .base)) c in
     record {
       answer = answered (o .outcome .word) (o .outcome .flashWrites) (o .outcome .primaryWrites);
-      lent = arcLentOf Z (o .kept) (lentOf (numbersOf Z) (o .outcome .box) (counted (t .base .counters) c (o .outcome)));
+      lent = arcLentOf Z (o .kept) (lentOf (baseNumbers Z) (o .outcome .box) (counted (t .base .counters) c (o .outcome)));
       block = blockAfter q (o .outcome .block);
       part = partAfter q (o .outcome .block);
     }
@@ -165,5 +165,9 @@ noSizes = record { t1 = 0; t2 = 0; b1 = 0; b2 = 0; b3 = 0; p = 0 }
 unfoldable pub arcOpened : Sizes → ArcLent → ArcLent
 arcOpened Z t =
     cond (eqb (arcRefusal Z t opening) 0)
-    (record { base = Base.fresh (numbersOf Z) (t .base); sizes = noSizes; lists = zeros (mOf Z * 4) })
+    (record { base = Base.fresh (baseNumbers Z) (t .base); sizes = noSizes; lists = zeros (mOf Z * 4) })
     (record { base = Base.unopened (t .base); sizes = noSizes; lists = t .lists })
+
+-- U6: "The box record carries the label, given at opening (zeros if refused)."
+unfoldable pub arcLabelAfter : Sizes → ArcLent → List ℕ
+arcLabelAfter Z t = cond (eqb (arcRefusal Z t opening) 0) (Z .label) (zeros 64)

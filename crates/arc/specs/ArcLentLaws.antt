@@ -14,14 +14,16 @@ use Rattle.tables.specs.Find.{any}
 use Rattle.tables.specs.Unsound.{nonzero}
 use Rattle.paper.specs.Keyed.{has, without}
 use Rattle.paper.specs.Cache.{Hashing, AddressRow, Box, held, cached}
-use Rattle.paper.specs.KeyedLaws.{by-test, either, clash, or-cases, or-left, or-right, or-both, or-false-left, or-false-right, eqb→≡, eqb-self, All, all-map, has-append}
+use Rattle.paper.specs.KeyedLaws.{by-test, either, clash, or-cases, or-left, or-right, or-both, or-false-left, or-false-right, eqb→≡, eqb-self, All}
+use Rattle.paper.specs.KeyedLaws.{all-map, has-append}
 use Rattle.paper.specs.Sound.{Sound}
-use Rattle.arc.specs.Arc.{Sizes, numbersOf, Lists, isIn, out, onTop}
+use Rattle.arc.specs.Arc.{Sizes, baseNumbers, Lists, isIn, out, onTop}
 use Rattle.arc.specs.Tally.{tally, count, tally-append, tally-has, tally-none, tally-distinct, tally-without-self, tally-without-other, length-without}
 use Rattle.arc.specs.ArcMid.{named, TopCached}
 use Rattle.arc.specs.ArcStep.{ArcSound}
 use Rattle.arc.specs.ArcSays.{named-once}
-use Rattle.arc.specs.ArcLent.{ListRecord, words, wordBytes, totalOf, parts, listsIn, endToEnd, listBytes, recordOf, misnamed, oversized, listsUnsound, topUncached, topsIn}
+use Rattle.arc.specs.ArcLent.{ListRecord, words, wordBytes, totalOf, parts, listsIn, endToEnd, listBytes, listRecord, misnamed, oversized}
+use Rattle.arc.specs.ArcLent.{listsUnsound, topUncached, topsIn}
 
 -- some and none
 pub any-none : {A : Type 0} (p : A → Bool) (l : List A) → All (λ x. p x ≡ false) l → any p l ≡ false
@@ -37,7 +39,11 @@ none-any p (x ∷ xs) h = (or-false-left (p x) (any p xs) h, none-any p xs (or-f
 -- each name of a list is in it
 pub all-in : (l : List ℕ) → All (λ x. isIn x l ≡ true) l
 all-in [] = tt
-all-in (x ∷ xs) = (or-left (eqb x x) (isIn x xs) (eqb-self x), all-map (λ y. isIn y xs ≡ true) (λ y. isIn y (x ∷ xs) ≡ true) (λ y h. or-right (eqb y x) (isIn y xs) h) xs (all-in xs))
+all-in (x ∷ xs) = (
+  or-left (eqb x x) (isIn x xs) (eqb-self x),
+  all-map (λ y. isIn y xs ≡ true) (λ y. isIn y (x ∷ xs) ≡ true)
+      (λ y h. or-right (eqb y x) (isIn y xs) h) xs (all-in xs),
+)
 
 module _ {F : Type 0} where
   abbrev addressesOf : List (AddressRow F) → List ℕ
@@ -78,15 +84,26 @@ take-whole : (l : List ℕ) → take (length l) l ≡ l
 take-whole [] = refl
 take-whole (x ∷ xs) = ap (λ l. x ∷ l) (take-whole xs)
 
-pub parts-back : (l : Lists) → parts (recordOf l) (endToEnd l) ≡ l
+pub parts-back : (l : Lists) → parts (listRecord l) (endToEnd l) ≡ l
 unfolding parts
 parts-back l =
     let b4 = l .B2 ++ l .B3 in
     let b3 = l .B1 ++ b4 in
     let b2 = l .T2 ++ b3 in
-    rw (drop-append-seam (l .T1) b2, drop-append-seam (l .T2) b3, drop-append-seam (l .B1) b4, drop-append-seam (l .B2) (l .B3), take-append-seam (l .T1) b2, take-append-seam (l .T2) b3, take-append-seam (l .B1) b4, take-append-seam (l .B2) (l .B3), take-whole (l .B3)) refl
+    rw (
+      drop-append-seam (l .T1) b2,
+      drop-append-seam (l .T2) b3,
+      drop-append-seam (l .B1) b4,
+      drop-append-seam (l .B2) (l .B3),
+      take-append-seam
+          (l .T1) b2,
+      take-append-seam (l .T2) b3,
+      take-append-seam (l .B1) b4,
+      take-append-seam (l .B2) (l .B3),
+      take-whole (l .B3),
+    ) refl
 
-pub total-end : (l : Lists) → length (endToEnd l) ≡ totalOf (recordOf l)
+pub total-end : (l : Lists) → length (endToEnd l) ≡ totalOf (listRecord l)
 total-end l =
     let e4 = length-append (l .B2) (l .B3) in
     let e3 = length-append (l .B1) (l .B2 ++ l .B3) in
@@ -118,46 +135,58 @@ module _ {F X : Type 0} (H : Hashing F X) (Z : Sizes) (low : Z .P ≤ 2 ^ 32) (l
       lt-low : (x : ℕ) → x < Z .P → x < 2 ^ 32
       lt-low x b = omega (arith, b, low)
 
-  pub names-back : (m : ℕ) → words (totalOf (recordOf l)) (listBytes m l) ≡ endToEnd l
+  pub names-back : (m : ℕ) → words (totalOf (listRecord l)) (listBytes m l) ≡ endToEnd l
   unfolding listBytes
-  names-back m = subst (λ n. words n (wordBytes (endToEnd l) ++ zeros ((m - length (endToEnd l)) * 4)) ≡ endToEnd l) (total-end l) (words-back (endToEnd l) (zeros ((m - length (endToEnd l)) * 4)) all-low)
+  names-back m = subst (λ n. words n (wordBytes (endToEnd l) ++ zeros ((m - length (endToEnd l)) * 4)) ≡ endToEnd l) (total-end l)
+      (words-back (endToEnd l) (zeros ((m - length (endToEnd l)) * 4)) all-low)
 
   -- the lists in the bytes of the lists
-  pub lists-back : (m : ℕ) → listsIn (recordOf l) (listBytes m l) ≡ l
-  lists-back m = ap (parts (recordOf l)) (names-back m) ∙ parts-back l
+  pub lists-back : (m : ℕ) → listsIn (listRecord l) (listBytes m l) ≡ l
+  lists-back m = ap (parts (listRecord l)) (names-back m) ∙ parts-back l
 
-  zeros-after : (m : ℕ) → any nonzero (drop (totalOf (recordOf l) * 4) (listBytes m l)) ≡ false
+  zeros-after : (m : ℕ) → any nonzero (drop (totalOf (listRecord l) * 4) (listBytes m l)) ≡ false
   unfolding listBytes
   zeros-after m =
       let z = zeros ((m - length (endToEnd l)) * 4) in
-      let e : totalOf (recordOf l) * 4 ≡ length (wordBytes (endToEnd l)) = ap (λ n. n * 4) (sym (total-end l)) ∙ sym (length-words (endToEnd l)) in
-      ap (any nonzero) (ap (λ n. drop n (wordBytes (endToEnd l) ++ z)) e ∙ drop-append-seam (wordBytes (endToEnd l)) z) ∙ zeros-none ((m - length (endToEnd l)) * 4)
+      let e : totalOf (listRecord l) * 4 ≡ length (wordBytes (endToEnd l)) = ap (λ n. n * 4) (sym (total-end l)) ∙ sym (length-words (endToEnd l)) in
+      ap (any nonzero) (ap (λ n. drop n (wordBytes (endToEnd l) ++ z)) e ∙ drop-append-seam (wordBytes (endToEnd l)) z)
+      ∙ zeros-none ((m - length (endToEnd l)) * 4)
 
   well-named : misnamed (map (λ r. r .address) (s .rows)) (endToEnd l) ≡ false
   unfolding misnamed
   well-named =
-      or-both (any (λ a. not (eqb (count a (endToEnd l)) 1)) (map (λ r. r .address) (s .rows))) (any (λ x. not (isIn x (map (λ r. r .address) (s .rows)))) (endToEnd l))
+      or-both (any (λ a. not (eqb (count a (endToEnd l)) 1)) (map (λ r. r .address) (s .rows)))
+      (any (λ x. not (isIn x (map (λ r. r .address) (s .rows)))) (endToEnd l))
       (any-none (λ a. not (eqb (count a (endToEnd l)) 1)) (map (λ r. r .address) (s .rows))
       (all-map (λ x. isIn x (map (λ r. r .address) (s .rows)) ≡ true) (λ a. not (eqb (count a (endToEnd l)) 1) ≡ false)
-      (λ x e. ap not (eq-eqb (count x (endToEnd l)) 1 (named-end x l ∙ named-once H Z l s h x ∙ ap (λ b. cond b 1 0) (sym (in-map x (s .rows)) ∙ e)))) (map (λ r. r .address) (s .rows)) (all-in (map (λ r. r .address) (s .rows)))))
+      (λ x e. ap not (eq-eqb (count x (endToEnd l)) 1 (named-end x l ∙ named-once H Z l s h x ∙ ap (λ b. cond b 1 0) (sym (in-map x (s .rows)) ∙ e))))
+      (map (λ r. r .address) (s .rows)) (all-in (map (λ r. r .address) (s .rows)))))
       (any-none (λ x. not (isIn x (map (λ r. r .address) (s .rows)))) (endToEnd l)
       (all-map (λ x. isIn x (endToEnd l) ≡ true) (λ x. not (isIn x (map (λ r. r .address) (s .rows))) ≡ false)
       (λ x e. ap not (in-map x (s .rows) ∙ named-held x e)) (endToEnd l) (all-in (endToEnd l))))
 
   -- 6 isn't given for the lists of a state that is right
-  pub lists-pass : (m : ℕ) → listsUnsound Z (s .rows) (recordOf l) (listBytes m l) ≡ false
+  pub lists-pass : (m : ℕ) → listsUnsound Z (s .rows) (listRecord l) (listBytes m l) ≡ false
   unfolding listsUnsound oversized
   lists-pass m =
       let ft = h .fit in
       let fw = h .few in
       let pl = h .pLow in
-      rw (names-back m, well-named, zeros-after m, le-ltb (Z .C + Z .X) (length (l .T1) + length (l .T2) + length (l .B3)) (omega (arith, ft)), le-ltb (Z .C) (length (l .B1) + length (l .B2)) fw, le-ltb (Z .C) (l .p) pl) refl
+      rw (
+        names-back m,
+        well-named,
+        zeros-after m,
+        le-ltb (Z .C + Z .X) (length (l .T1) + length (l .T2) + length (l .B3)) (omega (arith, ft)),
+        le-ltb (Z .C)
+            (length (l .B1) + length (l .B2)) fw,
+        le-ltb (Z .C) (l .p) pl,
+      ) refl
 
   in-append : (x : ℕ) (ws bs : List ℕ) → isIn x (ws ++ bs) ≡ (isIn x ws || isIn x bs)
   in-append x ws bs = has-append eqb (λ z. z) x ws bs
 
   -- the first names are those of T1 and T2
-  tops-back : (m : ℕ) → topsIn (recordOf l) (listBytes m l) ≡ l .T1 ++ l .T2
+  tops-back : (m : ℕ) → topsIn (listRecord l) (listBytes m l) ≡ l .T1 ++ l .T2
   unfolding listBytes
   tops-back m =
       let b3 = l .B1 ++ (l .B2 ++ l .B3) in
@@ -168,7 +197,7 @@ module _ {F X : Type 0} (H : Hashing F X) (Z : Sizes) (low : Z .P ≤ 2 ^ 32) (l
       words-first n (endToEnd l) z all-low (let t = total-end l in omega (arith, t)) ∙ ap₂ {C = List ℕ} take e f ∙ take-append-seam (l .T1 ++ l .T2) b3
 
   -- nor 8
-  pub tops-pass : (m : ℕ) → topUncached H s (topsIn (recordOf l) (listBytes m l)) ≡ false
+  pub tops-pass : (m : ℕ) → topUncached H s (topsIn (listRecord l) (listBytes m l)) ≡ false
   unfolding topUncached
   tops-pass m =
       rw (tops-back m) (any-none (λ r. isIn (r .address) (l .T1 ++ l .T2) && not (cached H (r .fingerprint) (s .used))) (s .rows)
@@ -178,7 +207,8 @@ module _ {F X : Type 0} (H : Hashing F X) (Z : Sizes) (low : Z .P ≤ 2 ^ 32) (l
       (λ e. rw e refl)) (s .rows) (h .top)))
 
 -- two rows of addresses that name each address equally often are equally long
-pub same-length : {R : Type 0} (key : R → ℕ) (n : ℕ) (xs : List R) (ws : List ℕ) → length xs ≤ n → ((x : ℕ) → tally key x xs ≡ count x ws) → length xs ≡ length ws
+pub same-length : {R : Type 0} (key : R → ℕ) (n : ℕ) (xs : List R) (ws : List ℕ) → length xs ≤ n → ((x : ℕ) → tally key x xs ≡ count x ws)
+    → length xs ≡ length ws
 same-length key zero [] [] k h = refl
 same-length key zero [] (w ∷ ws) k h =
     let e = h w in
@@ -196,7 +226,8 @@ same-length key (suc n) (x ∷ xs) ws k h =
     let ha = h a in
     let ih = same-length key n (without eqb key a (x ∷ xs)) (out a ws) (omega (arith, e1, t, k))
     (λ y. by-test (eqb a y)
-    (λ q. subst (λ z. tally key z (without eqb key a (x ∷ xs)) ≡ count z (out a ws)) (eqb→≡ a y q) (tally-without-self key a (x ∷ xs) ∙ sym (tally-without-self (λ z. z) a ws)))
+    (λ q. subst (λ z. tally key z (without eqb key a (x ∷ xs)) ≡ count z (out a ws)) (eqb→≡ a y q)
+    (tally-without-self key a (x ∷ xs) ∙ sym (tally-without-self (λ z. z) a ws)))
     (λ q. tally-without-other key a y (x ∷ xs) q ∙ h y ∙ sym (tally-without-other (λ z. z) a y ws q))) in
     omega (arith, e1, e2, ih, ha)
 
@@ -282,7 +313,7 @@ part-p-is : (r : ListRecord) (w : List ℕ) {n : ℕ} → r .p ≤ n → parts r
 unfolding parts
 part-p-is r w h = h
 
-module _ {F X : Type 0} (H : Hashing F X) (Z : Sizes) (r : ListRecord) (t : List ℕ) (s : Box F X) (so : Sound H (numbersOf Z) s)
+module _ {F X : Type 0} (H : Hashing F X) (Z : Sizes) (r : ListRecord) (t : List ℕ) (s : Box F X) (so : Sound H (baseNumbers Z) s)
     (p6 : listsUnsound Z (s .rows) r t ≡ false) (p8 : topUncached H s (topsIn r t) ≡ false) where
   abbrev names : List ℕ
   names = words (totalOf r) t
@@ -349,7 +380,8 @@ module _ {F X : Type 0} (H : Hashing F X) (Z : Sizes) (r : ListRecord) (t : List
       let b = drop (r .t1) names in
       let n1 : length a ≡ r .t1 = split-length (r .t1) names (let z = wl in omega (arith, z)) in
       let e : topsIn r t ≡ a ++ take (r .t2) b
-      = sym (words-take (r .t1 + r .t2) (totalOf r) t (omega arith)) ∙ ap₂ {C = List ℕ} take (ap (λ n. n + r .t2) (sym n1)) (sym (take-append-drop (r .t1) names)) ∙ take-append-add a b (r .t2) in
+      = sym (words-take (r .t1 + r .t2) (totalOf r) t (omega arith))
+      ∙ ap₂ {C = List ℕ} take (ap (λ n. n + r .t2) (sym n1)) (sym (take-append-drop (r .t1) names)) ∙ take-append-add a b (r .t2) in
       ap (isIn x) e ∙ has-append eqb (λ z. z) x a (take (r .t2) b) ∙ h
 
   -- Lists and tables that pass 6 and 8 are right: what a served call begins with, from whatever bytes.

@@ -8,11 +8,14 @@ use native.Mathlib.Omega.{arith}
 use lib.Dec.{eqb}
 use lib.ListN.{length, take, drop, length-append}
 use Rattle.paper.specs.Cache.{Hashing, AddressRow, BlockRow, Stepped, held, rowOf, withoutAddress, cached}
-use Rattle.paper.specs.KeyedLaws.{by-test, by-option, either, clash, or-cases, or-left, or-right, eqb→≡, eqb-self, eqb-swap, All, all-map, all-without, has-without-other, distinct-without, find-none}
+use Rattle.paper.specs.KeyedLaws.{by-test, by-option, either, clash, or-cases, or-left, or-right, eqb→≡, eqb-self, eqb-swap, All, all-map}
+use Rattle.paper.specs.KeyedLaws.{all-without, has-without-other, distinct-without, find-none}
 use Rattle.paper.specs.Sound.{Sound, DirtyCached, length-copied, length-without-le}
 use Rattle.arc.specs.Policy.{Ran}
-use Rattle.arc.specs.Arc.{Sizes, numbersOf, Lists, isIn, onTop, rowOut, evicted, listed, t1b1, t2b2, t1b3, b1b3, b2b3, b1Out, b2Out, b3Out, b1Evicted, b2Evicted, b3Evicted}
-use Rattle.arc.specs.Tally.{tally, count, tally-append, tally-some, tally-distinct, tally-without-self, tally-without-other, length-without, tally-first, length-first, in-drop}
+use Rattle.arc.specs.Arc.{Sizes, baseNumbers, Lists, isIn, onTop, rowOut, evicted, listed, t1b1, t2b2, t1b3, b1b3, b2b3, b1Out, b2Out, b3Out}
+use Rattle.arc.specs.Arc.{b1Evicted, b2Evicted, b3Evicted}
+use Rattle.arc.specs.Tally.{tally, count, tally-append, tally-some, tally-distinct, tally-without-self, tally-without-other, length-without}
+use Rattle.arc.specs.Tally.{tally-first, length-first, in-drop}
 
 -- how often the lists name x, and how many names they have
 abbrev pub named : ℕ → Lists → ℕ
@@ -26,7 +29,7 @@ abbrev pub TopCached : {F X : Type 0} (H : Hashing F X) → Lists → List (Bloc
 TopCached H l used r = onTop l (r .address) ≡ true → cached H (r .fingerprint) used ≡ true
 
 pub record Mid {F X : Type 0} (H : Hashing F X) (Z : Sizes) (a : ℕ) (t : Ran F X Lists) : Type 0 where
-  pub sound : Sound H (numbersOf Z) (t .stepped .box)
+  pub sound : Sound H (baseNumbers Z) (t .stepped .box)
   pub absent : held a (t .stepped .box .rows) ≡ false
   pub names : (x : ℕ) → tally (λ r. r .address) x (t .stepped .box .rows) ≡ named x (t .kept)
   pub counted : length (t .stepped .box .rows) ≡ total (t .kept)
@@ -35,7 +38,8 @@ pub record Mid {F X : Type 0} (H : Hashing F X) (Z : Sizes) (a : ℕ) (t : Ran F
 
 module _ {F X : Type 0} (H : Hashing F X) (Z : Sizes) (a : ℕ) where
   -- the lists change, and name the same addresses as often; T1 and T2 get none
-  pub mid-lists : (l : Lists) (t : Ran F X Lists) → ((x : ℕ) → named x l ≡ named x (t .kept)) → total l ≡ total (t .kept) → ((x : ℕ) → onTop l x ≡ true → onTop (t .kept) x ≡ true) → l .p ≤ Z .C
+  pub mid-lists : (l : Lists) (t : Ran F X Lists) → ((x : ℕ) → named x l ≡ named x (t .kept)) → total l ≡ total (t .kept)
+      → ((x : ℕ) → onTop l x ≡ true → onTop (t .kept) x ≡ true) → l .p ≤ Z .C
       → Mid H Z a t → Mid H Z a (record { kept = l; stepped = t .stepped })
   mid-lists l t n c o p h =
       record {
@@ -43,7 +47,8 @@ module _ {F X : Type 0} (H : Hashing F X) (Z : Sizes) (a : ℕ) where
         absent = h .absent;
         names = λ x. h .names x ∙ sym (n x);
         counted = h .counted ∙ sym c;
-        top = all-map (TopCached H (t .kept) (t .stepped .box .used)) (TopCached H l (t .stepped .box .used)) (λ r y e. y (o (r .address) e)) (t .stepped .box .rows) (h .top);
+        top = all-map (TopCached H (t .kept) (t .stepped .box .used)) (TopCached H l (t .stepped .box .used)) (λ r y e. y (o (r .address) e))
+            (t .stepped .box .rows) (h .top);
         pLow = p;
       }
 
@@ -55,11 +60,13 @@ module _ {F X : Type 0} (H : Hashing F X) (Z : Sizes) (a : ℕ) where
 
   less-left : (l : Lists) (x : ℕ) → (isIn x (drop 1 (l .T1)) || isIn x (l .T2)) ≡ true → onTop l x ≡ true
   less-left l x h =
-      either (or-cases (isIn x (drop 1 (l .T1))) (isIn x (l .T2)) h) (λ e. or-left (isIn x (l .T1)) (isIn x (l .T2)) (in-drop x (l .T1) e)) (λ e. or-right (isIn x (l .T1)) (isIn x (l .T2)) e)
+      either (or-cases (isIn x (drop 1 (l .T1))) (isIn x (l .T2)) h) (λ e. or-left (isIn x (l .T1)) (isIn x (l .T2)) (in-drop x (l .T1) e))
+      (λ e. or-right (isIn x (l .T1)) (isIn x (l .T2)) e)
 
   less-right : (l : Lists) (x : ℕ) → (isIn x (l .T1) || isIn x (drop 1 (l .T2))) ≡ true → onTop l x ≡ true
   less-right l x h =
-      either (or-cases (isIn x (l .T1)) (isIn x (drop 1 (l .T2))) h) (λ e. or-left (isIn x (l .T1)) (isIn x (l .T2)) e) (λ e. or-right (isIn x (l .T1)) (isIn x (l .T2)) (in-drop x (l .T2) e))
+      either (or-cases (isIn x (l .T1)) (isIn x (drop 1 (l .T2))) h) (λ e. or-left (isIn x (l .T1)) (isIn x (l .T2)) e)
+      (λ e. or-right (isIn x (l .T1)) (isIn x (l .T2)) (in-drop x (l .T2) e))
 
   pub mid-t1b1 : (t : Ran F X Lists) → Mid H Z a t → Mid H Z a (listed H t1b1 t)
   mid-t1b1 t h = let l = t .kept in mid-lists (t1b1 l) t
@@ -84,7 +91,8 @@ module _ {F X : Type 0} (H : Hashing F X) (Z : Sizes) (a : ℕ) where
 -- What outlasts an eviction of another address than a outlasts all that a step does to the address table.
 abbrev pub OutlastsOut : {F X : Type 0} (H : Hashing F X) (Z : Sizes) (a : ℕ) (G : Stepped F X → Type 0) → Type 0
 OutlastsOut {F} {X} H Z a G =
-    (t : Stepped F X) (x : ℕ) (r : AddressRow F) → Sound H (numbersOf Z) (t .box) → held a (t .box .rows) ≡ false → rowOf x (t .box .rows) ≡ some r → eqb a x ≡ false → G t
+    (t : Stepped F X) (x : ℕ) (r : AddressRow F) → Sound H (baseNumbers Z) (t .box) → held a (t .box .rows) ≡ false → rowOf x (t .box .rows) ≡ some r
+    → eqb a x ≡ false → G t
     → G (rowOut H x (some r) t)
 
 module _ {F X : Type 0} (H : Hashing F X) (Z : Sizes) (a : ℕ) (G : Stepped F X → Type 0) (gOut : OutlastsOut H Z a G) where
@@ -92,7 +100,8 @@ module _ {F X : Type 0} (H : Hashing F X) (Z : Sizes) (a : ℕ) (G : Stepped F X
   Both t = Mid H Z a t × G (t .stepped)
 
   -- the oldest of a list is evicted
-  pub mid-evict : (xs : List ℕ) (l : Lists) (t : Ran F X Lists) → ((x : ℕ) → named x (t .kept) ≡ count x (take 1 xs) + named x l) → total (t .kept) ≡ length (take 1 xs) + total l
+  pub mid-evict : (xs : List ℕ) (l : Lists) (t : Ran F X Lists) → ((x : ℕ) → named x (t .kept) ≡ count x (take 1 xs) + named x l)
+      → total (t .kept) ≡ length (take 1 xs) + total l
       → ((x : ℕ) → onTop l x ≡ true → onTop (t .kept) x ≡ true) → l .p ≤ Z .C → Both t → Both (record { kept = l; stepped = evicted H xs (t .stepped) })
   unfolding evicted rowOut
   mid-evict [] l t n c o p h = (mid-lists H Z a l t (λ x. let e = n x in omega (arith, e)) (omega (arith, c)) o p (h .0), h .1)
@@ -119,11 +128,13 @@ module _ {F X : Type 0} (H : Hashing F X) (Z : Sizes) (a : ℕ) (G : Stepped F X
             flashLength = so .flashLength;
             diskLength = length-copied H (λ f. true) (r ∷ []) (s .used) (s .flash) (s .disk) ∙ so .diskLength;
           };
-          absent = by-test (held a (withoutAddress x (s .rows))) (λ y. clash (has-without-other eqb (λ r. r .address) eqb (λ r. r .address) a x (s .rows) y) (m .absent)) (λ y. y);
+          absent = by-test (held a (withoutAddress x (s .rows)))
+              (λ y. clash (has-without-other eqb (λ r. r .address) eqb (λ r. r .address) a x (s .rows) y) (m .absent)) (λ y. y);
           names = λ y. by-test (eqb x y)
               (λ q. subst (λ z. tally (λ r. r .address) z (withoutAddress x (s .rows)) ≡ named z l) (eqb→≡ x y q)
               (tally-without-self (λ (r : AddressRow F). r .address) x (s .rows) ∙ (omega (arith, here, most))))
-              (λ q. tally-without-other (λ (r : AddressRow F). r .address) x y (s .rows) q ∙ m .names y ∙ (let z = n y ∙ ap (λ c. cond c 1 0 + named y l) (eqb-swap x y q) in omega (arith, z)));
+              (λ q. tally-without-other (λ (r : AddressRow F). r .address) x y (s .rows) q ∙ m .names y
+              ∙ (let z = n y ∙ ap (λ c. cond c 1 0 + named y l) (eqb-swap x y q) in omega (arith, z)));
           counted = (let mc = m .counted in omega (arith, rest, here, most, mc, c));
           top = all-without eqb (λ r. r .address) (TopCached H l (s .used)) x (s .rows)
               (all-map (TopCached H (t .kept) (s .used)) (TopCached H l (s .used)) (λ r y z. y (o (r .address) z)) (s .rows) (m .top));
@@ -139,10 +150,13 @@ module _ {F X : Type 0} (H : Hashing F X) (Z : Sizes) (a : ℕ) (G : Stepped F X
   out-total l = sym (length-first (λ (z : ℕ). z) l)
 
   pub mid-b1Out : (t : Ran F X Lists) → Both t → Both (b1Evicted H t)
-  mid-b1Out t h = let l = t .kept in mid-evict (l .B1) (b1Out l) t (λ x. let e = out-names x (l .B1) in omega (arith, e)) (let e = out-total (l .B1) in omega (arith, e)) (λ x e. e) (h .0 .pLow) h
+  mid-b1Out t h = let l = t .kept in mid-evict (l .B1) (b1Out l) t (λ x. let e = out-names x (l .B1) in omega (arith, e))
+      (let e = out-total (l .B1) in omega (arith, e)) (λ x e. e) (h .0 .pLow) h
 
   pub mid-b2Out : (t : Ran F X Lists) → Both t → Both (b2Evicted H t)
-  mid-b2Out t h = let l = t .kept in mid-evict (l .B2) (b2Out l) t (λ x. let e = out-names x (l .B2) in omega (arith, e)) (let e = out-total (l .B2) in omega (arith, e)) (λ x e. e) (h .0 .pLow) h
+  mid-b2Out t h = let l = t .kept in mid-evict (l .B2) (b2Out l) t (λ x. let e = out-names x (l .B2) in omega (arith, e))
+      (let e = out-total (l .B2) in omega (arith, e)) (λ x e. e) (h .0 .pLow) h
 
   pub mid-b3Out : (t : Ran F X Lists) → Both t → Both (b3Evicted H t)
-  mid-b3Out t h = let l = t .kept in mid-evict (l .B3) (b3Out l) t (λ x. let e = out-names x (l .B3) in omega (arith, e)) (let e = out-total (l .B3) in omega (arith, e)) (λ x e. e) (h .0 .pLow) h
+  mid-b3Out t h = let l = t .kept in mid-evict (l .B3) (b3Out l) t (λ x. let e = out-names x (l .B3) in omega (arith, e))
+      (let e = out-total (l .B3) in omega (arith, e)) (λ x e. e) (h .0 .pLow) h

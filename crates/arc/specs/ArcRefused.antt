@@ -20,14 +20,18 @@ use Rattle.arc.specs.Arc as Arc
 use Rattle.arc.specs.Arc.{Sizes}
 use Rattle.arc.specs.ArcLent as Bytes
 use Rattle.arc.specs.ArcFolder.{arcFolderRefusal}
-use Rattle.arc.specs.ArcLent.{ListRecord, ArcLent, arcRefusal, arcCall, wordBytes}
+use Rattle.arc.specs.ArcLent.{ListRecord, ArcLent, arcRefusal, arcCall, arcLabelAfter, wordBytes}
 
 abbrev numbers : ℕ → ℕ → ℕ → ℕ → Sizes
-numbers B P C X = record { B = B; P = P; C = C; X = X }
+numbers B P C X = record { B = B; P = P; C = C; X = X; label = replicate 64 0 }
 
 -- Blocks of 64 bytes, four on disk; C 2 and X 1, so m is 5.
 abbrev small : Sizes
 small = numbers 64 4 2 1
+
+-- its label of so many bytes
+abbrev labelledBy : ℕ → Sizes
+labelledBy k = record { B = 64; P = 4; C = 2; X = 1; label = replicate k 7 }
 
 abbrev filled : ℕ → List ℕ
 filled k = replicate 64 k
@@ -113,6 +117,10 @@ table =
     -- 2: the lists' buffer is a byte short or long
     ∷ asks (record { base = three; sizes = sizes 1 1 1 0 0 1; lists = take 19 (right .lists) }) 2
     ∷ asks (record { base = three; sizes = sizes 1 1 1 0 0 1; lists = right .lists ++ (0 ∷ []) }) 2
+    -- so is the label
+    ∷ record { numbers = labelledBy 63; lent = right; asked = calling (Ask.read 1 (filled 0)); number = 2 }
+    ∷ record { numbers = labelledBy 65; lent = right; asked = opening; number = 2 }
+    ∷ record { numbers = labelledBy 64; lent = right; asked = opening; number = 0 }
     -- 11
     ∷ opens 64 4 2 1 0
     ∷ opens 96 4 2 1 11
@@ -126,8 +134,16 @@ table =
     ∷ []
 
 pub refusals-given : map (λ c. arcRefusal (c .numbers) (c .lent) (c .asked)) table ≡ map (λ c. c .number) table
-unfolding arcRefusal Bytes.unfitArc Bytes.words wordBytes Bytes.misnamed Bytes.oversized Bytes.listsUnsound Bytes.topUncached Lent.wrongBuffers Lent.over Lent.boxIn Lent.split Lent.freeSlots Lent.usedRows Engine.fit Rows.rows Rows.flat Rows.zeros Records.addressBytes Records.blockBytes Records.readAddress Records.readBlock addressTable blockTable Records.heldRows Records.blockRows Find.any Find.all Find.same Unsound.elem Unsound.twice Unsound.count Unsound.addressesUnsound Unsound.freeAfterUsed Unsound.eachOnce Unsound.usedTwice Unsound.blocksUnsound Unsound.dirtyUncached
+unfolding arcRefusal Bytes.unfitArc Bytes.words wordBytes Bytes.misnamed Bytes.oversized Bytes.listsUnsound Bytes.topUncached Lent.wrongBuffers Lent.over
+    Lent.boxIn Lent.split Lent.freeSlots Lent.usedRows Engine.fit Rows.rows Rows.flat Rows.zeros Records.addressBytes Records.blockBytes Records.readAddress
+    Records.readBlock addressTable blockTable Records.heldRows Records.blockRows Find.any Find.all Find.same Unsound.elem Unsound.twice Unsound.count
+    Unsound.addressesUnsound Unsound.freeAfterUsed Unsound.eachOnce Unsound.usedTwice Unsound.blocksUnsound Unsound.dirtyUncached
 refusals-given = refl
+
+pub labels-after : (arcLabelAfter (labelledBy 64) right ≡ replicate 64 7) × (arcLabelAfter (labelledBy 63) right ≡ replicate 64 0)
+unfolding arcLabelAfter arcRefusal Bytes.unfitArc Lent.wrongBuffers Unsound.elem Rows.zeros Rows.flat addressTable blockTable Records.addressBytes
+    Records.blockBytes wordBytes
+labels-after = (refl, refl)
 
 -- folder reads of these addresses, with a buffer of so many blocks and bytes more
 pub record FolderCase : Type 0 where
@@ -156,7 +172,10 @@ folders =
     ∷ []
 
 pub folder-refusals-given : map (λ c. arcFolderRefusal small (c .lent) (c .asked) (c .buffer)) folders ≡ map (λ c. c .number) folders
-unfolding arcFolderRefusal Bytes.unfitArc Bytes.words wordBytes Bytes.misnamed Bytes.oversized Bytes.listsUnsound Bytes.topUncached Lent.wrongBuffers Lent.over Lent.boxIn Lent.split Lent.freeSlots Lent.usedRows Engine.fit Rows.rows Rows.flat Rows.zeros Records.addressBytes Records.blockBytes Records.readAddress Records.readBlock addressTable blockTable Records.heldRows Records.blockRows Find.any Find.all Find.same Unsound.elem Unsound.twice Unsound.count Unsound.addressesUnsound Unsound.freeAfterUsed Unsound.eachOnce Unsound.usedTwice Unsound.blocksUnsound Unsound.dirtyUncached
+unfolding arcFolderRefusal Bytes.unfitArc Bytes.words wordBytes Bytes.misnamed Bytes.oversized Bytes.listsUnsound Bytes.topUncached Lent.wrongBuffers
+    Lent.over Lent.boxIn Lent.split Lent.freeSlots Lent.usedRows Engine.fit Rows.rows Rows.flat Rows.zeros Records.addressBytes Records.blockBytes
+    Records.readAddress Records.readBlock addressTable blockTable Records.heldRows Records.blockRows Find.any Find.all Find.same Unsound.elem Unsound.twice
+    Unsound.count Unsound.addressesUnsound Unsound.freeAfterUsed Unsound.eachOnce Unsound.usedTwice Unsound.blocksUnsound Unsound.dirtyUncached
 folder-refusals-given = refl
 
 -- A read of address 1 is a hit (nothing is hashed): it goes from T1 to T2, its row and its block row become newest.
@@ -178,5 +197,10 @@ pub a-hit-in-bytes : arcCall small right (Ask.read 1 (filled 0))
       block = some (filled 8);
       part = [];
     }
-unfolding arcCall arcRefusal Bytes.arcServed Bytes.arcLentOf Bytes.listBytes Bytes.parts Bytes.unfitArc Bytes.words wordBytes Bytes.misnamed Bytes.oversized Bytes.listsUnsound Bytes.topUncached Lent.wrongBuffers Lent.over Lent.boxIn Lent.lentOf Lent.split Lent.callOf Lent.freeSlots Lent.usedRows Engine.fit Rows.rows Rows.flat Rows.zeros Records.addressBytes Records.blockBytes Records.readAddress Records.readBlock addressTable blockTable Records.heldRows Records.blockRows Find.any Find.all Find.same Unsound.elem Unsound.twice Unsound.count Unsound.addressesUnsound Unsound.freeAfterUsed Unsound.eachOnce Unsound.usedTwice Unsound.blocksUnsound Unsound.dirtyUncached Policy.serveBy Policy.answeredBy Policy.readBy Cache.ifCached Cache.answer Cache.counted Arc.listOf Arc.newP Arc.blockNewest Arc.inserted Arc.parted Arc.checked Arc.toT2 Arc.joined Arc.arcStepAs Arc.arcStep
+unfolding arcCall arcRefusal Bytes.arcServed Bytes.arcLentOf Bytes.listBytes Bytes.parts Bytes.unfitArc Bytes.words wordBytes Bytes.misnamed Bytes.oversized
+    Bytes.listsUnsound Bytes.topUncached Lent.wrongBuffers Lent.over Lent.boxIn Lent.lentOf Lent.split Lent.callOf Lent.freeSlots Lent.usedRows Engine.fit
+    Rows.rows Rows.flat Rows.zeros Records.addressBytes Records.blockBytes Records.readAddress Records.readBlock addressTable blockTable Records.heldRows
+    Records.blockRows Find.any Find.all Find.same Unsound.elem Unsound.twice Unsound.count Unsound.addressesUnsound Unsound.freeAfterUsed Unsound.eachOnce
+    Unsound.usedTwice Unsound.blocksUnsound Unsound.dirtyUncached Policy.serveBy Policy.answeredBy Policy.readBy Cache.ifCached Cache.answer Cache.counted
+    Arc.listOf Arc.newP Arc.blockNewest Arc.inserted Arc.parted Arc.checked Arc.toT2 Arc.joined Arc.arcStepAs Arc.arcStep
 a-hit-in-bytes = refl

@@ -11,7 +11,8 @@ use Rattle.paper.specs.Cache.{Hashing, AddressRow, BlockRow, Box, Stepped, olde
 use Rattle.paper.specs.KeyedLaws.{by-test, clash, and-left, and-right}
 use Rattle.paper.specs.Sound.{Sound, some-slot}
 use Rattle.arc.specs.Policy.{Ran}
-use Rattle.arc.specs.Arc.{Sizes, numbersOf, Lists, isNil, isIn, onTop, topRows, takesT1, listed, b1b3, b2b3, roomInB, replace, manage, check, isSome, hasRow, again, cleared}
+use Rattle.arc.specs.Arc.{Sizes, baseNumbers, Lists, isNil, isIn, onTop, topRows, takesT1, listed, b1b3, b2b3, roomInB, replace, manage, check}
+use Rattle.arc.specs.Arc.{isSome, hasRow, again, cleared}
 use Rattle.arc.specs.Tally.{length-first, first-one, nil-no, nil-yes, length-none}
 use Rattle.arc.specs.ArcMid.{OutlastsOut, Both, mid-t1b1, mid-t2b2, mid-t1b3, mid-b1b3, mid-b2b3, mid-b1Out, mid-b2Out, mid-b3Out}
 
@@ -41,7 +42,8 @@ from-t2 b2 l e f =
 
 pub from-t1 : (b2 : Bool) (l : Lists) → takesT1 b2 l ≡ true → isNil (l .T1) ≡ false
 unfolding takesT1
-from-t1 b2 l e = not-true (isNil (l .T1)) (and-left (not (isNil (l .T1))) (isNil (l .T2) || (ltb (l .p) (length (l .T1)) || (b2 && eqb (length (l .T1)) (l .p)))) e)
+from-t1 b2 l e = not-true (isNil (l .T1)) (and-left (not (isNil (l .T1))) (isNil (l .T2) ||
+    (ltb (l .p) (length (l .T1)) || (b2 && eqb (length (l .T1)) (l .p)))) e)
 
 module _ {F X : Type 0} (H : Hashing F X) (Z : Sizes) (a : ℕ) (G : Stepped F X → Type 0) (gOut : OutlastsOut H Z a G) (c1 : 1 ≤ Z .C) where
   -- room in B1 and B2
@@ -72,9 +74,17 @@ module _ {F X : Type 0} (H : Hashing F X) (Z : Sizes) (a : ℕ) (G : Stepped F X
         b3 = refl;
         room = (let g = gone (l .B1) (nil-no (l .B1) n) in omega (arith, g, few));
       }))))
-      (λ e. rw (e, roomInB) (record { both = h; t1 = refl; t2 = refl; b3 = refl; room = (let f = leb-false (Z .C) (length (l .B1) + length (l .B2)) e in omega (arith, f)) }))
+      (λ e. rw (e, roomInB)
+      (record {
+        both = h;
+        t1 = refl;
+        t2 = refl;
+        b3 = refl;
+        room = (let f = leb-false (Z .C) (length (l .B1) + length (l .B2)) e in omega (arith, f));
+      }))
 
-  -- One run of the replacement, where T1 and T2 aren't both empty: it takes exactly one address out of them, B3 stays as long as it was, and B1 and B2 keep to C.
+  -- One run of the replacement, where T1 and T2 aren't both empty: it takes exactly one address out of them, B3 stays as long as it was, and B1 and B2
+  -- keep to C.
   pub record Less (l : Lists) (u : Ran F X Lists) : Type 0 where
     pub both : Both H Z a G gOut u
     pub less : tops (u .kept) + 1 ≡ tops l
@@ -91,7 +101,8 @@ module _ {F X : Type 0} (H : Hashing F X) (Z : Sizes) (a : ℕ) (G : Stepped F X
       let rt2 = ap length (r .t2) in
       let rr = r .room in
       by-test (isNil (l .T1) && isNil (l .T2))
-      (λ e. absurd (let x = nil-yes (l .T1) (and-left (isNil (l .T1)) (isNil (l .T2)) e) in let y = nil-yes (l .T2) (and-right (isNil (l .T1)) (isNil (l .T2)) e) in omega (arith, x, y, some1)))
+      (λ e. absurd (let x = nil-yes (l .T1) (and-left (isNil (l .T1)) (isNil (l .T2)) e) in let y = nil-yes (l .T2)
+      (and-right (isNil (l .T1)) (isNil (l .T2)) e) in omega (arith, x, y, some1)))
       (λ e. rw (e, replace) (by-test (takesT1 b2 l)
       (λ f. rw f (let g = nil-no (l .T1) (from-t1 b2 l f) in
       let k = gone (u .kept .T1) (omega (arith, g, rt1)) in
@@ -122,7 +133,8 @@ module _ {F X : Type 0} (H : Hashing F X) (Z : Sizes) (a : ℕ) (G : Stepped F X
   one-more [] = refl
   one-more (x ∷ xs) = refl
 
-  pub managed : (b2 : Bool) (t : Ran F X Lists) → Both H Z a G gOut t → history (t .kept) ≤ Z .C → 1 ≤ tops (t .kept) → t .kept .B3 ≡ [] → Managed (t .kept) (manage H (Z .C) b2 t)
+  pub managed : (b2 : Bool) (t : Ran F X Lists) → Both H Z a G gOut t → history (t .kept) ≤ Z .C → 1 ≤ tops (t .kept) → t .kept .B3 ≡ []
+      → Managed (t .kept) (manage H (Z .C) b2 t)
   unfolding manage
   managed b2 t h few some1 nob3 =
       let l = t .kept in
@@ -172,7 +184,8 @@ module _ {F X : Type 0} (H : Hashing F X) (Z : Sizes) (a : ℕ) (G : Stepped F X
     pub room : tops (u .kept) + length (u .kept .B3) + 1 ≤ Z .C + Z .X
     pub few : history (u .kept) ≤ Z .C
 
-  pub check-done : (b2 : Bool) (t : Ran F X Lists) → Both H Z a G gOut t → history (t .kept) ≤ Z .C → tops (t .kept) + length (t .kept .B3) ≤ Z .C + Z .X → Checked (check H Z b2 t)
+  pub check-done : (b2 : Bool) (t : Ran F X Lists) → Both H Z a G gOut t → history (t .kept) ≤ Z .C → tops (t .kept) + length (t .kept .B3) ≤ Z .C + Z .X
+      → Checked (check H Z b2 t)
   unfolding check
   check-done b2 t h few fit =
       let l = t .kept in
@@ -204,7 +217,7 @@ module _ {F X : Type 0} (H : Hashing F X) (Z : Sizes) (a : ℕ) (G : Stepped F X
   is-nil : (l : List ℕ) → isNil l ≡ true → l ≡ []
   is-nil l e = length-none l (nil-yes l e)
 
-  pub row-at-last : (l : Lists) (s : Box F X) → Sound H (numbersOf Z) s → tops l ≡ 0 → hasRow H l s ≡ true
+  pub row-at-last : (l : Lists) (s : Box F X) → Sound H (baseNumbers Z) s → tops l ≡ 0 → hasRow H l s ≡ true
   unfolding hasRow
   row-at-last l s h z =
       by-test (isNil (s .free))
@@ -220,7 +233,8 @@ module _ {F X : Type 0} (H : Hashing F X) (Z : Sizes) (a : ℕ) (G : Stepped F X
     pub fit : tops (u .kept) + length (u .kept .B3) ≤ tops l + length (l .B3)
     pub few : history (u .kept) ≤ Z .C
 
-  pub replace-sheds : (b2 : Bool) (t : Ran F X Lists) → Both H Z a G gOut t → history (t .kept) ≤ Z .C → 1 ≤ tops (t .kept) → Shed (t .kept) (replace H (Z .C) b2 t)
+  pub replace-sheds : (b2 : Bool) (t : Ran F X Lists) → Both H Z a G gOut t → history (t .kept) ≤ Z .C → 1 ≤ tops (t .kept)
+      → Shed (t .kept) (replace H (Z .C) b2 t)
   replace-sheds b2 t h few some1 =
       let q = replaced b2 t h few some1 in
       let ql = q .less in
@@ -228,7 +242,8 @@ module _ {F X : Type 0} (H : Hashing F X) (Z : Sizes) (a : ℕ) (G : Stepped F X
       record { both = q .both; less = ql; fit = omega (arith, ql, qb); few = q .few }
 
   -- so does MANAGE, whatever B3 has
-  pub manage-sheds : (b2 : Bool) (t : Ran F X Lists) → Both H Z a G gOut t → history (t .kept) ≤ Z .C → 1 ≤ tops (t .kept) → Shed (t .kept) (manage H (Z .C) b2 t)
+  pub manage-sheds : (b2 : Bool) (t : Ran F X Lists) → Both H Z a G gOut t → history (t .kept) ≤ Z .C → 1 ≤ tops (t .kept)
+      → Shed (t .kept) (manage H (Z .C) b2 t)
   unfolding manage
   manage-sheds b2 t h few some1 =
       let l = t .kept in
@@ -252,7 +267,12 @@ module _ {F X : Type 0} (H : Hashing F X) (Z : Sizes) (a : ℕ) (G : Stepped F X
       let g2 = gone (l .B1) some3 in
       let g3 = came (l .T1) (drop 1 (l .B1)) some2 in
       let k = came (l .B1) (l .B3) some3 in
-      record { both = (mid-t1b1 H Z a (listed H b1b3 t) (mid-b1b3 H Z a t (h .0)), h .1); less = omega (arith, g1); fit = omega (arith, g1, k); few = omega (arith, g2, g3, few) }))))))
+      record {
+        both = (mid-t1b1 H Z a (listed H b1b3 t) (mid-b1b3 H Z a t (h .0)), h .1);
+        less = omega (arith, g1);
+        fit = omega (arith, g1, k);
+        few = omega (arith, g2, g3, few);
+      }))))))
       (λ e. rw (e, manage) (let low = leb-false (Z .C) (length (l .T1) + length (l .B1)) e in by-test (leb (Z .C) (length (l .B1) + length (l .B2)))
       (λ f. rw f (let full = leb-true (Z .C) (length (l .B1) + length (l .B2)) f in
       let some2 : 1 ≤ length (l .B2) = omega (arith, full, low) in
@@ -275,7 +295,8 @@ module _ {F X : Type 0} (H : Hashing F X) (Z : Sizes) (a : ℕ) (G : Stepped F X
     pub fit : tops (u .kept) + length (u .kept .B3) ≤ tops l + length (l .B3)
     pub few : history (u .kept) ≤ Z .C
 
-  pub cleared-ends : (n : ℕ) (b2 : Bool) (t : Ran F X Lists) → tops (t .kept) ≤ n → Both H Z a G gOut t → history (t .kept) ≤ Z .C → Ended (t .kept) (cleared H n (Z .C) b2 t)
+  pub cleared-ends : (n : ℕ) (b2 : Bool) (t : Ran F X Lists) → tops (t .kept) ≤ n → Both H Z a G gOut t → history (t .kept) ≤ Z .C
+      → Ended (t .kept) (cleared H n (Z .C) b2 t)
   unfolding cleared
   cleared-ends zero b2 t le h few =
       record { both = h; row = row-at-last (t .kept) (t .stepped .box) (h .0 .sound) (omega (arith, le)); fit = omega arith; few = few }

@@ -36,11 +36,13 @@ module _ {F X : Type 0} (H : Hashing F X) (Z : Sizes) (a : ℕ) (c1 : 1 ≤ Z .C
   cleared-has (suc n) b2 t e = rw (e, cleared) refl
 
   -- the number of runs that are allowed doesn't matter from the size of T1 and T2 on
-  pub cleared-same : (n k : ℕ) (b2 : Bool) (t : Ran F X Lists) → tops (t .kept) ≤ n → tops (t .kept) ≤ k → Mid H Z a t → history (t .kept) ≤ Z .C → cleared H n (Z .C) b2 t ≡ cleared H k (Z .C) b2 t
+  pub cleared-same : (n k : ℕ) (b2 : Bool) (t : Ran F X Lists) → tops (t .kept) ≤ n → tops (t .kept) ≤ k → Mid H Z a t → history (t .kept) ≤ Z .C
+      → cleared H n (Z .C) b2 t ≡ cleared H k (Z .C) b2 t
   unfolding cleared
   cleared-same zero k b2 t le lk m few =
       sym (cleared-has k b2 t (row-at-last H Z a anything kept-so c1 (t .kept) (t .stepped .box) (m .sound) (omega (arith, le))))
-  cleared-same (suc n) zero b2 t le lk m few = cleared-has (suc n) b2 t (row-at-last H Z a anything kept-so c1 (t .kept) (t .stepped .box) (m .sound) (omega (arith, lk)))
+  cleared-same (suc n) zero b2 t le lk m few = cleared-has (suc n) b2 t (row-at-last H Z a anything kept-so c1 (t .kept) (t .stepped .box) (m .sound)
+      (omega (arith, lk)))
   cleared-same (suc n) (suc k) b2 t le lk m few =
       by-test (hasRow H (t .kept) (t .stepped .box))
       (λ e. cleared-has (suc n) b2 t e ∙ sym (cleared-has (suc k) b2 t e))
@@ -70,7 +72,8 @@ module _ {F X : Type 0} (H : Hashing F X) (Z : Sizes) (l : Lists) (s : Box F X) 
   pub named-once : (x : ℕ) → named x l ≡ cond (held x (s .rows)) 1 0
   named-once x =
       by-test (held x (s .rows))
-      (λ e. rw e (let n = h .names x in let most = tally-distinct (λ (r : AddressRow F). r .address) x (s .rows) (h .sound .addresses) in let some1 = tally-has (λ (r : AddressRow F). r .address) x (s .rows) e in omega (arith, n, most, some1)))
+      (λ e. rw e (let n = h .names x in let most = tally-distinct (λ (r : AddressRow F). r .address) x (s .rows)
+      (h .sound .addresses) in let some1 = tally-has (λ (r : AddressRow F). r .address) x (s .rows) e in omega (arith, n, most, some1)))
       (λ e. rw e (sym (h .names x) ∙ tally-none (λ (r : AddressRow F). r .address) x (s .rows) e))
 
   -- "each address of T1 and T2 has its block"

@@ -10,11 +10,14 @@ use lib.ListN.{length, length-append}
 use borrow.Author.Tests.{ltb-false}
 use Rattle.paper.specs.Keyed.{has}
 use Rattle.paper.specs.Cache.{Hashing, AddressRow, Box, Stepped, newest, withoutAddress, cached}
-use Rattle.paper.specs.KeyedLaws.{by-test, either, clash, or-cases, or-left, or-right, eqb→≡, eqb-self, All, all-append, all-map, all-both, all-without, has-without-other, has-without-self, distinct-without, distinct-snoc, has-snoc-cases}
+use Rattle.paper.specs.KeyedLaws.{by-test, either, clash, or-cases, or-left, or-right, eqb→≡, eqb-self, All, all-append, all-map, all-both}
+use Rattle.paper.specs.KeyedLaws.{all-without, has-without-other, has-without-self, distinct-without, distinct-snoc, has-snoc-cases}
 use Rattle.paper.specs.Sound.{Sound, DirtyCached, length-without-le}
 use Rattle.paper.specs.Faithful.{all-absent}
 use Rattle.arc.specs.Policy.{Ran}
-use Rattle.arc.specs.Arc.{Sizes, numbersOf, Lists, isIn, out, onTop, Was, inT1, inT2, inB1, inB2, inB3, unheld, listOf, wasB2, left, withP, newP, larger, hasRow, rowOut, storedIn, blockNewest, cleared, inserted, parted, check, checked, toT2, joinT1, joinT2, joined}
+use Rattle.arc.specs.Arc.{Sizes, baseNumbers, Lists, isIn, out, onTop, Was, inT1, inT2, inB1, inB2, inB3, unheld, listOf, wasB2, left, withP}
+use Rattle.arc.specs.Arc.{newP, larger, hasRow, rowOut, storedIn, blockNewest, cleared, inserted, parted, check, checked, toT2, joinT1, joinT2}
+use Rattle.arc.specs.Arc.{joined}
 use Rattle.arc.specs.Tally.{tally, count, tally-append, tally-has, tally-without-self, tally-without-other, length-without}
 use Rattle.arc.specs.ArcMid.{named, total, TopCached, Mid, OutlastsOut, Both}
 use Rattle.arc.specs.ArcRuns.{tops, history, check-done, cleared-ends}
@@ -23,7 +26,7 @@ use Rattle.arc.specs.ArcStore.{mid-stored, mid-newest}
 -- What holds of lists and box in every state reached. "After every list of calls, each address of T1 and T2 has its block, T1, T2 and B3 hold at most
 -- C + X together, B1 and B2 together at most C"; the lists name each held address once and no other; p is at most C.
 pub record ArcSound {F X : Type 0} (H : Hashing F X) (Z : Sizes) (l : Lists) (s : Box F X) : Type 0 where
-  pub sound : Sound H (numbersOf Z) s
+  pub sound : Sound H (baseNumbers Z) s
   pub names : (x : ℕ) → tally (λ r. r .address) x (s .rows) ≡ named x l
   pub counted : length (s .rows) ≡ total l
   pub top : All (TopCached H l (s .used)) (s .rows)
@@ -32,7 +35,8 @@ pub record ArcSound {F X : Type 0} (H : Hashing F X) (Z : Sizes) (l : Lists) (s 
   pub pLow : l .p ≤ Z .C
 
 -- which list held the address
-pub by-listOf : (a : ℕ) (l : Lists) (Q : Was → Type 0) → (isIn a (l .T1) ≡ true → Q inT1) → (isIn a (l .T2) ≡ true → Q inT2) → (isIn a (l .B1) ≡ true → Q inB1) → (isIn a (l .B2) ≡ true → Q inB2)
+pub by-listOf : (a : ℕ) (l : Lists) (Q : Was → Type 0) → (isIn a (l .T1) ≡ true → Q inT1) → (isIn a (l .T2) ≡ true → Q inT2)
+    → (isIn a (l .B1) ≡ true → Q inB1) → (isIn a (l .B2) ≡ true → Q inB2)
     → (isIn a (l .B3) ≡ true → Q inB3) → Q unheld → Q (listOf a l)
 unfolding listOf
 by-listOf a l Q q1 q2 q3 q4 q5 q6 =
@@ -128,9 +132,11 @@ module _ {F X : Type 0} (H : Hashing F X) (Z : Sizes) where
         };
         absent = has-without-self eqb (λ r. r .address) a (s .rows);
         names = λ x. by-test (eqb a x)
-            (λ e. subst (λ z. tally (λ r. r .address) z (withoutAddress a (s .rows)) ≡ named z (left a l)) (eqb→≡ a x e) (tally-without-self (λ (r : AddressRow F). r .address) a (s .rows) ∙ sym (left-none a l)))
+            (λ e. subst (λ z. tally (λ r. r .address) z (withoutAddress a (s .rows)) ≡ named z (left a l)) (eqb→≡ a x e)
+            (tally-without-self (λ (r : AddressRow F). r .address) a (s .rows) ∙ sym (left-none a l)))
             (λ e. tally-without-other (λ (r : AddressRow F). r .address) a x (s .rows) e ∙ h .names x ∙ sym (left-names a x l e));
-        counted = (let e = length-without (λ (r : AddressRow F). r .address) a (s .rows) in let f = left-total a l in let n = h .names a in let c = h .counted in omega (arith, e, f, n, c));
+        counted = (let e = length-without (λ (r : AddressRow F). r .address) a
+            (s .rows) in let f = left-total a l in let n = h .names a in let c = h .counted in omega (arith, e, f, n, c));
         top = all-without eqb (λ r. r .address) (TopCached H (left a l) (s .used)) a (s .rows)
             (all-map (TopCached H l (s .used)) (TopCached H (left a l) (s .used)) (λ r y e. y (left-top a l (r .address) e)) (s .rows) (h .top));
         pLow = p-low (Z .C) w l (h .pLow);
@@ -140,17 +146,20 @@ module _ {F X : Type 0} (H : Hashing F X) (Z : Sizes) where
   in-joined : (x a : ℕ) (l : List ℕ) → isIn x (l ++ (a ∷ [])) ≡ true → (isIn x l ≡ true) ⊎ (x ≡ a)
   in-joined x a l h = has-snoc-cases eqb (λ x. x) eqb→≡ eqb-self x l a h
 
-  pub mid-joined : (t : Ran F X Lists) (a : ℕ) (g : F) (dy : Bool) (w : Was) → Mid H Z a t → cached H g (t .stepped .box .used) ≡ true → tops (t .kept) + length (t .kept .B3) + 1 ≤ Z .C + Z .X → history (t .kept) ≤ Z .C → a < Z .P
+  pub mid-joined : (t : Ran F X Lists) (a : ℕ) (g : F) (dy : Bool) (w : Was) → Mid H Z a t → cached H g (t .stepped .box .used) ≡ true
+      → tops (t .kept) + length (t .kept .B3) + 1 ≤ Z .C + Z .X → history (t .kept) ≤ Z .C → a < Z .P
       → ArcSound H Z ((joined H a g dy w t) .kept) ((joined H a g dy w t) .stepped .box)
   unfolding joined
   mid-joined t a g dy w m c room few ap =
       by-test (toT2 H w)
-      (λ e. rw e (go (joinT2 H a (t .kept)) (λ x. let f = tally-append (λ x. x) x (t .kept .T2) (a ∷ []) in omega (arith, f)) (let f = length-append (t .kept .T2) (a ∷ []) in omega (arith, f))
+      (λ e. rw e (go (joinT2 H a (t .kept)) (λ x. let f = tally-append (λ x. x) x (t .kept .T2) (a ∷ []) in omega (arith, f))
+      (let f = length-append (t .kept .T2) (a ∷ []) in omega (arith, f))
       (λ x h. either (or-cases (isIn x (t .kept .T1)) (isIn x (t .kept .T2 ++ (a ∷ []))) h)
       (λ y. inl (or-left (isIn x (t .kept .T1)) (isIn x (t .kept .T2)) y))
       (λ y. either (in-joined x a (t .kept .T2) y) (λ z. inl (or-right (isIn x (t .kept .T1)) (isIn x (t .kept .T2)) z)) (λ z. inr z)))
       (let f = length-append (t .kept .T2) (a ∷ []) in omega (arith, f)) few (m .pLow)))
-      (λ e. rw e (go (joinT1 H a (t .kept)) (λ x. let f = tally-append (λ x. x) x (t .kept .T1) (a ∷ []) in omega (arith, f)) (let f = length-append (t .kept .T1) (a ∷ []) in omega (arith, f))
+      (λ e. rw e (go (joinT1 H a (t .kept)) (λ x. let f = tally-append (λ x. x) x (t .kept .T1) (a ∷ []) in omega (arith, f))
+      (let f = length-append (t .kept .T1) (a ∷ []) in omega (arith, f))
       (λ x h. either (or-cases (isIn x (t .kept .T1 ++ (a ∷ []))) (isIn x (t .kept .T2)) h)
       (λ y. either (in-joined x a (t .kept .T1) y) (λ z. inl (or-left (isIn x (t .kept .T1)) (isIn x (t .kept .T2)) z)) (λ z. inr z))
       (λ y. inl (or-right (isIn x (t .kept .T1)) (isIn x (t .kept .T2)) y)))
@@ -160,9 +169,17 @@ module _ {F X : Type 0} (H : Hashing F X) (Z : Sizes) where
       new = newest a g dy
 
       box : Box F X
-      box = record { rows = t .stepped .box .rows ++ (new ∷ []); free = t .stepped .box .free; used = t .stepped .box .used; flash = t .stepped .box .flash; disk = t .stepped .box .disk }
+      box =
+          record {
+            rows = t .stepped .box .rows ++ (new ∷ []);
+            free = t .stepped .box .free;
+            used = t .stepped .box .used;
+            flash = t .stepped .box .flash;
+            disk = t .stepped .box .disk;
+          }
 
-      go : (l : Lists) → ((x : ℕ) → named x l ≡ named x (t .kept) + count x (a ∷ [])) → total l ≡ total (t .kept) + 1 → ((x : ℕ) → onTop l x ≡ true → (onTop (t .kept) x ≡ true) ⊎ (x ≡ a))
+      go : (l : Lists) → ((x : ℕ) → named x l ≡ named x (t .kept) + count x (a ∷ [])) → total l ≡ total (t .kept) + 1
+          → ((x : ℕ) → onTop l x ≡ true → (onTop (t .kept) x ≡ true) ⊎ (x ≡ a))
           → tops l + length (l .B3) ≡ tops (t .kept) + length (t .kept .B3) + 1 → history l ≤ Z .C → l .p ≤ Z .C → ArcSound H Z l box
       go l n tt1 o f fw p =
           let so = m .sound in
@@ -181,7 +198,8 @@ module _ {F X : Type 0} (H : Hashing F X) (Z : Sizes) where
               flashLength = so .flashLength;
               diskLength = so .diskLength;
             };
-            names = λ x. let e = tally-append (λ (r : AddressRow F). r .address) x rows (new ∷ []) in let mn = m .names x in let nn = n x in omega (arith, e, mn, nn);
+            names = λ x. let e = tally-append (λ (r : AddressRow F). r .address) x rows (new ∷ []) in let mn = m .names x in let nn
+                = n x in omega (arith, e, mn, nn);
             counted = omega (arith, la, mc, tt1);
             top = all-append (TopCached H l used) rows (new ∷ [])
                 (all-map (λ r. TopCached H (t .kept) used r × (eqb a (r .address) ≡ false)) (TopCached H l used)
@@ -196,12 +214,15 @@ module _ {F X : Type 0} (H : Hashing F X) (Z : Sizes) where
 -- What outlasts, too, the parts of an insertion
 abbrev pub OutlastsStore : {F X : Type 0} (H : Hashing F X) (Z : Sizes) (a : ℕ) (g : F) (b : X) (G : Stepped F X → Type 0) → Type 0
 OutlastsStore {F} {X} H Z a g b G =
-    (t : Ran F X Lists) → Mid H Z a t → cached H g (t .stepped .box .used) ≡ false → hasRow H (t .kept) (t .stepped .box) ≡ true → G (t .stepped) → G ((storedIn H g b t) .stepped)
+    (t : Ran F X Lists) → Mid H Z a t → cached H g (t .stepped .box .used) ≡ false → hasRow H (t .kept) (t .stepped .box) ≡ true → G (t .stepped)
+    → G ((storedIn H g b t) .stepped)
 
 abbrev pub OutlastsNewest : {F X : Type 0} (H : Hashing F X) (Z : Sizes) (a : ℕ) (g : F) (G : Stepped F X → Type 0) → Type 0
-OutlastsNewest {F} {X} H Z a g G = (t : Ran F X Lists) → Mid H Z a t → cached H g (t .stepped .box .used) ≡ true → G (t .stepped) → G ((blockNewest H g t) .stepped)
+OutlastsNewest {F} {X} H Z a g G = (t : Ran F X Lists) → Mid H Z a t → cached H g (t .stepped .box .used) ≡ true → G (t .stepped)
+    → G ((blockNewest H g t) .stepped)
 
-module _ {F X : Type 0} (H : Hashing F X) (Z : Sizes) (a : ℕ) (g : F) (b : X) (G : Stepped F X → Type 0) (gOut : OutlastsOut H Z a G) (gStore : OutlastsStore H Z a g b G) (gNew : OutlastsNewest H Z a g G) (c1 : 1 ≤ Z .C) where
+module _ {F X : Type 0} (H : Hashing F X) (Z : Sizes) (a : ℕ) (g : F) (b : X) (G : Stepped F X → Type 0) (gOut : OutlastsOut H Z a G)
+    (gStore : OutlastsStore H Z a g b G) (gNew : OutlastsNewest H Z a g G) (c1 : 1 ≤ Z .C) where
   -- the box also has g cached
   abbrev pub With : Stepped F X → Type 0
   With s = G s × (cached H g (s .box .used) ≡ true)
@@ -269,7 +290,8 @@ module _ {F X : Type 0} (H : Hashing F X) (Z : Sizes) (a : ℕ) (g : F) (b : X) 
   parts : (l : Lists) (s : Box F X) (w : Was) → ArcSound H Z l s → G ((parted H (Z .C) l s a w) .stepped)
       → Inserted (withP (newP (Z .C) w l) (left a l)) (inserted H (Z .C) (wasB2 w) g b (parted H (Z .C) l s a w))
   unfolding parted
-  parts l s w h gg = inserted-done (wasB2 w) (parted H (Z .C) l s a w) (mid-parted H Z l s a w h, gg) (let fw = h .few in let lw = left-few a l in omega (arith, fw, lw))
+  parts l s w h gg = inserted-done (wasB2 w) (parted H (Z .C) l s a w) (mid-parted H Z l s a w h, gg)
+      (let fw = h .few in let lw = left-few a l in omega (arith, fw, lw))
 
   pub ready : (l : Lists) (s : Box F X) → ArcSound H Z l s → ((w : Was) → G ((parted H (Z .C) l s a w) .stepped)) → Ready (upTo l s (listOf a l))
   unfolding checked
@@ -278,11 +300,18 @@ module _ {F X : Type 0} (H : Hashing F X) (Z : Sizes) (a : ℕ) (g : F) (b : X) 
       let fw = h .few in
       let lf = left-fit a l in
       let lw = left-few a l in
-      let go : (w : Was) → Inserted (withP (newP (Z .C) w l) (left a l)) (inserted H (Z .C) (wasB2 w) g b (parted H (Z .C) l s a w)) = λ w. parts l s w h (gp w) in
+      let go : (w : Was) → Inserted (withP (newP (Z .C) w l) (left a l)) (inserted H (Z .C) (wasB2 w) g b (parted H (Z .C) l s a w))
+      = λ w. parts l s w h (gp w) in
       by-listOf a l (λ w. Ready (upTo l s w))
-      (λ e. let o = out-one a (l .T1) e in ready-now (withP (newP (Z .C) inT1 l) (left a l)) (inserted H (Z .C) false g b (parted H (Z .C) l s a inT1)) (go inT1) (omega (arith, o, ft, lf)))
-      (λ e. let o = out-one a (l .T2) e in ready-now (withP (newP (Z .C) inT2 l) (left a l)) (inserted H (Z .C) false g b (parted H (Z .C) l s a inT2)) (go inT2) (omega (arith, o, ft, lf)))
-      (λ e. ready-check false (withP (newP (Z .C) inB1 l) (left a l)) (inserted H (Z .C) false g b (parted H (Z .C) l s a inB1)) (go inB1) (omega (arith, ft, lf)))
-      (λ e. ready-check true (withP (newP (Z .C) inB2 l) (left a l)) (inserted H (Z .C) true g b (parted H (Z .C) l s a inB2)) (go inB2) (omega (arith, ft, lf)))
-      (λ e. let o = out-one a (l .B3) e in ready-now (withP (newP (Z .C) inB3 l) (left a l)) (inserted H (Z .C) false g b (parted H (Z .C) l s a inB3)) (go inB3) (omega (arith, o, ft, lf)))
-      (ready-check false (withP (newP (Z .C) unheld l) (left a l)) (inserted H (Z .C) false g b (parted H (Z .C) l s a unheld)) (go unheld) (omega (arith, ft, lf)))
+      (λ e. let o = out-one a (l .T1) e in ready-now (withP (newP (Z .C) inT1 l) (left a l)) (inserted H (Z .C) false g b (parted H (Z .C) l s a inT1))
+      (go inT1) (omega (arith, o, ft, lf)))
+      (λ e. let o = out-one a (l .T2) e in ready-now (withP (newP (Z .C) inT2 l) (left a l)) (inserted H (Z .C) false g b (parted H (Z .C) l s a inT2))
+      (go inT2) (omega (arith, o, ft, lf)))
+      (λ e. ready-check false (withP (newP (Z .C) inB1 l) (left a l)) (inserted H (Z .C) false g b (parted H (Z .C) l s a inB1)) (go inB1)
+      (omega (arith, ft, lf)))
+      (λ e. ready-check true (withP (newP (Z .C) inB2 l) (left a l)) (inserted H (Z .C) true g b (parted H (Z .C) l s a inB2)) (go inB2)
+      (omega (arith, ft, lf)))
+      (λ e. let o = out-one a (l .B3) e in ready-now (withP (newP (Z .C) inB3 l) (left a l)) (inserted H (Z .C) false g b (parted H (Z .C) l s a inB3))
+      (go inB3) (omega (arith, o, ft, lf)))
+      (ready-check false (withP (newP (Z .C) unheld l) (left a l)) (inserted H (Z .C) false g b (parted H (Z .C) l s a unheld)) (go unheld)
+      (omega (arith, ft, lf)))

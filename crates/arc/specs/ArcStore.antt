@@ -9,7 +9,8 @@ use lib.ListN.{length-set}
 use borrow.Author.Tests.{not-true}
 use Rattle.tables.specs.Records.{slotsFrom}
 use Rattle.paper.specs.Cache.{Hashing, AddressRow, BlockRow, Taken, blockRow, known, cached, withoutBlock, slotOf, cleaned, isLost, takenUsed, stored}
-use Rattle.paper.specs.KeyedLaws.{by-test, by-option, clash, or-left, or-right, and-left, and-right, All, all-map, all-both, has-without-other, has-without-self, distinct-without, distinct-snoc}
+use Rattle.paper.specs.KeyedLaws.{by-test, by-option, clash, or-left, or-right, and-left, and-right, All, all-map, all-both, has-without-other}
+use Rattle.paper.specs.KeyedLaws.{has-without-self, distinct-without, distinct-snoc}
 use Rattle.paper.specs.Cases.{takenFree, takenRow}
 use Rattle.paper.specs.Orphans.{apart, cached-in, cached-add, cached-self, oldestUnknown-some}
 use Rattle.paper.specs.Sound.{DirtyCached, perm-take, unknown-slot, slots-newest, all-cleaned, held-cleaned, distinct-cleaned, length-cleaned, length-copied}
@@ -52,7 +53,8 @@ module _ {F X : Type 0} (H : Hashing F X) where
       by-test (onTop l (r .address))
       (λ e. rw e (
         (λ y. or-left (H .same (r .fingerprint) (r .fingerprint)) (known H (r .fingerprint) (topRows l rs)) (H .same-refl (r .fingerprint))),
-        all-map (λ x. onTop l (x .address) ≡ true → known H (x .fingerprint) (topRows l rs) ≡ true) (λ x. onTop l (x .address) ≡ true → known H (x .fingerprint) (r ∷ topRows l rs) ≡ true)
+        all-map (λ x. onTop l (x .address) ≡ true → known H (x .fingerprint) (topRows l rs) ≡ true)
+            (λ x. onTop l (x .address) ≡ true → known H (x .fingerprint) (r ∷ topRows l rs) ≡ true)
             (λ x y z. or-right (H .same (x .fingerprint) (r .fingerprint)) (known H (x .fingerprint) (topRows l rs)) (y z)) rs (top-known l rs),
       ))
       (λ e. rw e ((λ y. absurd (false≢true y)), top-known l rs))
@@ -63,7 +65,8 @@ module _ {F X : Type 0} (H : Hashing F X) (Z : Sizes) (a : ℕ) (g : F) (b : X) 
     pub has : cached H g (u .stepped .box .used) ≡ true
     pub same : u .kept ≡ t .kept
 
-  pub mid-stored : (t : Ran F X Lists) → Mid H Z a t → cached H g (t .stepped .box .used) ≡ false → hasRow H (t .kept) (t .stepped .box) ≡ true → Stored t (storedIn H g b t)
+  pub mid-stored : (t : Ran F X Lists) → Mid H Z a t → cached H g (t .stepped .box .used) ≡ false → hasRow H (t .kept) (t .stepped .box) ≡ true
+      → Stored t (storedIn H g b t)
   unfolding stored
   mid-stored t m c row =
       let s = t .stepped .box in
@@ -104,10 +107,13 @@ module _ {F X : Type 0} (H : Hashing F X) (Z : Sizes) (a : ℕ) (g : F) (b : X) 
             addresses = distinct-cleaned H (isLost H (some v)) rows (h .addresses);
             below = all-cleaned H (isLost H (some v)) (λ r. r .address < Z .P) (λ r. r .address < Z .P) (λ r y. y) rows (h .below);
             few = rw (length-cleaned H (isLost H (some v)) rows) (h .few);
-            fingerprints = distinct-snoc (H .same) (λ u. u .fingerprint) (H .same→≡) (H .same-refl) (blockRow g (u .slot)) (withoutBlock H v used) (distinct-without (H .same) (λ u. u .fingerprint) v used (h .fingerprints))
-                (by-test (cached H g (withoutBlock H v used)) (λ t. clash (has-without-other (H .same) (λ u. u .fingerprint) (H .same) (λ u. u .fingerprint) g v used t) c) (λ f. f));
+            fingerprints = distinct-snoc (H .same) (λ u. u .fingerprint) (H .same→≡) (H .same-refl) (blockRow g (u .slot)) (withoutBlock H v used)
+                (distinct-without (H .same) (λ u. u .fingerprint) v used (h .fingerprints))
+                (by-test (cached H g (withoutBlock H v used)) (λ t. clash (has-without-other (H .same) (λ u. u .fingerprint) (H .same)
+                (λ u. u .fingerprint) g v used t) c) (λ f. f));
             slots = List·Permᴰ·trans (slots-newest H [] (withoutBlock H v used) g (u .slot))
-                (List·Permᴰ·trans (rw (cs .0) at (Permᴰ·symm (perm-take H v used (h .fingerprints) (cs .1)))) (subst (λ l. List·Permᴰ (l ++ map (λ u. u .slot) used) (slotsFrom 0 (Z .C))) p (h .slots)));
+                (List·Permᴰ·trans (rw (cs .0) at (Permᴰ·symm (perm-take H v used (h .fingerprints) (cs .1))))
+                (subst (λ l. List·Permᴰ (l ++ map (λ u. u .slot) used) (slotsFrom 0 (Z .C))) p (h .slots)));
             dirtyCached = all-cleaned H (isLost H (some v)) (DirtyCached H used) (DirtyCached H (withoutBlock H v used ++ (blockRow g (u .slot) ∷ [])))
                 (λ r y e. cached-in H v (r .fingerprint) g (u .slot) used (y (and-left (r .dirty) (not (H .same v (r .fingerprint))) e))
                 (not-true (H .same v (r .fingerprint)) (and-right (r .dirty) (not (H .same v (r .fingerprint))) e))) rows (h .dirtyCached);
@@ -117,10 +123,12 @@ module _ {F X : Type 0} (H : Hashing F X) (Z : Sizes) (a : ℕ) (g : F) (b : X) 
           absent = held-cleaned H (isLost H (some v)) a rows ∙ m .absent;
           names = λ x. tally-cleaned H (isLost H (some v)) x rows ∙ m .names x;
           counted = length-cleaned H (isLost H (some v)) rows ∙ m .counted;
-          top = all-cleaned H (isLost H (some v)) (λ r. TopCached H (t .kept) used r × (onTop (t .kept) (r .address) ≡ true → known H (r .fingerprint) (topRows (t .kept) rows) ≡ true))
+          top = all-cleaned H (isLost H (some v)) (λ r. TopCached H (t .kept) used r ×
+              (onTop (t .kept) (r .address) ≡ true → known H (r .fingerprint) (topRows (t .kept) rows) ≡ true))
               (TopCached H (t .kept) (withoutBlock H v used ++ (blockRow g (u .slot) ∷ [])))
               (λ r y e. cached-in H v (r .fingerprint) g (u .slot) used (y .0 e) (apart H v (r .fingerprint) (topRows (t .kept) rows) (y .1 e) un)) rows
-              (all-both (TopCached H (t .kept) used) (λ r. onTop (t .kept) (r .address) ≡ true → known H (r .fingerprint) (topRows (t .kept) rows) ≡ true) rows (m .top) (top-known H (t .kept) rows));
+              (all-both (TopCached H (t .kept) used) (λ r. onTop (t .kept) (r .address) ≡ true
+              → known H (r .fingerprint) (topRows (t .kept) rows) ≡ true) rows (m .top) (top-known H (t .kept) rows));
           pLow = m .pLow;
         };
         has = cached-self H g g (u .slot) (withoutBlock H v used) refl;
@@ -149,15 +157,18 @@ module _ {F X : Type 0} (H : Hashing F X) (Z : Sizes) (a : ℕ) (g : F) (b : X) 
             fingerprints = distinct-snoc (H .same) (λ u. u .fingerprint) (H .same→≡) (H .same-refl) (blockRow g (slotOf H g used)) (withoutBlock H g used)
                 (distinct-without (H .same) (λ u. u .fingerprint) g used (h .fingerprints)) (has-without-self (H .same) (λ u. u .fingerprint) g used);
             slots = List·Permᴰ·trans (slots-newest H (s .free) (withoutBlock H g used) g (slotOf H g used))
-                (List·Permᴰ·trans (Permᴰ·symm (List·Permᴰ·trans (Permᴰ·append-left (s .free) (perm-take H g used (h .fingerprints) c)) (Permᴰ·middle (slotOf H g used) (s .free) (map (λ u. u .slot) (withoutBlock H g used))))) (h .slots));
-            dirtyCached = all-map (DirtyCached H used) (DirtyCached H (withoutBlock H g used ++ (blockRow g (slotOf H g used) ∷ []))) (λ r y e. cached-newest (r .fingerprint) used (y e)) (s .rows) (h .dirtyCached);
+                (List·Permᴰ·trans (Permᴰ·symm (List·Permᴰ·trans (Permᴰ·append-left (s .free) (perm-take H g used (h .fingerprints) c))
+                (Permᴰ·middle (slotOf H g used) (s .free) (map (λ u. u .slot) (withoutBlock H g used))))) (h .slots));
+            dirtyCached = all-map (DirtyCached H used) (DirtyCached H (withoutBlock H g used ++ (blockRow g (slotOf H g used) ∷ [])))
+                (λ r y e. cached-newest (r .fingerprint) used (y e)) (s .rows) (h .dirtyCached);
             flashLength = h .flashLength;
             diskLength = h .diskLength;
           };
           absent = m .absent;
           names = m .names;
           counted = m .counted;
-          top = all-map (TopCached H (t .kept) used) (TopCached H (t .kept) (withoutBlock H g used ++ (blockRow g (slotOf H g used) ∷ []))) (λ r y e. cached-newest (r .fingerprint) used (y e)) (s .rows) (m .top);
+          top = all-map (TopCached H (t .kept) used) (TopCached H (t .kept) (withoutBlock H g used ++ (blockRow g (slotOf H g used) ∷ [])))
+              (λ r y e. cached-newest (r .fingerprint) used (y e)) (s .rows) (m .top);
           pLow = m .pLow;
         };
         has = cached-self H g g (slotOf H g used) (withoutBlock H g used) refl;

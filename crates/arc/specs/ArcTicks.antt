@@ -8,9 +8,11 @@ use lib.Dec.{eqb}
 use lib.ListN.{length}
 use borrow.Author.Tests.{eqb-true, eq-eqb, not-false}
 use Rattle.tables.specs.Find.{any}
-use Rattle.paper.specs.KeyedLaws.{by-test, either, clash, or-cases, or-both, or-false-left, or-false-right, and-left, and-right, eqb→≡, eqb-self, eqb-swap, All, all-map, Distinct, distinct-without}
+use Rattle.paper.specs.KeyedLaws.{by-test, either, clash, or-cases, or-both, or-false-left, or-false-right, and-left, and-right, eqb→≡, eqb-self}
+use Rattle.paper.specs.KeyedLaws.{eqb-swap, All, all-map, Distinct, distinct-without}
 use Rattle.arc.specs.Arc.{isIn, out}
-use Rattle.arc.specs.Tally.{count, tally-has, tally-none, tally-some, tally-distinct, tally-without-self, tally-without-other, length-without, length-none}
+use Rattle.arc.specs.Tally.{count, tally-has, tally-none, tally-some, tally-distinct, tally-without-self, tally-without-other, length-without}
+use Rattle.arc.specs.Tally.{length-none}
 use Rattle.arc.specs.ArcLent.{misnamed}
 use Rattle.arc.specs.ArcLentLaws.{any-none, none-any, all-in, same-length}
 
@@ -56,7 +58,8 @@ same-named held names d h =
     or-both (any (λ a. not (eqb (count a names) 1)) held) (any (λ x. not (isIn x held)) names)
     (any-none (λ a. not (eqb (count a names) 1)) held
     (all-map (λ x. isIn x held ≡ true) (λ a. not (eqb (count a names) 1) ≡ false)
-    (λ x e. ap not (eq-eqb (count x names) 1 (let k = tally-has (λ z. z) x held e in let m = tally-distinct (λ z. z) x held d in let hx = h x in omega (arith, k, m, hx)))) held (all-in held)))
+    (λ x e. ap not (eq-eqb (count x names) 1 (let k = tally-has (λ z. z) x held e in let m = tally-distinct (λ z. z) x held d in let hx = h x in omega
+    (arith, k, m, hx)))) held (all-in held)))
     (any-none (λ x. not (isIn x held)) names
     (all-map (λ x. isIn x names ≡ true) (λ x. not (isIn x held) ≡ false)
     (λ x e. ap not (tally-some (λ z. z) x held (let k = tally-has (λ z. z) x names e in let hx = h x in omega (arith, k, hx)))) names (all-in names)))
@@ -74,7 +77,8 @@ same-ticked held (x ∷ xs) d h =
     (λ q. subst (λ z. count z (out x held) ≡ count z xs) (eqb→≡ x y q) (tally-without-self (λ z. z) x held ∙ (omega (arith, hx, most))))
     (λ q. tally-without-other (λ z. z) x y held q ∙ h y ∙ ap (λ b. cond b (suc (count y xs)) (count y xs)) (eqb-swap x y q))))
 
-ticked-rest : (held names : List ℕ) → Once held → ticked held names ≡ true → (length names + length (unticked held names) ≡ length held) × ((x : ℕ) → count x names + count x (unticked held names) ≡ count x held)
+ticked-rest : (held names : List ℕ) → Once held → ticked held names ≡ true
+    → (length names + length (unticked held names) ≡ length held) × ((x : ℕ) → count x names + count x (unticked held names) ≡ count x held)
 unfolding ticked unticked
 ticked-rest held [] d h = (omega arith, λ x. omega arith)
 ticked-rest held (x ∷ xs) d h =
@@ -87,8 +91,10 @@ ticked-rest held (x ∷ xs) d h =
       omega (arith, l, k, most, r0),
       λ y. by-test (eqb x y)
           (λ q. subst (λ z. count z (x ∷ xs) + count z (unticked (out x held) xs) ≡ count z held) (eqb→≡ x y q)
-          (let e = ap (λ b. cond b (suc (count x xs)) (count x xs)) (eqb-self x) in let rx = r .1 x in let s = tally-without-self (λ z. z) x held in omega (arith, e, rx, s, k, most)))
-          (λ q. let e = ap (λ b. cond b (suc (count y xs)) (count y xs)) (eqb-swap x y q) in let ry = r .1 y in let s = tally-without-other (λ z. z) x y held q in omega (arith, e, ry, s)),
+          (let e = ap (λ b. cond b (suc (count x xs)) (count x xs)) (eqb-self x) in let rx = r .1 x in let s = tally-without-self (λ z. z) x held in omega
+          (arith, e, rx, s, k, most)))
+          (λ q. let e = ap (λ b. cond b (suc (count y xs)) (count y xs)) (eqb-swap x y q) in let ry = r .1 y in let s = tally-without-other
+          (λ z. z) x y held q in omega (arith, e, ry, s)),
     )
 
 -- as many names as held addresses, and each ticks one off: that is the test
@@ -104,5 +110,6 @@ ticks-tell held names d =
     (λ y. y))))
     (λ e. let s = named-same held names d e in
     let l = same-length (λ z. z) (length held) held names (omega arith) s in
-    let y : (eqb (length names) (length held) && ticked held names) ≡ true = rw (eq-eqb (length names) (length held) (sym l), same-ticked held names d s) refl in
+    let y : (eqb (length names) (length held) && ticked held names) ≡ true
+    = rw (eq-eqb (length names) (length held) (sym l), same-ticked held names d s) refl in
     e ∙ sym (ap not y))

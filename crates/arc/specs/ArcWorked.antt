@@ -57,7 +57,7 @@ plays Z l s [] = record { said = []; returned = []; lists = l; box = s }
 plays Z l s (c ∷ cs) = let o = serveBy labels (arc labels Z) l s c in after c (o .outcome) (plays Z (o .kept) (o .outcome .box) cs)
 
 abbrev pub play : Example → State
-play e = plays (record { B = 1; P = length (e .over .disk); C = e .C; X = e .X }) (e .from) (e .over) (map (λ x. x .call) (e .seen .said))
+play e = plays (record { B = 1; P = length (e .over .disk); C = e .C; X = e .X; label = [] }) (e .from) (e .over) (map (λ x. x .call) (e .seen .said))
 
 abbrev new : ℕ → List ℕ → Box ℕ ℕ
 new C disk = fresh C (replicate C 99) disk
@@ -749,7 +749,9 @@ table =
     ∷ []
 
 pub worked-states : map play table ≡ map (λ e. e .seen) table
-unfolding serveBy answeredBy readBy throughBy backBy freed oldestUnknown takenUsed stored ifCached answer dropped writeInvalidate lookAs flushed listOf newP takesT1 topRows rowOut evicted roomInB replace manage check hasRow cleared takenBy storedIn blockNewest inserted parted checked toT2 joined arcStepAs arcStep
+unfolding serveBy answeredBy readBy throughBy backBy freed oldestUnknown takenUsed stored ifCached answer dropped writeInvalidate lookAs flushed listOf newP
+    takesT1 topRows rowOut evicted roomInB replace manage check hasRow cleared takenBy storedIn blockNewest inserted parted checked toT2 joined arcStepAs
+    arcStep
 worked-states = refl
 
 -- Folder reads: the blocks of the buffer, what the call counts of its own, and the lists and the box after it
@@ -787,7 +789,7 @@ folderSeen t =
 
 abbrev pub playFolder : FolderExample → FolderSeen
 playFolder e =
-    let Z : Sizes = record { B = 1; P = length (e .over .disk); C = e .C; X = e .X } in
+    let Z : Sizes = record { B = 1; P = length (e .over .disk); C = e .C; X = e .X; label = [] } in
     folderSeen (folder labels (arc labels Z) (record { kept = e .from; batched = start (e .over) noCounts }) (e .asked))
 
 abbrev pub folders : List FolderExample
@@ -849,5 +851,6 @@ folders =
     ∷ []
 
 pub worked-folders : map playFolder folders ≡ map (λ e. e .seen) folders
-unfolding folder folderRead answeredBy readBy freed oldestUnknown takenUsed stored ifCached answer listOf newP takesT1 topRows rowOut evicted roomInB replace manage check hasRow cleared takenBy storedIn blockNewest inserted parted checked toT2 joined arcStepAs arcStep
+unfolding folder folderRead answeredBy readBy freed oldestUnknown takenUsed stored ifCached answer listOf newP takesT1 topRows rowOut evicted roomInB replace
+    manage check hasRow cleared takenBy storedIn blockNewest inserted parted checked toT2 joined arcStepAs arcStep
 worked-folders = refl

@@ -47,7 +47,8 @@ module _ {F X S : Type 0} (H : Hashing F X) (pol : Policy F X S) where
   folder-fills t [] = sym (append-nil (addressesIn (t .batched .filled)))
   folder-fills t (a ∷ l) =
       folder-fills (folderRead H pol t a) l
-      ∙ ap (λ x. x ++ l) (map-last (λ (f : Filled X). f .address) (t .batched .filled) (record { address = a; block = blockIn H ((nextRead H pol t a) .outcome .block) }))
+      ∙ ap (λ x. x ++ l) (map-last (λ (f : Filled X). f .address) (t .batched .filled)
+      (record { address = a; block = blockIn H ((nextRead H pol t a) .outcome .block) }))
       ∙ append-assoc (addressesIn (t .batched .filled)) (a ∷ []) l
 
   -- all but the number of fetches
@@ -65,7 +66,8 @@ module _ {F X S : Type 0} (H : Hashing F X) (N : Numbers) (pol : Policy F X S) (
       folder-inv (folderRead H pol t a) l
       (inv-read H N pol Inv pr (t .kept) (b .box) a (source H (b .box) a (firstRead a (b .filled))) (rowWithBlock H (b .box) a) i (w .0)) (w .1)
 
-module _ {F X S : Type 0} (H : Hashing F X) (N : Numbers) (pol : Policy F X S) (Inv : S → Box F X → Type 0) (pr : Promise H N pol Inv) (m1 : 1 ≤ N .m) (d1 : 1 ≤ N .d)
+module _ {F X S : Type 0} (H : Hashing F X) (N : Numbers) (pol : Policy F X S) (Inv : S → Box F X → Type 0) (pr : Promise H N pol Inv) (m1 : 1 ≤ N .m)
+    (d1 : 1 ≤ N .d)
     (In : X → Type 0) (only : Only H In) where
   abbrev Good : S → Box F X → List X → Type 0
   Good k s plain = GoodBy H N pol Inv pr m1 d1 In only k s plain
@@ -98,7 +100,8 @@ module _ {F X S : Type 0} (H : Hashing F X) (N : Numbers) (pol : Policy F X S) (
   turn-read t plain a g h = go (firstRead a (t .batched .filled)) refl
     where
       go : (o : Option X) → firstRead a (t .batched .filled) ≡ o
-          → readBy H pol (t .kept) (t .batched .box) a (source H (t .batched .box) a o) (rowWithBlock H (t .batched .box) a) ≡ serveBy H pol (t .kept) (t .batched .box) (read a)
+          → readBy H pol (t .kept) (t .batched .box) a (source H (t .batched .box) a o) (rowWithBlock H (t .batched .box) a)
+          ≡ serveBy H pol (t .kept) (t .batched .box) (read a)
       go none e = refl
       go (some b) e = taking-plain (t .kept) (t .batched .box) plain a b g (first-plain plain a (t .batched .filled) b h e)
 
@@ -107,7 +110,8 @@ module _ {F X S : Type 0} (H : Hashing F X) (N : Numbers) (pol : Policy F X S) (
     good : Good ((folderRead H pol t a) .kept) ((folderRead H pol t a) .batched .box) plain
     true-blocks : FilledTrue plain ((folderRead H pol t a) .batched .filled)
 
-  one-read : (t : FolderBy F X S) (plain : List X) (a : ℕ) → Good (t .kept) (t .batched .box) plain → FilledTrue plain (t .batched .filled) → a < N .P → OneRead t plain a
+  one-read : (t : FolderBy F X S) (plain : List X) (a : ℕ) → Good (t .kept) (t .batched .box) plain → FilledTrue plain (t .batched .filled) → a < N .P
+      → OneRead t plain a
   unfolding folderRead
   one-read t plain a g h w =
       let e = turn-read t plain a g h in
@@ -133,7 +137,8 @@ module _ {F X S : Type 0} (H : Hashing F X) (N : Numbers) (pol : Policy F X S) (
       (r .same ∙ ap (λ (v : FolderBy F X S). butBy H pol (ownRead H pol v a)) e) (r .good) (r .true-blocks) (w .1)
 
   pub folder-good : (t : FolderBy F X S) (plain : List X) (l : List ℕ) → Good (t .kept) (t .batched .box) plain → FilledTrue plain (t .batched .filled)
-      → All (λ a. a < N .P) l → Good ((folder H pol t l) .kept) ((folder H pol t l) .batched .box) plain × FilledTrue plain ((folder H pol t l) .batched .filled)
+      → All (λ a. a < N .P) l → Good ((folder H pol t l) .kept) ((folder H pol t l) .batched .box) plain × FilledTrue plain
+      ((folder H pol t l) .batched .filled)
   unfolding folder
   folder-good t plain [] g h w = (g, h)
   folder-good t plain (a ∷ l) g h w =
@@ -141,7 +146,8 @@ module _ {F X S : Type 0} (H : Hashing F X) (N : Numbers) (pol : Policy F X S) (
       folder-good (folderRead H pol t a) plain l (r .good) (r .true-blocks) (w .1)
 
   -- the blocks that it returns are those of the plain disk at its addresses
-  pub folder-blocks : (t : FolderBy F X S) (plain : List X) (l : List ℕ) → t .batched .filled ≡ [] → Good (t .kept) (t .batched .box) plain → All (λ a. a < N .P) l
+  pub folder-blocks : (t : FolderBy F X S) (plain : List X) (l : List ℕ) → t .batched .filled ≡ [] → Good (t .kept) (t .batched .box) plain
+      → All (λ a. a < N .P) l
       → blocksIn ((folder H pol t l) .batched .filled) ≡ map (at H plain) l
   folder-blocks t plain l n g w =
       go ((folder H pol t l) .batched .filled) ((folder-good t plain l g (subst (FilledTrue plain) (sym n) tt) w) .1)

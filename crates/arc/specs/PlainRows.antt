@@ -10,7 +10,8 @@ use lib.ListN.{length, set, length-set}
 use lib.Seq.{getD-set-other}
 use borrow.Author.Tests.{not-false}
 use Rattle.paper.specs.Cache.{Numbers, Hashing, AddressRow, BlockRow, Box, blockRow, held, rowOf, blockOf, rowWithBlock, dirtied}
-use Rattle.paper.specs.KeyedLaws.{by-test, either, clash, or-both, or-false-left, or-false-right, eqb→≡, eqb-swap, All, Distinct, all-append, all-map, all-both, find-some, find-none}
+use Rattle.paper.specs.KeyedLaws.{by-test, either, clash, or-both, or-false-left, or-false-right, eqb→≡, eqb-swap, All, Distinct, all-append, all-map}
+use Rattle.paper.specs.KeyedLaws.{all-both, find-some, find-none}
 use Rattle.paper.specs.Sound.{Sound, DirtyCached}
 use Rattle.paper.specs.Faithful.{at, at-set-same, at-set-other, any, dirtyAt, all-at, all-set, RowTrue, BlockTrue, Faithful, FaithfulBut, row-block}
 use Rattle.paper.specs.PlainDisk.{ifCached-some, ifCached-none}
@@ -39,7 +40,8 @@ module _ {F X : Type 0} (H : Hashing F X) where
       or-both (eqb a (r .address) && (r .dirty && true)) (dirtyAt any a rs) (rw (or-false-left (eqb a (r .address)) (held a rs) h) refl)
       (absent-clean a rs (or-false-right (eqb a (r .address)) (held a rs) h))
 
-  pub row-clean : (a : ℕ) (rows : List (AddressRow F)) (r : AddressRow F) → Distinct eqb (λ r. r .address) rows → rowOf a rows ≡ some r → r .dirty ≡ false → dirtyAt any a rows ≡ false
+  pub row-clean : (a : ℕ) (rows : List (AddressRow F)) (r : AddressRow F) → Distinct eqb (λ r. r .address) rows → rowOf a rows ≡ some r → r .dirty ≡ false
+      → dirtyAt any a rows ≡ false
   row-clean a [] r d = λ e c. refl
   row-clean a (x ∷ xs) r d =
       by-test (eqb a (x .address))
@@ -76,7 +78,8 @@ module _ {F X : Type 0} (H : Hashing F X) (In : X → Type 0) where
   pub but-set : (a P : ℕ) (b : X) (plain : List X) (s : Box F X) → Faithful H In P plain s → In b → FaithfulBut H In a P (set plain a b) s
   but-set a P b plain s f bi =
       record {
-        rowsTrue = all-map (RowTrue H In plain) (λ r. eqb a (r .address) ≡ false → RowTrue H In (set plain a b) r) (λ r y e. row-set a b plain r e y) (s .rows) (f .rowsTrue);
+        rowsTrue = all-map (RowTrue H In plain) (λ r. eqb a (r .address) ≡ false → RowTrue H In (set plain a b) r) (λ r y e. row-set a b plain r e y)
+            (s .rows) (f .rowsTrue);
         blocksTrue = f .blocksTrue;
         plainIn = all-set In plain a b (f .plainIn) bi;
         plainLength = length-set plain a b ∙ f .plainLength;
@@ -84,7 +87,8 @@ module _ {F X : Type 0} (H : Hashing F X) (In : X → Type 0) where
       }
 
   -- the blocks after b goes to slot k, of rows with other slots
-  pub stored-true : (d k : ℕ) (used : List (BlockRow F)) (flash : List X) (g : F) (b : X) → All (BlockTrue H In flash) used → All (λ u. u .slot ≢ k) used → k < d → length flash ≡ d
+  pub stored-true : (d k : ℕ) (used : List (BlockRow F)) (flash : List X) (g : F) (b : X) → All (BlockTrue H In flash) used → All (λ u. u .slot ≢ k) used
+      → k < d → length flash ≡ d
       → g ≡ H .hash b → In b → All (BlockTrue H In (set flash k b)) (used ++ (blockRow g k ∷ []))
   stored-true d k used flash g b t n kd fl e i =
       let same-b : at H (set flash k b) k ≡ b = at-set-same H flash k b (subst (λ x. k < x) (sym fl) kd) in
@@ -96,7 +100,8 @@ module _ {F X : Type 0} (H : Hashing F X) (In : X → Type 0) where
 
 module _ {F X : Type 0} (H : Hashing F X) (In : X → Type 0) (only : Only H In) where
   -- what a hit returns is the plain disk's block
-  pub hit-block : (N : Numbers) (plain : List X) (s : Box F X) (a : ℕ) (r : AddressRow F) → Sound H N s → Faithful H In (N .P) plain s → rowWithBlock H s a ≡ some r
+  pub hit-block : (N : Numbers) (plain : List X) (s : Box F X) (a : ℕ) (r : AddressRow F) → Sound H N s → Faithful H In (N .P) plain s
+      → rowWithBlock H s a ≡ some r
       → blockOf H (r .fingerprint) (s .used) (s .flash) ≡ at H plain a
   hit-block N plain s a r h f e =
       let c = ifCached-some H (s .used) (rowOf a (s .rows)) r e in

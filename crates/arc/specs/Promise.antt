@@ -95,10 +95,13 @@ module _ {F X S : Type 0} (H : Hashing F X) (N : Numbers) (pol : Policy F X S) (
   inv-throughout k s plain (c ∷ cs) i w =
       (i, inv-throughout ((serveBy H pol k s c) .kept) ((serveBy H pol k s c) .outcome .box) (plainNext plain c) cs (inv-serve k s c i (w .0)) (w .1))
 
-module _ {F X S : Type 0} (H : Hashing F X) (N : Numbers) (pol : Policy F X S) (Inv : S → Box F X → Type 0) (pr : Promise H N pol Inv) (m1 : 1 ≤ N .m) (d1 : 1 ≤ N .d)
+module _ {F X S : Type 0} (H : Hashing F X) (N : Numbers) (pol : Policy F X S) (Inv : S → Box F X → Type 0) (pr : Promise H N pol Inv) (m1 : 1 ≤ N .m)
+    (d1 : 1 ≤ N .d)
     (In : X → Type 0) (only : Only H In) where
-  faithful-read : (plain : List X) (k : S) (s : Box F X) (a : ℕ) (o : Option (AddressRow F)) → rowWithBlock H s a ≡ o → Inv k s → Faithful H In (N .P) plain s → a < N .P
-      → Faithful H In (N .P) plain ((readBy H pol k s a (at H (s .disk) a) o) .outcome .box) × ((readBy H pol k s a (at H (s .disk) a) o) .outcome .block ≡ some (at H plain a))
+  faithful-read : (plain : List X) (k : S) (s : Box F X) (a : ℕ) (o : Option (AddressRow F)) → rowWithBlock H s a ≡ o → Inv k s
+      → Faithful H In (N .P) plain s → a < N .P
+      → Faithful H In (N .P) plain ((readBy H pol k s a (at H (s .disk) a) o) .outcome .box) ×
+      ((readBy H pol k s a (at H (s .disk) a) o) .outcome .block ≡ some (at H plain a))
   unfolding readBy answeredBy answer
   faithful-read plain k s a (some r) e i f w =
       let h = pr .sound k s i in
@@ -168,7 +171,8 @@ module _ {F X S : Type 0} (H : Hashing F X) (N : Numbers) (pol : Policy F X S) (
   faithful-serves plain k s (look a) i f w j = faithful-serve H In only N plain s (look a) (pr .sound k s i) f m1 d1 w j
   faithful-serves plain k s (flush n) i f w j = faithful-serve H In only N plain s (flush n) (pr .sound k s i) f m1 d1 w j
 
-  flushes-here : (plain : List X) (k : S) (s : Box F X) → Inv k s → Faithful H In (N .P) plain s → (serveBy H pol k s (flush (N .m))) .outcome .box .disk ≡ plain
+  flushes-here : (plain : List X) (k : S) (s : Box F X) → Inv k s → Faithful H In (N .P) plain s
+      → (serveBy H pol k s (flush (N .m))) .outcome .box .disk ≡ plain
   unfolding serveBy serve
   flushes-here plain k s i f = flush-whole H In only N plain s (pr .sound k s i) f
 
@@ -181,7 +185,8 @@ module _ {F X S : Type 0} (H : Hashing F X) (N : Numbers) (pol : Policy F X S) (
 
   -- what follows from it holds in every state that a list of calls reaches, and of each call
   pub throughout-good : (Q : S → Box F X → List X → Type 0) → ((k : S) (s : Box F X) (plain : List X) → GoodBy k s plain → Q k s plain)
-      → (k : S) (s : Box F X) (plain : List X) (cs : List (Call X)) → GoodBy k s plain → All (Within (N .P)) cs → All In (writtenIn cs) → ThroughoutBy H pol Q k s plain cs
+      → (k : S) (s : Box F X) (plain : List X) (cs : List (Call X)) → GoodBy k s plain → All (Within (N .P)) cs → All In (writtenIn cs)
+      → ThroughoutBy H pol Q k s plain cs
   unfolding ThroughoutBy writtenIn
   throughout-good Q q k s plain [] g w i = q k s plain g
   throughout-good Q q k s plain (c ∷ cs) g w i = (
@@ -192,7 +197,8 @@ module _ {F X S : Type 0} (H : Hashing F X) (N : Numbers) (pol : Policy F X S) (
 
   pub each-good : (Q : S → Box F X → List X → Call X → Type 0)
       → ((k : S) (s : Box F X) (plain : List X) (c : Call X) → GoodBy k s plain → Within (N .P) c → All In (writtenBy c) → Q k s plain c)
-      → (k : S) (s : Box F X) (plain : List X) (cs : List (Call X)) → GoodBy k s plain → All (Within (N .P)) cs → All In (writtenIn cs) → EachBy H pol Q k s plain cs
+      → (k : S) (s : Box F X) (plain : List X) (cs : List (Call X)) → GoodBy k s plain → All (Within (N .P)) cs → All In (writtenIn cs)
+      → EachBy H pol Q k s plain cs
   unfolding EachBy writtenIn
   each-good Q q k s plain [] g w i = tt
   each-good Q q k s plain (c ∷ cs) g w i =
@@ -225,7 +231,8 @@ pub record OnCalls {F X S : Type 0} (H : Hashing F X) (N : Numbers) (pol : Polic
   pub clean : NoTwoShare H (disk ++ writtenIn cs)
       → ThroughoutBy H pol (λ k s plain. All (λ r. r .dirty ≡ false) (s .rows) → s .disk ≡ plain) k (fresh (N .d) flash disk) disk cs
 
-module _ {F X S : Type 0} (H : Hashing F X) (N : Numbers) (pol : Policy F X S) (Inv : S → Box F X → Type 0) (pr : Promise H N pol Inv) (m1 : 1 ≤ N .m) (d1 : 1 ≤ N .d) where
+module _ {F X S : Type 0} (H : Hashing F X) (N : Numbers) (pol : Policy F X S) (Inv : S → Box F X → Type 0) (pr : Promise H N pol Inv) (m1 : 1 ≤ N .m)
+    (d1 : 1 ≤ N .d) where
   pub on-calls : (k : S) (flash disk : List X) (cs : List (Call X)) → Inv k (fresh (N .d) flash disk) → length disk ≡ N .P → All (Within (N .P)) cs
       → OnCalls H N pol Inv k flash disk cs
   on-calls k flash disk cs i dl w =

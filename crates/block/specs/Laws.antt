@@ -1,14 +1,14 @@
 -- The laws of `splice` and `part` that this crate's proofs and those above cite. Assumes nothing.
-use mathlib.Core.Path.{_≡_}
+use mathlib.Core.Path.{_≡_, sym, ap, _∙_}
 use Prim.Native.Nat.{ℕ, _+_, _-_, _*_, _≤_}
 use native.Mathlib.Omega.{arith}
 use native.Mathlib.Nat.{mul-le-mul}
 use mir.Syntax.{w64}
 use mir.Val.{Fits}
 use mir.Facts.{fits-le}
-use mathlib.Core.List.{List}
+use mathlib.Core.List.{List, _++_, append-assoc}
 use lib.ListN.{length, take, drop, length-append, length-take, length-drop}
-use lib.Seq.{drop-drop}
+use lib.Seq.{drop-drop, drop-at, take-at, length-take-le}
 use borrow.Rule.Slice.PartMut.{putMid}
 use Rattle.block.specs.Blocks.{part, splice}
 
@@ -32,6 +32,30 @@ length-splice at s d h = simp (length-append, length-take, length-drop) (omega a
 pub length-part : (at n : ℕ) (s : List ℕ) → at + n ≤ length s → length (part at n s) ≡ n
 unfolding part
 length-part at n s h = simp (length-take, length-drop) (omega arith)
+
+module _ (at n : ℕ) (s d : List ℕ) (ls : length s ≡ n) (h : at + n ≤ length d) where
+  front : length (take at d) ≡ at
+  front = length-take-le at d (omega arith)
+
+  -- what is written is there, and what is before it and after it stays
+  pub part-splice : part at n (splice at s d) ≡ s
+  unfolding part splice
+  part-splice = ap (take n) (drop-at (take at d) (s ++ drop (at + length s) d) at front) ∙ take-at s (drop (at + length s) d) n ls
+
+  pub take-splice : take at (splice at s d) ≡ take at d
+  unfolding splice
+  take-splice = take-at (take at d) (s ++ drop (at + length s) d) at front
+
+  pub part-past : (i m : ℕ) → at + n ≤ i → part i m (splice at s d) ≡ part i m d
+  unfolding part splice
+  part-past i m l =
+      let k : at + length s + (i - (at + length s)) ≡ i = omega arith in
+      let past : (x : List ℕ) → drop i x ≡ drop (i - (at + length s)) (drop (at + length s) x)
+      = λ x. sym (drop-drop (i - (at + length s)) (at + length s) x ∙ ap (λ (j : ℕ). drop j x) k) in
+      let seam : drop (at + length s) (take at d ++ (s ++ drop (at + length s) d)) ≡ drop (at + length s) d
+      = ap (drop (at + length s)) (sym (append-assoc (take at d) s (drop (at + length s) d)))
+      ∙ drop-at (take at d ++ s) (drop (at + length s) d) (at + length s) (length-append (take at d) s ∙ ap (λ (j : ℕ). j + length s) front) in
+      ap (take m) (past (take at d ++ (s ++ drop (at + length s) d)) ∙ ap (drop (i - (at + length s))) seam ∙ sym (past d))
 
 -- a product of two numbers that are at most m and n fits, where m times n does
 pub product-fits : (m n x y : ℕ) → x ≤ m → y ≤ n → Fits w64 (m * n) → Fits w64 (x * y)

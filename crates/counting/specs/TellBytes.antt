@@ -13,7 +13,7 @@ use Rattle.tables.specs.Find as Find
 use Rattle.tables.specs.Unsound as Unsound
 use Rattle.paper.specs.Cache as Cache
 use Rattle.paper.specs.Cache.{Numbers, hit, miss}
-use Rattle.paper.specs.Engine.{fit, engine}
+use Rattle.paper.specs.Engine.{fit, labelled}
 use Rattle.paper.specs.Lent as Lent
 use Rattle.paper.specs.Lent.{Lent, opening, refusal, opened, split, fresh, call}
 use Rattle.paper.specs.Demand3.{refusals}
@@ -21,7 +21,7 @@ use Rattle.counting.specs.Told.{tellHit, tell}
 use Rattle.counting.specs.TellHit.{asked, contentIn, words, tell-hit}
 
 abbrev numbers : Numbers
-numbers = record { B = 64; P = 2; m = 2; d = 1 }
+numbers = record { B = 64; P = 2; m = 2; d = 1; label = replicate 64 0 }
 
 abbrev memory : Lent
 memory =
@@ -46,7 +46,7 @@ unfolding Ch Maj Σ0 Σ1 σ0 σ1 K H0 M next W T1 T2 round rounds sum8 compress 
     Cache.writeInvalidate Cache.lookAs Cache.flushed Cache.serve Cache.counted
 served = refl
 
-told : tell (engine 64 .same) 2 1 (contentIn numbers memory) [] (0 ∷ 1 ∷ 0 ∷ []) ≡ miss ∷ miss ∷ hit ∷ []
+told : tell (labelled numbers .same) 2 1 (contentIn numbers memory) [] (0 ∷ 1 ∷ 0 ∷ []) ≡ miss ∷ miss ∷ hit ∷ []
 unfolding Ch Maj Σ0 Σ1 σ0 σ1 K H0 M next W T1 T2 round rounds sum8 compress blocks bytes32 bytes64 padded pad digest sha256 fit Rows.zeros Find.same
     split tell tellHit
 told = refl

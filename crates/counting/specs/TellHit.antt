@@ -9,11 +9,11 @@ use native.Mathlib.Omega.{arith}
 use lib.Dec.{eqb, ltb}
 use Rattle.paper.specs.KeyedLaws.{All, by-test, or-left, or-right, eqb→≡, eqb-self}
 use Rattle.paper.specs.Cache.{Numbers, Word, hit, miss}
-use Rattle.paper.specs.Engine.{Fixed, engine}
+use Rattle.paper.specs.Engine.{Fixed, labelled}
 use Rattle.paper.specs.Lent.{Lent, opening, refusal, call, opened, fresh, split}
 use Rattle.paper.specs.BatchLent.{Asking, one}
 use Rattle.paper.specs.Machines.{Printed, printedNext, printedHit, Read, printedTrace, contentOf}
-use Rattle.paper.specs.Demand3.{next, refusals, wordOf, firstPlain}
+use Rattle.paper.specs.Demand3.{next, refusals, saidWord, firstPlain}
 use Rattle.paper.specs.Order.{order, order-snoc}
 use Rattle.paper.specs.RefusalLaws.{exactly-opening, opened-is}
 use Rattle.paper.specs.CallLaws.{fits}
@@ -79,7 +79,7 @@ module _ {F : Type 0} (same : F → F → Bool) (same→≡ : (f g : F) → same
 -- the answer word of each read of a list; a refused one has none
 unfoldable pub words : Numbers → Lent → List (ℕ × List ℕ) → List (Option Word)
 words N t [] = []
-words N t (r ∷ rs) = wordOf ((call N t (asRead r)) .answer) ∷ words N (next N t (one (asRead r))) rs
+words N t (r ∷ rs) = saidWord ((call N t (asRead r)) .answer) ∷ words N (next N t (one (asRead r))) rs
 
 -- a list of reads as calls of a list
 abbrev pub asked : List (ℕ × List ℕ) → List Asking
@@ -91,13 +91,13 @@ NoneRefused N t rs = All (λ k. k ≡ 0) (refusals N t (asked rs))
 
 -- the fingerprint of each address's content, on the disk as it was at first
 abbrev pub contentIn : Numbers → Lent → ℕ → Fixed 32
-contentIn N t = contentOf (engine (N .B)) (firstPlain N t)
+contentIn N t = contentOf (labelled N) (firstPlain N t)
 
 module _ (N : Numbers) where
   words-shown : (t : Lent) (rs : List (ℕ × List ℕ)) → words N t rs ≡ map (λ c. c .answer) (shownBy N t rs)
   unfolding words shownBy
   words-shown t [] = refl
-  words-shown t (r ∷ rs) = ap {B = List (Option Word)} (λ l. wordOf ((call N t (asRead r)) .answer) ∷ l) (words-shown (next N t (one (asRead r))) rs)
+  words-shown t (r ∷ rs) = ap {B = List (Option Word)} (λ l. saidWord ((call N t (asRead r)) .answer) ∷ l) (words-shown (next N t (one (asRead r))) rs)
 
   fed-served : (t : Lent) (rs : List (ℕ × List ℕ)) → NoneRefused N t rs
       → fedBy N t rs ≡ map (λ a. record { address = a; refused = false }) (map (λ r. r .0) rs)
@@ -109,10 +109,10 @@ module _ (N : Numbers) where
 -- U9: "For a D-LRU box and every list of reads from fresh, none refused": the engine answers hit exactly where the list alone tells so, and miss elsewhere.
 -- The box is over any disk and flash bytes; a read has its address and the block lent to it.
 pub tell-hit : (N : Numbers) (t : Lent) (rs : List (ℕ × List ℕ)) → refusal N t opening ≡ 0 → NoneRefused N (opened N t) rs
-    → words N (opened N t) rs ≡ map some (tell (engine (N .B) .same) (N .m) (N .d) (contentIn N t) [] (map (λ r. r .0) rs))
+    → words N (opened N t) rs ≡ map some (tell (labelled N .same) (N .m) (N .d) (contentIn N t) [] (map (λ r. r .0) rs))
 unfolding fresh
 tell-hit N t rs opens none =
-    let H = engine (N .B) in
+    let H = labelled N in
     let f = fits N ((exactly-opening N t .gives-0 .0 opens) .0) in
     let content = contentIn N (opened N t) in
     let start : Printed (Fixed 32) = record { addresses = []; fingerprints = [] } in
@@ -141,11 +141,11 @@ last-≡ xs ys x y e = sym (last-is x xs x) ∙ ap (last x) e ∙ last-is x ys y
     last-is d (z ∷ xs) x = last-is z xs x
 
 words-last : (N : Numbers) (t : Lent) (rs : List (ℕ × List ℕ)) (r : ℕ × List ℕ)
-    → words N t (rs ++ (r ∷ [])) ≡ words N t rs ++ (wordOf ((call N (after N t rs) (asRead r)) .answer) ∷ [])
+    → words N t (rs ++ (r ∷ [])) ≡ words N t rs ++ (saidWord ((call N (after N t rs) (asRead r)) .answer) ∷ [])
 unfolding words after
 words-last N t [] r = refl
 words-last N t (q ∷ rs) r =
-    ap {B = List (Option Word)} (λ l. wordOf ((call N t (asRead q)) .answer) ∷ l) (words-last N (next N t (one (asRead q))) rs r)
+    ap {B = List (Option Word)} (λ l. saidWord ((call N t (asRead q)) .answer) ∷ l) (words-last N (next N t (one (asRead q))) rs r)
 
 tell-last : {F : Type 0} (same : F → F → Bool) (m d : ℕ) (content : ℕ → F) (past rest : List ℕ) (a : ℕ)
     → tell same m d content past (rest ++ (a ∷ [])) ≡ tell same m d content past rest ++ (cond (tellHit same m d content (past ++ rest) a) hit miss ∷ [])
@@ -158,10 +158,10 @@ tell-last same m d content past (b ∷ rest) a =
 
 -- "a read hits exactly when": the answer to a read after the reads `past`
 pub tell-read : (N : Numbers) (t : Lent) (past : List (ℕ × List ℕ)) (r : ℕ × List ℕ) → refusal N t opening ≡ 0 → NoneRefused N (opened N t) (past ++ (r ∷ []))
-    → wordOf ((call N (after N (opened N t) past) (asRead r)) .answer)
-    ≡ some (cond (tellHit (engine (N .B) .same) (N .m) (N .d) (contentIn N t) (map (λ r. r .0) past) (r .0)) hit miss)
+    → saidWord ((call N (after N (opened N t) past) (asRead r)) .answer)
+    ≡ some (cond (tellHit (labelled N .same) (N .m) (N .d) (contentIn N t) (map (λ r. r .0) past) (r .0)) hit miss)
 tell-read N t past r opens none =
-    let H = engine (N .B) in
+    let H = labelled N in
     let content = contentIn N t in
     let told = tell (H .same) (N .m) (N .d) content [] (map (λ r. r .0) past) in
     last-≡ (words N (opened N t) past) (map some told) _ _

@@ -16,18 +16,18 @@ use Rattle.policy.specs.declared.many.Answer.the-variants.{Refused as Refusal, 
 use Rattle.look.specs.declared.Place.{Place}
 use Rattle.look.specs.declared.Place.the-variants.{Refused as NoPlace, Flash, Disk}
 use Rattle.policy.specs.Contract.{wordOf, answerOf, manyAnswerOf}
-use Rattle.fields.specs.Fields.{put8, putState, putAnswer, putMany, wordNumber, fitting}
-use Rattle.fields.specs.Noted.{Noted, noted, notedMany, LeftLook, placeIn, opening}
+use Rattle.fields.specs.Fields.{put8, putState, putAnswer, putMany, wordNumber, fitting, stateBytes}
+use Rattle.fields.specs.Noted.{Noted, noted, notedMany, LeftLook, notedPlace}
 
 -- ---- the lengths
 
-pub fitting-is : (n : ℕ) (s l : List ℕ) → length s ≡ 72 → eqb (length l) n ≡ fitting n s l
+pub fitting-is : (n : ℕ) (s l : List ℕ) → length s ≡ stateBytes → eqb (length l) n ≡ fitting n s l
 unfolding fitting
-fitting-is n s l h = rw (eq-eqb (length s) 72 h) refl
+fitting-is n s l h = rw (eq-eqb (length s) stateBytes h) refl
 
-pub not-fitting : (n : ℕ) (s l : List ℕ) → (length s ≡ 72 → ⊥) → false ≡ fitting n s l
+pub not-fitting : (n : ℕ) (s l : List ℕ) → (length s ≡ stateBytes → ⊥) → false ≡ fitting n s l
 unfolding fitting
-not-fitting n s l h = rw (ne-eqb (length s) 72 h) refl
+not-fitting n s l h = rw (ne-eqb (length s) stateBytes h) refl
 
 -- ---- what is written of an answer
 
@@ -50,20 +50,11 @@ module _ (a : Many.Answer) (n : ℕ) (k : Counters) (s l : List ℕ) where
 -- ---- what is written of a look's place
 
 module _ (p : Place) (B a : ℕ) (l : List ℕ) where
-  pub placed-refused : (number : ℕ) → p ≡ NoPlace number → _≡_ {A = LeftLook} (record { number = number; answer = l }) (placeIn B a l p)
+  pub placed-refused : (number : ℕ) → p ≡ NoPlace number → _≡_ {A = LeftLook} (record { number = number; answer = l }) (notedPlace B a l p)
   placed-refused number e = rw e refl
 
-  pub placed-flash : (s : FlashSlot) (l′ : List ℕ) → p ≡ Flash s → l′ ≡ putAnswer 5 (s .0 * B) B l → _≡_ {A = LeftLook} (record { number = 0; answer = l′ }) (placeIn B a l p)
+  pub placed-flash : (s : FlashSlot) (l′ : List ℕ) → p ≡ Flash s → l′ ≡ putAnswer 5 (s .0 * B) B l → _≡_ {A = LeftLook} (record { number = 0; answer = l′ }) (notedPlace B a l p)
   placed-flash s l′ e el = rw e (λ i. record { number = 0; answer = el i })
 
-  pub placed-disk : (l′ : List ℕ) → p ≡ Disk → l′ ≡ putAnswer 6 (a * B) B l → _≡_ {A = LeftLook} (record { number = 0; answer = l′ }) (placeIn B a l p)
+  pub placed-disk : (l′ : List ℕ) → p ≡ Disk → l′ ≡ putAnswer 6 (a * B) B l → _≡_ {A = LeftLook} (record { number = 0; answer = l′ }) (notedPlace B a l p)
   placed-disk l′ e el = rw e (λ i. record { number = 0; answer = el i })
-
--- ---- what is written of an opening
-
-module _ (said number n : ℕ) (k : Counters) (s s′ : List ℕ) (e : number ≡ said) where
-  pub opened-state : number ≡ 0 → s′ ≡ putState n k s → (number ≡ said) × (s′ ≡ opening said n k s)
-  opened-state z es = (e, es ∙ rw (eq-eqb said 0 (sym e ∙ z)) refl)
-
-  pub refused-state : (number ≡ 0 → ⊥) → s′ ≡ put8 32 n s → (number ≡ said) × (s′ ≡ opening said n k s)
-  refused-state z es = (e, es ∙ rw (ne-eqb said 0 (λ w. z (e ∙ w))) refl)

@@ -1,5 +1,5 @@
 -- What is written into the state and the answer is what is read there, and nothing else is changed. Assumes nothing.
-use mathlib.Core.Path.{_≡_, sym, ap, _∙_}
+use mathlib.Core.Path.{_≡_, refl, sym, ap, _∙_}
 use mathlib.Core.List.{List, _++_}
 use Prim.Native.Nat.{ℕ, _+_, _-_, _*_, _/_, _%_, _^_, _≤_, _<_}
 use native.Mathlib.Nat.{div-add-mod}
@@ -7,11 +7,12 @@ use native.Mathlib.Omega.{arith}
 use lib.ListN.{length, take, drop, getD, List·getD-append}
 use lib.Seq.{length-take-le, getD-append-add, getD-take, getD-drop}
 use Rattle.tables.specs.Rows.{le8}
-use Rattle.block.specs.Blocks.{splice}
-use Rattle.block.specs.Laws.{length-splice}
+use Rattle.block.specs.Blocks.{part, splice}
+use Rattle.block.specs.Laws.{length-splice, part-splice, part-past}
 use Rattle.paper.specs.Cache.{Counters}
+use Rattle.parts.specs.Rep.{withHeld}
 use Rattle.refusals.specs.Given.{countersOf}
-use Rattle.fields.specs.Fields.{lowBytes, get8, put8, recordIn, countersIn, putState, putAnswer}
+use Rattle.fields.specs.Fields.{lowBytes, get8, put8, stateBytes, recordIn, countersIn, putState, putLabel, putAnswer}
 
 -- ---- a list written over another
 
@@ -108,7 +109,7 @@ module _ (at v : ℕ) (s : List ℕ) (h : at + 8 ≤ length s) where
 
 -- ---- the state
 
-module _ (n : ℕ) (k : Counters) (s : List ℕ) (h : length s ≡ 72) where
+module _ (n : ℕ) (k : Counters) (s : List ℕ) (h : length s ≡ stateBytes) where
   abbrev s₁ : List ℕ
   s₁ = put8 32 n s
 
@@ -121,19 +122,19 @@ module _ (n : ℕ) (k : Counters) (s : List ℕ) (h : length s ≡ 72) where
   abbrev s₄ : List ℕ
   s₄ = put8 56 (k .flashWrites) s₃
 
-  l₁ : length s₁ ≡ 72
+  l₁ : length s₁ ≡ stateBytes
   l₁ = length-put8 32 n s (omega arith) ∙ h
 
-  l₂ : length s₂ ≡ 72
+  l₂ : length s₂ ≡ stateBytes
   l₂ = length-put8 40 (k .reads) s₁ (omega (arith, l₁)) ∙ l₁
 
-  l₃ : length s₃ ≡ 72
+  l₃ : length s₃ ≡ stateBytes
   l₃ = length-put8 48 (k .hits) s₂ (omega (arith, l₂)) ∙ l₂
 
-  l₄ : length s₄ ≡ 72
+  l₄ : length s₄ ≡ stateBytes
   l₄ = length-put8 56 (k .flashWrites) s₃ (omega (arith, l₃)) ∙ l₃
 
-  pub length-putState : length (putState n k s) ≡ 72
+  pub length-putState : length (putState n k s) ≡ stateBytes
   unfolding putState
   length-putState = length-put8 64 (k .primaryWrites) s₄ (omega (arith, l₄)) ∙ l₄
 
@@ -147,6 +148,16 @@ module _ (n : ℕ) (k : Counters) (s : List ℕ) (h : length s ≡ 72) where
       ∙ get8-before 40 (k .reads) s₁ (omega (arith, l₁)) i (omega arith)
       ∙ get8-before 32 n s (omega arith) i l
 
+  -- so does the label
+  label-kept : part 72 64 (putState n k s) ≡ part 72 64 s
+  unfolding putState put8
+  label-kept =
+      part-past 64 8 (lowBytes 8 (k .primaryWrites)) s₄ refl (omega (arith, l₄)) 72 64 (omega arith)
+      ∙ part-past 56 8 (lowBytes 8 (k .flashWrites)) s₃ refl (omega (arith, l₃)) 72 64 (omega arith)
+      ∙ part-past 48 8 (lowBytes 8 (k .hits)) s₂ refl (omega (arith, l₂)) 72 64 (omega arith)
+      ∙ part-past 40 8 (lowBytes 8 (k .reads)) s₁ refl (omega (arith, l₁)) 72 64 (omega arith)
+      ∙ part-past 32 8 (lowBytes 8 n) s refl (omega arith) 72 64 (omega arith)
+
   held-read : n < 2 ^ 64 → get8 (putState n k s) 32 ≡ n
   unfolding putState
   held-read b =
@@ -157,13 +168,14 @@ module _ (n : ℕ) (k : Counters) (s : List ℕ) (h : length s ≡ 72) where
       ∙ get8-put8 32 n s (omega arith) b
 
   -- the next call reads the box record with the n that this one wrote
-  pub record-back : n < 2 ^ 64 → recordIn (putState n k s) ≡ record { size = get8 s 0; blocks = get8 s 8; rows = get8 s 16; slots = get8 s 24; held = n }
+  pub record-back : n < 2 ^ 64 → recordIn (putState n k s) ≡ withHeld (recordIn s) n
   record-back b = λ i. record {
     size = kept 0 (omega arith) i;
     blocks = kept 8 (omega arith) i;
     rows = kept 16 (omega arith) i;
     slots = kept 24 (omega arith) i;
     held = held-read b i;
+    label = label-kept i;
   }
 
   reads-read : k .reads < 2 ^ 64 → get8 (putState n k s) 40 ≡ k .reads
@@ -192,6 +204,25 @@ module _ (n : ℕ) (k : Counters) (s : List ℕ) (h : length s ≡ 72) where
   -- and the counters that it wrote
   pub counters-back : k .reads < 2 ^ 64 → k .hits < 2 ^ 64 → k .flashWrites < 2 ^ 64 → k .primaryWrites < 2 ^ 64 → countersOf (countersIn (putState n k s)) ≡ k
   counters-back br bh bf bp = λ i. record { reads = reads-read br i; hits = hits-read bh i; flashWrites = flash-read bf i; primaryWrites = primary-read bp i }
+
+-- ---- the label
+
+module _ (label s : List ℕ) (h : length s ≡ stateBytes) (l : length label ≡ 64) where
+  room : 72 + length label ≤ length s
+  room = omega arith
+
+  pub length-putLabel : length (putLabel label s) ≡ stateBytes
+  unfolding putLabel
+  length-putLabel = length-splice 72 label s room ∙ h
+
+  -- it is read where it is written, and the numbers before it stay
+  pub label-back : part 72 64 (putLabel label s) ≡ label
+  unfolding putLabel
+  label-back = part-splice 72 64 label s l (omega arith)
+
+  pub get8-label : (i : ℕ) → i + 8 ≤ 72 → get8 (putLabel label s) i ≡ get8 s i
+  unfolding get8 putLabel
+  get8-label i k = same-read (splice 72 label s) s i i (λ j b. before-splice 72 label s room (i + j) (omega arith))
 
 -- ---- the answer
 

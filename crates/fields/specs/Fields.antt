@@ -5,7 +5,7 @@ use Prim.Native.Nat.{ℕ, zero, suc, _/_, _%_}
 use lib.Dec.{eqb}
 use lib.ListN.{length}
 use Rattle.tables.specs.Rows.{le8}
-use Rattle.block.specs.Blocks.{splice}
+use Rattle.block.specs.Blocks.{part, splice}
 use Rattle.counters.specs.declared.Counters as Code
 use Rattle.paper.specs.Cache.{Counters, Word, hit, miss, sameBlock, newBlock, fromCache, fromDisk, done}
 use Rattle.parts.specs.declared.BoxRecord.{BoxRecord}
@@ -23,16 +23,24 @@ get8 s at = le8 s at
 unfoldable pub put8 : (at v : ℕ) → List ℕ → List ℕ
 put8 at v s = splice at (lowBytes 8 v) s
 
--- the state, 72 bytes: B, P, m, d, n, then the counters: reads, hits, flash writes, primary writes
+-- the state: B, P, m, d, n, then the counters: reads, hits, flash writes, primary writes, and at last the label
+abbrev pub stateBytes : ℕ
+stateBytes = 136
+
 abbrev pub recordIn : List ℕ → BoxRecord
-recordIn s = record { size = get8 s 0; blocks = get8 s 8; rows = get8 s 16; slots = get8 s 24; held = get8 s 32 }
+recordIn s =
+    record { size = get8 s 0; blocks = get8 s 8; rows = get8 s 16; slots = get8 s 24; held = get8 s 32; label = part 72 64 s }
 
 abbrev pub countersIn : List ℕ → Code.Counters
 countersIn s = record { reads = get8 s 40; hits = get8 s 48; flash = get8 s 56; primary = get8 s 64 }
 
--- n and the counters written into the state; B, P, m and d stay
+-- n and the counters written into the state; B, P, m, d and the label stay
 unfoldable pub putState : ℕ → Counters → List ℕ → List ℕ
 putState n k s = put8 64 (k .primaryWrites) (put8 56 (k .flashWrites) (put8 48 (k .hits) (put8 40 (k .reads) (put8 32 n s))))
+
+-- the label written into the state
+unfoldable pub putLabel : List ℕ → List ℕ → List ℕ
+putLabel label s = splice 72 label s
 
 -- the answer, 24 bytes: the word, then the flash writes and the primary writes; of a look, where its part starts and how long it is
 unfoldable pub putAnswer : (word second third : ℕ) → List ℕ → List ℕ
@@ -52,6 +60,6 @@ wordNumber fromCache = 5
 wordNumber fromDisk = 6
 wordNumber done = 7
 
--- the state has 72 bytes, and the answer n: 24, of a folder read 32
+-- the state has its bytes, and the answer n: 24, of a folder read 32
 unfoldable pub fitting : ℕ → (state answer : List ℕ) → Bool
-fitting n s l = eqb (length s) 72 && eqb (length l) n
+fitting n s l = eqb (length s) stateBytes && eqb (length l) n

@@ -8,14 +8,14 @@ use Rattle.paper.specs.Lent.{Answer, refused, answered}
 use Rattle.paper.specs.BatchLent.{BatchAnswer, batched}
 use Rattle.look.specs.declared.Place.{Place}
 use Rattle.look.specs.declared.Place.the-variants.{Refused, Flash, Disk}
-use Rattle.fields.specs.Fields.{put8, putState, putAnswer, putMany, wordNumber}
+use Rattle.fields.specs.Fields.{put8, putState, putLabel, putAnswer, putMany, wordNumber}
 
 -- ---- what an answer of the paper is in numbers and bytes
 
 -- the number returned: that of the refusal, 0 where the call is served
-abbrev pub numberOf : Answer → ℕ
-numberOf (refused k) = k
-numberOf (answered w f p) = 0
+abbrev pub answerNumber : Answer → ℕ
+answerNumber (refused k) = k
+answerNumber (answered w f p) = 0
 
 -- the state: a refused call keeps it
 abbrev pub stateAfter : Answer → ℕ → Counters → List ℕ → List ℕ
@@ -34,7 +34,7 @@ pub record Noted : Type 0 where
   pub answer : List ℕ
 
 abbrev pub noted : Answer → ℕ → Counters → (state answer : List ℕ) → Noted
-noted a n c s l = record { number = numberOf a; state = stateAfter a n c s; answer = answerAfter a l }
+noted a n c s l = record { number = answerNumber a; state = stateAfter a n c s; answer = answerAfter a l }
 
 -- ---- a folder read
 
@@ -55,9 +55,9 @@ notedMany a n c s l = record { number = manyNumberOf a; state = manyStateAfter a
 
 -- ---- opening
 
--- the state: a refused opening writes n alone
-abbrev pub opening : (number n : ℕ) → Counters → List ℕ → List ℕ
-opening number n k s = cond (eqb number 0) (putState n k s) (put8 32 n s)
+-- the state: a refused opening writes n and the label, not the counters
+abbrev pub stateOpened : (number n : ℕ) → Counters → (label : List ℕ) → List ℕ → List ℕ
+stateOpened number n k label s = putLabel label (cond (eqb number 0) (putState n k s) (put8 32 n s))
 
 -- ---- look
 
@@ -72,7 +72,7 @@ startOf B a (Flash s) = s .0 * B
 startOf B a Disk = a * B
 
 -- a refused look keeps the answer's bytes
-abbrev pub placeIn : (B a : ℕ) → List ℕ → Place → LeftLook
-placeIn B a l (Refused k) = record { number = k; answer = l }
-placeIn B a l (Flash s) = record { number = 0; answer = putAnswer 5 (s .0 * B) B l }
-placeIn B a l Disk = record { number = 0; answer = putAnswer 6 (a * B) B l }
+abbrev pub notedPlace : (B a : ℕ) → List ℕ → Place → LeftLook
+notedPlace B a l (Refused k) = record { number = k; answer = l }
+notedPlace B a l (Flash s) = record { number = 0; answer = putAnswer 5 (s .0 * B) B l }
+notedPlace B a l Disk = record { number = 0; answer = putAnswer 6 (a * B) B l }

@@ -11,14 +11,16 @@ use policy::many;
 use tables::SourceAddress;
 ghost use mathlib.Core.Path.{_≡_};
 ghost use Prim.Native.Nat.{_+_, _*_, _≤_, _<_, _^_};
+ghost use mathlib.Core.Bool.{cond};
+ghost use lib.Dec.{eqb};
 ghost use lib.ListN.{length};
 ghost use Rattle.refusals.specs.Given.{countersOf};
 ghost use Rattle.policy.specs.Contract.{wordOf, answerOf, manyAnswerOf};
-ghost use Rattle.open.specs.Contract.{numberOf};
-ghost use Rattle.block.specs.Blocks.{splice};
+ghost use Rattle.open.specs.Contract.{openingNumber};
+ghost use Rattle.block.specs.Blocks.{part, splice};
 ghost use Rattle.tables.specs.Rows.{le8};
-ghost use Rattle.fields.specs.Fields.{lowBytes, recordIn, countersIn, putState, putAnswer, putMany, wordNumber, fitting};
-ghost use Rattle.fields.specs.Noted.{noted, notedMany, opening, startOf, placeIn};
+ghost use Rattle.fields.specs.Fields.{lowBytes, stateBytes, recordIn, countersIn, put8, putState, putLabel, putAnswer, putMany, wordNumber, fitting};
+ghost use Rattle.fields.specs.Noted.{noted, notedMany, stateOpened, startOf, notedPlace};
 
 // A byte, widened.
 fn wide(x: u8) -> u64
@@ -60,33 +62,48 @@ pub fn put8(s: &mut [u8], at: usize, v: u64)
     block::put(&w, s, at);
 }
 
-// Whether the state has 72 bytes and the answer `n`.
+// The bytes of the state.
+pub const STATE: usize = 136;
+
+// Whether the state has its bytes and the answer `n`.
 pub fn fit(n: usize, state: &[u8], answer: &[u8]) -> bool
     ensures { λ r. ⌜ r ≡ fitting n (now (state .entry)) (now (answer .entry)) ⌝ }
 {
-    if state.len() != 72 {
+    if state.len() != STATE {
         return false;
     }
     answer.len() == n
 }
 
+// The label in the state.
+pub(crate) fn label_in(state: &[u8]) -> [u8; 64]
+    requires { ⌜ length (now state) ≡ stateBytes ⌝ }
+    ensures { λ r. ⌜ r ≡ part 72 64 (now (state .entry)) ⌝ }
+{
+    let mut label = [0u8; 64];
+    block::copy_all(&state[72..136], &mut label);
+    label
+}
+
 // The box record in the state.
 pub fn record_in(state: &[u8]) -> BoxRecord
-    requires { ⌜ length (now state) ≡ 72 ⌝ }
+    requires { ⌜ length (now state) ≡ stateBytes ⌝ }
     ensures { λ r. ⌜ r ≡ recordIn (now (state .entry)) ⌝ }
 {
+    let label = label_in(state);
     BoxRecord {
         size: get8(state, 0) as usize,
         blocks: get8(state, 8) as usize,
         rows: get8(state, 16) as usize,
         slots: get8(state, 24) as usize,
         held: get8(state, 32) as usize,
+        label: label,
     }
 }
 
 // The counters in the state.
 pub fn counters_in(state: &[u8]) -> Counters
-    requires { ⌜ length (now state) ≡ 72 ⌝ }
+    requires { ⌜ length (now state) ≡ stateBytes ⌝ }
     ensures { λ r. ⌜ r ≡ countersIn (now (state .entry)) ⌝ }
 {
     Counters {
@@ -99,7 +116,7 @@ pub fn counters_in(state: &[u8]) -> Counters
 
 // Writes n and the counters into the state.
 pub fn put_state(state: &mut [u8], held: usize, c: Counters)
-    requires { ⌜ length (now state) ≡ 72 ⌝ }
+    requires { ⌜ length (now state) ≡ stateBytes ⌝ }
     ensures { λ _. ⌜ now (state .exit) ≡ putState held (countersOf c) (now (state .entry)) ⌝ }
 {
     put8(state, 32, held as u64);
@@ -147,7 +164,7 @@ pub fn word_number(w: Word) -> u64
 
 // Writes what a call tells into the state and the answer. The number of the refusal, 0 where the call was served.
 pub fn write_outcome(state: &mut [u8], answer: &mut [u8], o: Outcome) -> u32
-    requires { ⌜ (length (now state) ≡ 72) × (length (now answer) ≡ 24) ⌝ }
+    requires { ⌜ (length (now state) ≡ stateBytes) × (length (now answer) ≡ 24) ⌝ }
     ensures { λ r. ⌜ record { number = r; state = now (state .exit); answer = now (answer .exit) }
         ≡ noted (answerOf (o .answer)) (o .box_record .held) (countersOf (o .counters)) (now (state .entry)) (now (answer .entry)) ⌝ }
 {
@@ -166,7 +183,7 @@ pub fn write_outcome(state: &mut [u8], answer: &mut [u8], o: Outcome) -> u32
 
 // The same of a folder read.
 pub fn write_many(state: &mut [u8], answer: &mut [u8], o: many::Outcome) -> u32
-    requires { ⌜ (length (now state) ≡ 72) × (length (now answer) ≡ 32) ⌝ }
+    requires { ⌜ (length (now state) ≡ stateBytes) × (length (now answer) ≡ 32) ⌝ }
     ensures { λ r. ⌜ record { number = r; state = now (state .exit); answer = now (answer .exit) }
         ≡ notedMany (manyAnswerOf (o .answer)) (o .box_record .held) (countersOf (o .counters)) (now (state .entry)) (now (answer .entry)) ⌝ }
 {
@@ -183,27 +200,46 @@ pub fn write_many(state: &mut [u8], answer: &mut [u8], o: many::Outcome) -> u32
     }
 }
 
-// Writes what an opening tells into the state: n alone where it was refused. The number of the refusal, 0 where the box is open.
+// Writes n of an opening into the state, and the counters where it was served.
+pub(crate) fn put_opening(state: &mut [u8], number: u32, held: usize, c: Counters)
+    requires { ⌜ length (now state) ≡ stateBytes ⌝ }
+    ensures { λ _. ⌜ now (state .exit) ≡ cond (eqb number 0) (putState held (countersOf c) (now (state .entry))) (put8 32 held (now (state .entry))) ⌝ }
+    ensures { λ _. ⌜ length (now (state .exit)) ≡ stateBytes ⌝ }
+{
+    if number == 0 {
+        put_state(state, held, c);
+        return;
+    }
+    put8(state, 32, held as u64);
+}
+
+// Writes a label into the state.
+pub(crate) fn put_label(state: &mut [u8], label: [u8; 64])
+    requires { ⌜ length (now state) ≡ stateBytes ⌝ }
+    ensures { λ _. ⌜ now (state .exit) ≡ putLabel label (now (state .entry)) ⌝ }
+{
+    block::put(&label, state, 72);
+}
+
+// Writes what an opening tells into the state: n and the label, and the counters where it was served. The number of the refusal, 0 where the box is open.
 pub fn write_opening(state: &mut [u8], o: Begun) -> u32
-    requires { ⌜ length (now state) ≡ 72 ⌝ }
-    ensures { λ r. ⌜ (r ≡ numberOf (o .answer)) × (now (state .exit) ≡ opening (numberOf (o .answer)) (o .box_record .held) (countersOf (o .counters))
-        (now (state .entry))) ⌝ }
+    requires { ⌜ length (now state) ≡ stateBytes ⌝ }
+    ensures { λ r. ⌜ (r ≡ openingNumber (o .answer)) × (now (state .exit) ≡ stateOpened (openingNumber (o .answer)) (o .box_record .held)
+        (countersOf (o .counters)) (o .box_record .label) (now (state .entry))) ⌝ }
 {
     let a = o.answer;
     let b = o.box_record;
     let c = o.counters;
     let number = opening_number(a);
-    if number == 0 {
-        put_state(state, b.held, c);
-        return number;
-    }
-    put8(state, 32, b.held as u64);
+    put_opening(state, number, b.held, c);
+    let label = b.label;
+    put_label(state, label);
     number
 }
 
 // The number of an opening's answer.
 fn opening_number(a: Opening) -> u32
-    ensures { λ r. ⌜ r ≡ numberOf a ⌝ }
+    ensures { λ r. ⌜ r ≡ openingNumber a ⌝ }
 {
     match a {
         Opening::Refused(k) => k,
@@ -214,7 +250,7 @@ fn opening_number(a: Opening) -> u32
 // Writes the place of a look's part into the answer. The number of the refusal, 0 where the look was served.
 pub fn write_place(answer: &mut [u8], size: usize, address: SourceAddress, p: Place) -> u32
     requires { ⌜ (length (now answer) ≡ 24) × (startOf size (address .0) p < 2 ^ 64) ⌝ }
-    ensures { λ r. ⌜ record { number = r; answer = now (answer .exit) } ≡ placeIn size (address .0) (now (answer .entry)) p ⌝ }
+    ensures { λ r. ⌜ record { number = r; answer = now (answer .exit) } ≡ notedPlace size (address .0) (now (answer .entry)) p ⌝ }
 {
     match p {
         Place::Refused(k) => k,

@@ -1,4 +1,4 @@
--- A block of the cache: its chunks, and then one chunk of padding.
+-- A label, the chunks of a block of the cache, and then one chunk of padding.
 -- Assumes nothing.
 use mathlib.Core.Path.{_≡_, refl, ap, _∙_}
 use mathlib.Core.List.{List, _++_}
@@ -19,13 +19,19 @@ one-block : (h l : List ℕ) → length l ≡ 64 → blocks h l 1 ≡ compress h
 unfolding blocks
 one-block h l e = ap (compress h) (take-all 64 l (omega arith))
 
--- the digest of a block
-pub whole : (m : List ℕ) → Size (length m) → sha256 m ≡ digest (compress (blocks H0 m (length m / 64)) (lastChunk (bitLength (length m)))) 8
+-- the fingerprint of a block under a label
+pub whole : (label m : List ℕ) → length label ≡ 64 → Size (length m)
+    → sha256 (label ++ m) ≡ digest (compress (blocks (compress H0 label) m (length m / 64)) (lastChunk (bitLength (length m)))) 8
 unfolding sha256
-whole m s =
+whole label m el s =
     let e = size-whole (length m) s .0 in
-    let l = lastChunk (bitLength (length m)) in
-    let n : length (m ++ l) / 64 ≡ length m / 64 + 1 = omega (arith, e, length-append m l, length-last (bitLength (length m))) in
-    rw (one-chunk m s, n)
+    let n = length m / 64 in
+    let bits = bitLength (length m) in
+    let l = lastChunk bits in
+    let a = length-append label m in
+    let c : length ((label ++ m) ++ l) / 64 ≡ (1 + n) + 1 = omega (arith, e, el, a, length-append (label ++ m) l, length-last bits) in
+    rw (one-chunk label m el s, c)
     (ap (λ x. digest x 8)
-    (blocks-after H0 m l (length m / 64) 1 (omega (arith, e)) ∙ one-block (blocks H0 m (length m / 64)) l (length-last (bitLength (length m)))))
+    (blocks-after H0 (label ++ m) l (1 + n) 1 (omega (arith, e, el, a))
+    ∙ one-block (blocks H0 (label ++ m) (1 + n)) l (length-last bits)
+    ∙ ap (λ x. compress x l) (blocks-after H0 label m 1 n (omega (arith, el)) ∙ ap (λ x. blocks x m n) (one-block H0 label el))))

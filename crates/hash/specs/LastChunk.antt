@@ -1,4 +1,4 @@
--- The padding of a block of the cache, whose length is one of seven. A chunk is 64 bytes, the standard's block.
+-- The padding of a label and a block of the cache, whose length is one of seven. A chunk is 64 bytes, the standard's block.
 -- Assumes nothing.
 use mathlib.Core.Path.{_≡_}
 use mathlib.Core.Bool.{cond}
@@ -13,16 +13,16 @@ use Rattle.hash.specs.Sha256.{bytes64}
 abbrev pub Size : ℕ → Type 0
 Size n = (n ≡ 64) ⊎ ((n ≡ 128) ⊎ ((n ≡ 256) ⊎ ((n ≡ 512) ⊎ ((n ≡ 1024) ⊎ ((n ≡ 2048) ⊎ (n ≡ 4096))))))
 
--- U4: "Choose that length by cases on B, from 512 doubling to 32,768 bits." 0 for what is no size.
+-- U4: "Choose that length by cases on B, from 512 doubling to 32,768 bits."; U6: "Each padded bit length grows by 512." 0 for what is no size.
 unfoldable pub bitLength : ℕ → ℕ
 bitLength B =
-    cond (eqb B 64) 512
-    (cond (eqb B 128) 1024
-    (cond (eqb B 256) 2048
-    (cond (eqb B 512) 4096
-    (cond (eqb B 1024) 8192
-    (cond (eqb B 2048) 16384
-    (cond (eqb B 4096) 32768
+    cond (eqb B 64) 1024
+    (cond (eqb B 128) 1536
+    (cond (eqb B 256) 2560
+    (cond (eqb B 512) 4608
+    (cond (eqb B 1024) 8704
+    (cond (eqb B 2048) 16896
+    (cond (eqb B 4096) 33280
     0))))))
 
 -- U4: "padding always fills one chunk: 80 hexadecimal, 55 zero bytes, then the bit length in 8 bytes, big-endian"

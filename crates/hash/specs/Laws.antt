@@ -84,8 +84,8 @@ pad-length m =
     let l : length (p ++ q) ≡ length p + 8 = length-append p q in
     ap (λ t. value (drop (length t - 8) t)) e ∙ ap value (drop-at p q (length (p ++ q) - 8) (omega (arith, l))) ∙ bytes64-value (8 * n % 2 ^ 64) ∙ omega arith
 
--- the cases are eight times the size
-pub bit-length-is : (B : ℕ) → Size B → bitLength B ≡ 8 * B
+-- the cases are eight times the bytes, the label's 64 and the block's
+pub bit-length-is : (B : ℕ) → Size B → bitLength B ≡ 8 * B + 512
 unfolding bitLength
 bit-length-is B (inl e) = rw e
 bit-length-is B (inr (inl e)) = rw e
@@ -105,14 +105,16 @@ size-whole B (inr (inr (inr (inr (inl e))))) = (omega (arith, e), omega (arith, 
 size-whole B (inr (inr (inr (inr (inr (inl e)))))) = (omega (arith, e), omega (arith, e))
 size-whole B (inr (inr (inr (inr (inr (inr e)))))) = (omega (arith, e), omega (arith, e))
 
--- U4: "B is a multiple of 64, so padding always fills one chunk": a block of each of the seven sizes, padded as any message is, is the block and then
--- its last chunk
-pub one-chunk : (m : List ℕ) → Size (length m) → pad m ≡ m ++ lastChunk (bitLength (length m))
+-- U4: "B is a multiple of 64, so padding always fills one chunk"; U6: "Each padded bit length grows by 512.": a label and a block of each of the seven
+-- sizes, padded as any message is, are the two and then their last chunk
+pub one-chunk : (label m : List ℕ) → length label ≡ 64 → Size (length m) → pad (label ++ m) ≡ (label ++ m) ++ lastChunk (bitLength (length m))
 unfolding pad padded lastChunk
-one-chunk m s =
+one-chunk label m l s =
     let w = size-whole (length m) s in
     let w₀ = w .0 in
     let w₁ = w .1 in
-    let z : zeros (length m) ≡ 55 = omega arith in
-    let b : 8 * length m % 2 ^ 64 ≡ bitLength (length m) = omega arith ∙ sym (bit-length-is (length m) s) in
-    rw (z, b)
+    let e = bit-length-is (length m) s in
+    let n : length (label ++ m) ≡ 64 + length m = length-append label m ∙ ap (λ k. k + length m) l in
+    let z : zeros (64 + length m) ≡ 55 = omega arith in
+    let b : 8 * (64 + length m) % 2 ^ 64 ≡ bitLength (length m) = omega (arith, w₁, e) in
+    rw (n, z, b)

@@ -1,25 +1,26 @@
-// The fingerprint of a block of the cache. Its length is a power of two from 64 to 4,096, so that its padding is one chunk of 64 bytes.
+// The fingerprint of a block of the cache. Its length is a power of two from 64 to 4,096 and its label is 64 bytes, so that the padding is one chunk of 64.
 use crate::blocks;
 use crate::compress;
 use crate::digest;
 use crate::initial;
 ghost use mathlib.Core.Path.{_≡_};
+ghost use mathlib.Core.List.{_++_};
 ghost use lib.ListN.{length};
 ghost use Rattle.hash.specs.Sha256 as S;
 ghost use Rattle.hash.specs.LastChunk.{Size, bitLength, lastChunk};
 
-// The bit length of a block of `size` bytes, in seven cases; 0 for what is no size.
+// The bit length of a label and a block of `size` bytes, in seven cases; 0 for what is no size.
 pub(crate) fn bit_length(size: usize) -> u64
     ensures { λ r. ⌜ r ≡ bitLength size ⌝ }
 {
     match size {
-        64 => 512,
-        128 => 1024,
-        256 => 2048,
-        512 => 4096,
-        1024 => 8192,
-        2048 => 16384,
-        4096 => 32768,
+        64 => 1024,
+        128 => 1536,
+        256 => 2560,
+        512 => 4608,
+        1024 => 8704,
+        2048 => 16896,
+        4096 => 33280,
         _ => 0,
     }
 }
@@ -41,12 +42,12 @@ pub(crate) fn last_chunk(bits: u64) -> [u8; 64]
     b
 }
 
-// The digest of a block: that of `sha256`, with the padding chosen by the block's size.
-pub fn block_sha256(block: &[u8]) -> [u8; 32]
+// The fingerprint of a block under an office label: SHA-256 over the label and the block, which are not copied together.
+pub fn labelled_sha256(label: [u8; 64], block: &[u8]) -> [u8; 32]
     requires { ⌜ Size (length (now block)) ⌝ }
-    ensures { λ r. ⌜ r ≡ S.sha256 (now (block .entry)) ⌝ }
+    ensures { λ r. ⌜ r ≡ S.sha256 (label ++ now (block .entry)) ⌝ }
 {
     let last = last_chunk(bit_length(block.len()));
-    let s = blocks(initial(), block);
-    digest(compress(s, &last))
+    let s = compress(initial(), &label);
+    digest(compress(blocks(s, block), &last))
 }

@@ -1,6 +1,8 @@
 // SHA-256 under names that C and Rust can link, for tests/ and bench/ only.
 ghost use mathlib.Core.Path.{_≡_};
-ghost use mathlib.Core.Bool.{true};
+ghost use mathlib.Core.Bool.{true, cond};
+ghost use mathlib.Core.List.{_++_};
+ghost use lib.ListN.{length};
 ghost use Rattle.hash.specs.Sha256 as S;
 ghost use Rattle.hash.specs.LastChunk.{Size};
 
@@ -22,14 +24,19 @@ fn is_size(n: usize) -> bool
     }
 }
 
-// Puts the digest of a block into `digest`, its padding chosen by its size. Bytes of another length get their digest as any message does.
+// Puts the fingerprint of a block under a label into `digest`. Whether the block has one of the seven lengths: `digest` is kept where it hasn't.
 #[no_mangle]
-pub extern "C" fn hash_probe_block_sha256(block: &[u8], digest: &mut [u8; 32])
-    ensures { λ _. ⌜ now (digest .exit) ≡ S.sha256 (now (block .entry)) ⌝ }
+pub extern "C" fn hash_probe_labelled_sha256(
+    label: &[u8; 64],
+    block: &[u8],
+    digest: &mut [u8; 32],
+) -> bool
+    ensures { λ r. ⌜ (r ≡ true → Size (length (now (block .entry)))) × (Size (length (now (block .entry))) → r ≡ true) ⌝ }
+    ensures { λ r. ⌜ now (digest .exit) ≡ cond r (S.sha256 (now (label .entry) ++ now (block .entry))) (now (digest .entry)) ⌝ }
 {
-    if is_size(block.len()) {
-        *digest = hash::fingerprint::block_sha256(block);
-        return;
+    if !is_size(block.len()) {
+        return false;
     }
-    *digest = hash::sha256(block);
+    *digest = hash::fingerprint::labelled_sha256(*label, block);
+    true
 }

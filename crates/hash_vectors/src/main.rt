@@ -1,5 +1,6 @@
-// Prints the SHA-256 digests of the standard's example messages, and of a block of each size of the cache, one to a line.
+// Prints the SHA-256 digests of the standard's example messages, and the fingerprint of a block of each size of the cache, one to a line.
 ghost use mathlib.Core.Path.{_≡_};
+ghost use mathlib.Core.List.{_++_};
 ghost use Prim.Native.Nat.{_<_};
 ghost use lib.ListN.{length, replicate};
 ghost use Rattle.io.specs.Digits.{glyph as glyphOf};
@@ -41,13 +42,13 @@ fn of_message(message: &[u8]) -> [u8; 64]
     hex(hash::sha256(message))
 }
 
-// The digest of a block, in hexadecimal.
-fn of_block(block: &[u8]) -> [u8; 64]
+// The fingerprint of a block under a label, in hexadecimal.
+fn of_block(label: [u8; 64], block: &[u8]) -> [u8; 64]
     requires { ⌜ Size (length (now block)) ⌝ }
     ensures { λ r. ⌜ 64 ≡ length r ⌝ }
-    ensures { λ r. ⌜ r ≡ Hex.hex (S.sha256 (now (block .entry))) 32 ⌝ }
+    ensures { λ r. ⌜ r ≡ Hex.hex (S.sha256 (label ++ now (block .entry))) 32 ⌝ }
 {
-    hex(hash::fingerprint::block_sha256(block))
+    hex(hash::fingerprint::labelled_sha256(label, block))
 }
 
 // Writes a line with a digest and the name of what it is of.
@@ -65,23 +66,23 @@ fn show(name: &[u8], message: &[u8]) {
     line(of_message(message), name);
 }
 
-// Writes a line with a block's digest and its name.
+// Writes a line with a block's fingerprint under a label of 64 letters, and its name.
 fn show_block(name: &[u8], block: &[u8])
     requires { ⌜ Size (length (now block)) ⌝ }
 {
-    line(of_block(block), name);
+    line(of_block([b'l'; 64], block), name);
 }
 
-// A block of each size, of letters.
+// A block of each size, of letters, under the label.
 fn blocks() {
     let letters = [b'a'; 4096];
-    show_block(b"a, 64 times", &letters[0..64]);
-    show_block(b"a, 128 times", &letters[0..128]);
-    show_block(b"a, 256 times", &letters[0..256]);
-    show_block(b"a, 512 times", &letters[0..512]);
-    show_block(b"a, 1024 times", &letters[0..1024]);
-    show_block(b"a, 2048 times", &letters[0..2048]);
-    show_block(b"a, 4096 times", &letters[0..4096]);
+    show_block(b"l, 64 times, a, 64 times", &letters[0..64]);
+    show_block(b"l, 64 times, a, 128 times", &letters[0..128]);
+    show_block(b"l, 64 times, a, 256 times", &letters[0..256]);
+    show_block(b"l, 64 times, a, 512 times", &letters[0..512]);
+    show_block(b"l, 64 times, a, 1024 times", &letters[0..1024]);
+    show_block(b"l, 64 times, a, 2048 times", &letters[0..2048]);
+    show_block(b"l, 64 times, a, 4096 times", &letters[0..4096]);
 }
 
 // A million letters. The length is what lending the array needs.

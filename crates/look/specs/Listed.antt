@@ -9,8 +9,8 @@ use borrow.Author.Tests.{eqb-true, eqb-false}
 use Rattle.counters.specs.declared.Counters as Code
 use Rattle.paper.specs.KeyedLaws.{by-test}
 use Rattle.paper.specs.Cache.{Numbers, Counters}
-use Rattle.paper.specs.Lent.{Lent, Ask, After, opening, calling, refusal, served, call, opened}
-use Rattle.paper.specs.RefusalLaws.{served-is, keeps}
+use Rattle.paper.specs.Lent.{Lent, Ask, After, opening, calling, refusal, served, call, opened, withLabel}
+use Rattle.paper.specs.RefusalLaws.{served-is, keeps, label-carried}
 use Rattle.paper.specs.Demand3.{next, Demand3}
 use Rattle.paper.specs.BatchLent.{Asking, one, many, BatchAfter, callBatch}
 use Rattle.paper.specs.Demand3Laws.{demand-3, Written, opened-written, next-written, look-stays}
@@ -18,7 +18,7 @@ use Rattle.parts.specs.declared.BoxRecord.{BoxRecord}
 use Rattle.parts.specs.Rep.{numbersOf}
 use Rattle.refusals.specs.Given.{countersOf, lent}
 use Rattle.open.specs.declared.Begun.{Begun}
-use Rattle.open.specs.Contract.{Opened, begun, opens, numberOf}
+use Rattle.open.specs.Contract.{Opened, begun, opens, openingNumber}
 use Rattle.policy.specs.declared.Answer as CodeAnswer
 use Rattle.policy.specs.declared.many.Answer as ManyAnswer
 use Rattle.policy.specs.Contract.{answerOf, Told, told, called, manyAnswerOf, ToldMany, toldMany, calledMany}
@@ -200,13 +200,16 @@ module _ (b : BoxRecord) (disk flash addresses blocks : List ℕ) (k : Counters)
   abbrev pub given : Lent
   given = lent b disk flash addresses blocks k
 
-  pub policy-demand-3 : begun r disk flash addresses′ blocks′ ≡ opens b disk flash addresses blocks k → numberOf (r .answer) ≡ 0
+  pub policy-demand-3 : begun r disk flash addresses′ blocks′ ≡ opens b disk flash addresses blocks k → openingNumber (r .answer) ≡ 0
       → InTurn (first r disk flash addresses′ blocks′) cs
       → Follows (numbersOf b) (opened (numbersOf b) given) cs × Demand3 (numbersOf b) (opened (numbersOf b) given) (map askedBy cs)
   policy-demand-3 e z m =
       let o : refusal (numbersOf b) given opening ≡ 0 = sym (ap (λ (x : Opened). x .number) e) ∙ z in
       let i : Is (numbersOf b) (first r disk flash addresses′ blocks′) (opened (numbersOf b) given)
-      = record { numbers = ap (λ (x : Opened). x .numbers) e; lent = ap (λ (x : Opened). x .lent) e } in (
+      = record {
+        numbers = ap (λ (x : Opened). x .numbers) e ∙ ap (withLabel (numbersOf b)) (label-carried (numbersOf b) given o);
+        lent = ap (λ (x : Opened). x .lent) e;
+      } in (
         follows (numbersOf b) (first r disk flash addresses′ blocks′) (opened (numbersOf b) given) cs i (opened-written (numbersOf b) given o) m,
         demand-3 (numbersOf b) given (map askedBy cs) o,
       )

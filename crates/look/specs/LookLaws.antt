@@ -10,7 +10,7 @@ use Rattle.tables.specs.Rows.{rowAt}
 use Rattle.tables.specs.Records.{readBlock}
 use Rattle.paper.specs.KeyedLaws.{by-test, by-option}
 use Rattle.paper.specs.Cache.{Numbers, Box, Counters, rowWithBlock, slotOf, serve, lookAs}
-use Rattle.paper.specs.Engine.{Fixed, engine}
+use Rattle.paper.specs.Engine.{Fixed, labelled, comparing}
 use Rattle.paper.specs.Lent.{Lent, Ask, calling, refusal, boxIn, callOf, call, served}
 use Rattle.paper.specs.Index.{indexWhere}
 use Rattle.paper.specs.RowBytes.{Bytes}
@@ -19,9 +19,9 @@ use Rattle.paper.specs.CallLaws.{served-finds}
 use Rattle.parts.specs.declared.BoxRecord.{BoxRecord}
 use Rattle.look.specs.declared.Place.{Place}
 use Rattle.look.specs.declared.Place.the-variants.{Refused, Flash, Disk}
-use Rattle.parts.specs.Rep.{numbersOf, Rep, noRow}
+use Rattle.parts.specs.Rep.{numbersOf, Rep, noRow, engine}
 use Rattle.refusals.specs.Given.{lent}
-use Rattle.look.specs.Look.{placeIn, whereIs, answerAt, partAt}
+use Rattle.look.specs.Look.{rowPlace, whereIs, answerAt, partAt}
 use Rattle.parts.specs.CopyLaws.{part-block, parts-length, block-ends, slot-some, slotOf-below}
 use Rattle.serve.specs.ServeLaws.{hit-row, found-hit, found-miss}
 use Rattle.policy.specs.CallLaws.{rep, address-fits}
@@ -37,20 +37,20 @@ module _ (b : BoxRecord) (disk flash addrs blocks : List ℕ) (k : Counters) (a 
 
   -- what the two searches find
   module _ (i j : ℕ) (ei : i ≡ indexWhere (λ x. eqb a (x .address)) (box .rows))
-      (ej : j ≡ cond (ltb i (b .held)) (length (box .free) + indexWhere (λ u. engine 0 .same (getD (box .rows) i noRow .fingerprint) (u .fingerprint))
+      (ej : j ≡ cond (ltb i (b .held)) (length (box .free) + indexWhere (λ u. comparing .same (getD (box .rows) i noRow .fingerprint) (u .fingerprint))
       (box .used)) (b .slots)) where
     pub found-flash : j < b .slots → (r : ℕ) → r ≡ readBlock (rowAt blocks j) .slot
         → Flash (record { 0 = r }) ≡ whereIs (numbersOf b) (lent b disk flash addrs blocks k) a
-    unfolding whereIs placeIn
+    unfolding whereIs rowPlace
     found-flash l r er =
         let q = found-hit b disk flash addrs blocks box is a i j ei ej l in
         let f = getD (box .rows) i noRow .fingerprint in
-        let s : r ≡ slotOf (engine (b .size)) f (box .used)
-        = slot-some (b .size) (b .slots) blocks (box .free) (box .used) f (is .blocks-are) j (q .place) (q .is-cached) r er in
+        let s : r ≡ slotOf (engine b) f (box .used)
+        = slot-some (numbersOf b) (b .slots) blocks (box .free) (box .used) f (is .blocks-are) j (q .place) (q .is-cached) r er in
         rw (e, hit-row b disk flash addrs blocks box is a i j q) (ap (λ (x : ℕ). Flash (record { 0 = x })) s)
 
     pub found-disk : b .slots ≤ j → Disk ≡ whereIs (numbersOf b) (lent b disk flash addrs blocks k) a
-    unfolding whereIs placeIn
+    unfolding whereIs rowPlace
     found-disk l = rw (e, found-miss b disk flash addrs blocks box is a i j ei ej l) refl
 
 -- a look that is refused
@@ -60,12 +60,12 @@ where-refused N t a number e n = rw (ne-eqb (refusal N t (calling (Ask.look a)))
 
 -- what a look answers, by the place
 pub look-answers : (N : Numbers) (t : Lent) (a : ℕ) → answerAt (whereIs N t a) ≡ (call N t (Ask.look a)) .answer
-unfolding whereIs placeIn answerAt served callOf serve lookAs
+unfolding whereIs rowPlace answerAt served callOf serve lookAs
 look-answers N t a =
     let q = Ask.look a in
     by-test (eqb (refusal N t (calling q)) 0)
     (λ y. rw (y, served-is N t q (eqb-true (refusal N t (calling q)) 0 y))
-    (by-option (rowWithBlock (engine (N .B)) (boxIn N t) a) (λ n. rw n refl) (λ r m. rw m refl)))
+    (by-option (rowWithBlock (labelled N) (boxIn N t) a) (λ n. rw n refl) (λ r m. rw m refl)))
     (λ y. rw y (sym (keeps N t q (eqb-false (refusal N t (calling q)) 0 y) .answer)))
 
 -- the bytes of a place are there
@@ -77,8 +77,8 @@ PartIn b flash disk a Disk = a * b .size + b .size ≤ length disk
 module _ (b : BoxRecord) (disk flash addrs blocks : List ℕ) (k : Counters) (a : ℕ) (ba : Bytes addrs) (bb : Bytes blocks) where
   -- the slot of a row's block, and the address
   slot-below : (e : refusal (numbersOf b) (lent b disk flash addrs blocks k) (calling (Ask.look a)) ≡ 0) (f : Fixed 32)
-      → slotOf (engine (b .size)) f (boxIn (numbersOf b) (lent b disk flash addrs blocks k) .used) < b .slots
-  slot-below e f = slotOf-below (b .size) (b .slots) f (box b disk flash addrs blocks k a e ba bb .used)
+      → slotOf (engine b) f (boxIn (numbersOf b) (lent b disk flash addrs blocks k) .used) < b .slots
+  slot-below e f = slotOf-below (numbersOf b) (b .slots) f (box b disk flash addrs blocks k a e ba bb .used)
       (served-finds (numbersOf b) (lent b disk flash addrs blocks k) (Ask.look a) e .fits .d-least)
       (is b disk flash addrs blocks k a e ba bb .blocks-are .used-below)
 
@@ -86,7 +86,7 @@ module _ (b : BoxRecord) (disk flash addrs blocks : List ℕ) (k : Counters) (a 
   address-below e = address-fits b disk flash addrs blocks k (Ask.look a) e a refl
 
   pub where-in : PartIn b flash disk a (whereIs (numbersOf b) (lent b disk flash addrs blocks k) a)
-  unfolding whereIs placeIn
+  unfolding whereIs rowPlace
   where-in =
       let N = numbersOf b in
       let t = lent b disk flash addrs blocks k in
@@ -95,16 +95,16 @@ module _ (b : BoxRecord) (disk flash addrs blocks : List ℕ) (k : Counters) (a 
       (λ y.
       let e = eqb-true n 0 y in
       let h = is b disk flash addrs blocks k a e ba bb in
-      rw y (by-option (rowWithBlock (engine (b .size)) (boxIn N t) a)
+      rw y (by-option (rowWithBlock (engine b) (boxIn N t) a)
       (λ w. rw (w, parts-length (b .size) (b .blocks) disk (boxIn N t .disk) (h .disk-is)) (block-ends a (b .blocks) (b .size) (address-below e)))
       (λ r w. rw (w, parts-length (b .size) (b .slots) flash (boxIn N t .flash) (h .flash-is))
-      (block-ends (slotOf (engine (b .size)) (r .fingerprint) (boxIn N t .used)) (b .slots) (b .size) (slot-below e (r .fingerprint))))))
+      (block-ends (slotOf (engine b) (r .fingerprint) (boxIn N t .used)) (b .slots) (b .size) (slot-below e (r .fingerprint))))))
       (λ y. rw y tt)
 
   -- what a look returns, by the place
   pub look-returns : partAt (b .size) a flash disk (whereIs (numbersOf b) (lent b disk flash addrs blocks k) a)
       ≡ (call (numbersOf b) (lent b disk flash addrs blocks k) (Ask.look a)) .part
-  unfolding whereIs placeIn partAt served callOf serve lookAs
+  unfolding whereIs rowPlace partAt served callOf serve lookAs
   look-returns =
       let N = numbersOf b in
       let t = lent b disk flash addrs blocks k in
@@ -114,8 +114,8 @@ module _ (b : BoxRecord) (disk flash addrs blocks : List ℕ) (k : Counters) (a 
       let e = eqb-true n 0 y in
       let h = is b disk flash addrs blocks k a e ba bb in
       rw (y, served-is N t (Ask.look a) e)
-      (by-option (rowWithBlock (engine (b .size)) (boxIn N t) a)
-      (λ w. rw w (part-block (b .size) (b .blocks) disk (boxIn N t .disk) (h .disk-is) a (engine (b .size) .blank) (address-below e)))
-      (λ r w. rw w (part-block (b .size) (b .slots) flash (boxIn N t .flash) (h .flash-is) (slotOf (engine (b .size)) (r .fingerprint) (boxIn N t .used))
-      (engine (b .size) .blank) (slot-below e (r .fingerprint))))))
+      (by-option (rowWithBlock (engine b) (boxIn N t) a)
+      (λ w. rw w (part-block (b .size) (b .blocks) disk (boxIn N t .disk) (h .disk-is) a (engine b .blank) (address-below e)))
+      (λ r w. rw w (part-block (b .size) (b .slots) flash (boxIn N t .flash) (h .flash-is) (slotOf (engine b) (r .fingerprint) (boxIn N t .used))
+      (engine b .blank) (slot-below e (r .fingerprint))))))
       (λ y. rw y (sym (keeps N t (Ask.look a) (eqb-false n 0 y) .part)))

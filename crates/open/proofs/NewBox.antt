@@ -1,37 +1,81 @@
 -- What an opening leaves, refused and not. Assumes nothing.
-use mathlib.Core.Path.{_≡_, sym, ap, _∙_}
-use mathlib.Core.List.{List}
-use Prim.Native.Nat.{ℕ}
+use mathlib.Core.Path.{_≡_, refl, sym, ap, _∙_}
+use mathlib.Core.Bool.{Bool, true, false, _||_, cond}
+use mathlib.Core.List.{List, [], _∷_}
+use Prim.Native.Nat.{ℕ, _*_}
+use lib.Dec.{eqb}
+use lib.ListN.{length, replicate}
+use borrow.Author.Tests.{eq-eqb, ne-eqb}
 use Rattle.counters.specs.declared.Counters as Code
+use Rattle.tables.specs.Rows.{tableBytes, zeros}
 use Rattle.tables.specs.Records.{freshAddresses, freshBlocks}
-use Rattle.paper.specs.Cache.{noCounts}
-use Rattle.paper.specs.Lent.{opening, refusal, fresh, unopened, opened}
-use Rattle.paper.specs.RefusalLaws.{refused-opening, opened-is}
+use Rattle.paper.specs.Cache.{Numbers, noCounts}
+use Rattle.paper.specs.Lent.{Lent, opening, test, first, unfit, otherLength, wrongBuffers, refusal, fresh, unopened, opened, labelAfter}
+use Rattle.paper.specs.RefusalLaws.{refused-opening, opened-is, label-carried, label-zeros}
+use Rattle.open.specs.declared.Begun.{Begun}
 use Rattle.open.specs.declared.Opening.the-variants.{Refused, Open}
+use Rattle.parts.specs.declared.BoxRecord.{BoxRecord}
 use Rattle.parts.specs.Rep.{numbersOf, emptyBox}
 use Rattle.refusals.specs.Given.{countersOf, lent}
 use Rattle.open.specs.Contract.{begun, opens}
 
-module _ (size blocks rows slots : ℕ) (disk flash addresses table : List ℕ) (c : Code.Counters) (no : ℕ)
-    (e : no ≡ refusal (numbersOf (emptyBox size blocks rows slots)) (lent (emptyBox size blocks rows slots) disk flash addresses table (countersOf c)) opening) where
-  pub opening-refused : (no ≡ 0 → ⊥)
-      → begun (record { answer = Refused no; box_record = emptyBox size blocks rows slots; counters = c }) disk flash addresses table ≡ opens (emptyBox size blocks rows slots) disk flash addresses table (countersOf c)
-  unfolding unopened
-  opening-refused n =
-      let b = emptyBox size blocks rows slots in
-      let t = lent b disk flash addresses table (countersOf c) in
-      let l : t ≡ opened (numbersOf b) t = sym (refused-opening (numbersOf b) t (λ z. n (e ∙ z))) in
-      λ i. record { number = e i; numbers = numbersOf b; lent = l i }
+-- of 1 and 2, the label's length is what an opening looks at last
+last : (u x y : Bool) → let a = first (test u 1 ∷ test (x || false) 2 ∷ []) in first (test u 1 ∷ test (x || y) 2 ∷ []) ≡ cond (eqb a 0) (cond y 2 0) a
+last true x y = refl
+last false true y = refl
+last false false true = refl
+last false false false = refl
 
-  pub opening-done : no ≡ 0 → (addresses′ table′ : List ℕ) (c′ : Code.Counters) → addresses′ ≡ freshAddresses rows → table′ ≡ freshBlocks slots → c′ ≡ record { reads = 0; hits = 0; flash = 0; primary = 0 }
-      → begun (record { answer = Open; box_record = emptyBox size blocks rows slots; counters = c′ }) disk flash addresses′ table′
-      ≡ opens (emptyBox size blocks rows slots) disk flash addresses table (countersOf c)
+module _ (size blocks rows slots : ℕ) (label disk flash addresses table : List ℕ) (c : Code.Counters) where
+  -- the record with the label given, and with one of zeros
+  abbrev given : BoxRecord
+  given = emptyBox size blocks rows slots label
+
+  abbrev pub zeroed : BoxRecord
+  zeroed = emptyBox size blocks rows slots (replicate 64 0)
+
+  abbrev N : Numbers
+  N = numbersOf given
+
+  abbrev t : Lent
+  t = lent given disk flash addresses table (countersOf c)
+
+  by-label : let a = refusal (numbersOf zeroed) t opening in refusal N t opening ≡ cond (eqb a 0) (cond (otherLength label 64) 2 0) a
+  unfolding refusal unfit wrongBuffers
+  by-label =
+      last (unfit N)
+      (otherLength disk (blocks * size) || otherLength flash (slots * size) || otherLength addresses (tableBytes rows) || otherLength table (tableBytes slots))
+      (otherLength label 64)
+
+  module _ (no : ℕ) (e : no ≡ refusal (numbersOf zeroed) t opening) where
+    pub number-kept : (no ≡ 0 → ⊥) → no ≡ refusal N t opening
+    number-kept n = e ∙ sym (by-label ∙ rw (ne-eqb (refusal (numbersOf zeroed) t opening) 0 (λ z. n (e ∙ z))) refl)
+
+    pub number-two : no ≡ 0 → (length label ≡ 64 → ⊥) → 2 ≡ refusal N t opening
+    number-two z n = sym (by-label ∙ rw (sym e ∙ z, ne-eqb (length label) 64 n) refl)
+
+    pub number-none : no ≡ 0 → length label ≡ 64 → refusal N t opening ≡ 0
+    number-none z l = by-label ∙ rw (sym e ∙ z, eq-eqb (length label) 64 l) refl
+
+  pub opening-refused : (b : BoxRecord) → b ≡ zeroed → (r : Begun) (number : ℕ) → r ≡ record { answer = Refused number; box_record = b; counters = c }
+      → number ≡ refusal N t opening → (number ≡ 0 → ⊥) → begun r disk flash addresses table ≡ opens given disk flash addresses table (countersOf c)
+  unfolding unopened zeros
+  opening-refused b m r number er e n =
+      let z : refusal N t opening ≡ 0 → ⊥ = λ y. n (e ∙ y) in
+      let l : t ≡ opened N t = sym (refused-opening N t z) in
+      let s : replicate 64 0 ≡ labelAfter N t = sym (label-zeros N t z) in
+      ap (λ (x : Begun). begun x disk flash addresses table) (er ∙ ap (λ (x : BoxRecord). record { answer = Refused number; box_record = x; counters = c }) m)
+      ∙ (λ i. record { number = e i; numbers = record { B = size; P = blocks; m = rows; d = slots; label = s i }; lent = l i })
+
+  pub opening-done : refusal N t opening ≡ 0 → (b : BoxRecord) → b ≡ given → (addresses′ table′ : List ℕ) (c′ : Code.Counters)
+      → addresses′ ≡ freshAddresses rows → table′ ≡ freshBlocks slots → c′ ≡ record { reads = 0; hits = 0; flash = 0; primary = 0 }
+      → begun (record { answer = Open; box_record = b; counters = c′ }) disk flash addresses′ table′ ≡ opens given disk flash addresses table (countersOf c)
   unfolding fresh
-  opening-done z addresses′ table′ c′ ea et ec =
-      let b = emptyBox size blocks rows slots in
-      let t = lent b disk flash addresses table (countersOf c) in
+  opening-done z b eb addresses′ table′ c′ ea et ec =
       let k : countersOf c′ ≡ noCounts = ap countersOf ec in
-      let f : lent b disk flash addresses′ table′ (countersOf c′) ≡ fresh (numbersOf b) t = λ i. record { n = 0; disk = disk; flash = flash; addresses = ea i; blocks = et i; counters = k i } in
-      let l : lent b disk flash addresses′ table′ (countersOf c′) ≡ opened (numbersOf b) t = f ∙ sym (opened-is (numbersOf b) t (sym e ∙ z)) in
-      let n : 0 ≡ refusal (numbersOf b) t opening = sym z ∙ e in
-      λ i. record { number = n i; numbers = numbersOf b; lent = l i }
+      let f : lent given disk flash addresses′ table′ (countersOf c′) ≡ fresh N t
+      = λ i. record { n = 0; disk = disk; flash = flash; addresses = ea i; blocks = et i; counters = k i } in
+      let l : lent given disk flash addresses′ table′ (countersOf c′) ≡ opened N t = f ∙ sym (opened-is N t z) in
+      let s : label ≡ labelAfter N t = sym (label-carried N t z) in
+      ap (λ (x : BoxRecord). begun (record { answer = Open; box_record = x; counters = c′ }) disk flash addresses′ table′) eb
+      ∙ (λ i. record { number = sym z i; numbers = record { B = size; P = blocks; m = rows; d = slots; label = s i }; lent = l i })

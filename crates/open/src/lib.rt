@@ -2,9 +2,11 @@
 use counters::Counters;
 use parts::BoxRecord;
 ghost use mathlib.Core.Path.{_≡_};
+ghost use lib.ListN.{length};
 ghost use Rattle.parts.specs.Rep.{emptyBox};
 ghost use Rattle.refusals.specs.Given.{countersOf};
 ghost use Rattle.open.specs.Contract.{begun, opens};
+ghost use Rattle.open.specs.declared.Opening.the-variants.{Refused};
 
 // The answer of an opening.
 pub enum Opening {
@@ -31,12 +33,43 @@ pub(crate) fn no_counts() -> Counters
     }
 }
 
-// Opens a box of these numbers over lent memory: the tables and the counters become fresh, flash and disk keep their bytes.
+// A refusal: the record and the counters as given.
+pub(crate) fn unopened(number: u32, b: BoxRecord, c: Counters) -> Begun
+    ensures { λ r. ⌜ r ≡ record { answer = Refused number; box_record = b; counters = c } ⌝ }
+{
+    Begun {
+        answer: Opening::Refused(number),
+        box_record: b,
+        counters: c,
+    }
+}
+
+// The record with the label `label`.
+pub(crate) fn with_label(b: BoxRecord, label: &[u8]) -> BoxRecord
+    requires { ⌜ length (now label) ≡ 64 ⌝ }
+    ensures { λ r. ⌜ r ≡ record {
+      size = b .size;
+      blocks = b .blocks;
+      rows = b .rows;
+      slots = b .slots;
+      held = b .held;
+      label = now (label .entry);
+    } ⌝ }
+{
+    let mut own = [0u8; 64];
+    block::copy_all(label, &mut own);
+    let mut r = b;
+    r.label = own;
+    r
+}
+
+// Opens a box of these numbers and this label over lent memory: the tables and the counters become fresh, flash and disk keep their bytes.
 pub fn open(
     size: usize,
     blocks: usize,
     rows: usize,
     slots: usize,
+    label: &[u8],
     disk: &[u8],
     flash: &[u8],
     addresses: &mut [u8],
@@ -44,23 +77,22 @@ pub fn open(
     c: Counters,
 ) -> Begun
     ensures { λ r. ⌜ begun r (now (disk .entry)) (now (flash .entry)) (now (addresses .exit)) (now (table .exit))
-        ≡ opens (emptyBox size blocks rows slots) (now (disk .entry)) (now (flash .entry))
+        ≡ opens (emptyBox size blocks rows slots (now (label .entry))) (now (disk .entry)) (now (flash .entry))
         (now (addresses .entry)) (now (table .entry)) (countersOf c) ⌝ }
 {
-    let b = parts::empty_box(size, blocks, rows, slots);
+    let b = parts::empty_box(size, blocks, rows, slots, [0u8; 64]);
     let no = refusals::of_opening(b, disk, flash, addresses, table);
     if no != 0 {
-        return Begun {
-            answer: Opening::Refused(no),
-            box_record: b,
-            counters: c,
-        };
+        return unopened(no, b, c);
+    }
+    if label.len() != 64 {
+        return unopened(2, b, c);
     }
     tables::fresh::fresh_addresses(addresses, rows);
     tables::fresh::fresh_blocks(table, slots);
     Begun {
         answer: Opening::Open,
-        box_record: b,
+        box_record: with_label(b, label),
         counters: no_counts(),
     }
 }

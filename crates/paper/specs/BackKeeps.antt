@@ -15,7 +15,7 @@ use Rattle.paper.specs.Cache.{stored, step3, step4, step, answer, writeB
 use Rattle.paper.specs.Cases.{ownOut, eldestOut, noneOut, by-step1, by-step4}
 use Rattle.paper.specs.Sound.{chosen-slot}
 use Rattle.paper.specs.Faithful.{at, at-set-other}
-use Rattle.paper.specs.Engine.{Fixed, fit, engine}
+use Rattle.paper.specs.Engine.{Fixed, fit, labelled}
 use Rattle.paper.specs.Lent.{Lent, Ask, calling, refusal, callOf, boxIn, call}
 use Rattle.paper.specs.RefusalLaws.{keeps}
 use Rattle.paper.specs.CallLaws.{served-box}
@@ -88,11 +88,11 @@ module _ {F X : Type 0} (H : Hashing F X) (a : ℕ) where
 
 -- the same of lent memory, served or refused
 pub back-keeps-lent : (N : Numbers) (t : Lent) (a : ℕ) (l : List ℕ)
-    → at (engine (N .B)) ((boxIn N ((call N t (Ask.back a l)) .lent)) .disk) a ≡ at (engine (N .B)) ((boxIn N t) .disk) a
+    → at (labelled N) ((boxIn N ((call N t (Ask.back a l)) .lent)) .disk) a ≡ at (labelled N) ((boxIn N t) .disk) a
 unfolding callOf
 back-keeps-lent N t a l =
     let q = Ask.back a l in
     by-test (eqb (refusal N t (calling q)) 0)
-    (λ y. ap (λ (s : Box (Fixed 32) (Fixed (N .B))). at (engine (N .B)) (s .disk) a) (served-box N t q (eqb-true (refusal N t (calling q)) 0 y))
-    ∙ back-keeps-a (engine (N .B)) a N (boxIn N t) (fit (N .B) l))
-    (λ y. ap (λ x. at (engine (N .B)) ((boxIn N x) .disk) a) (keeps N t q (eqb-false (refusal N t (calling q)) 0 y) .lent))
+    (λ y. ap (λ (s : Box (Fixed 32) (Fixed (N .B))). at (labelled N) (s .disk) a) (served-box N t q (eqb-true (refusal N t (calling q)) 0 y))
+    ∙ back-keeps-a (labelled N) a N (boxIn N t) (fit (N .B) l))
+    (λ y. ap (λ x. at (labelled N) ((boxIn N x) .disk) a) (keeps N t q (eqb-false (refusal N t (calling q)) 0 y) .lent))

@@ -6,7 +6,7 @@ use Prim.Native.Nat.{ℕ, _*_}
 use lib.Dec.{eqb, leb, ltb}
 use lib.ListN.{length}
 use Rattle.paper.specs.Cache.{Numbers}
-use Rattle.paper.specs.Engine.{Fixed, engine}
+use Rattle.paper.specs.Engine.{Fixed, labelled}
 use Rattle.paper.specs.Lent.{Lent, Ask, Test, test, first, tableTests, unfit, wrongBuffers, otherLength, over, boxIn, lentOf, join, served}
 use Rattle.paper.specs.Batch as Paper
 use Rattle.paper.specs.Batch.{Batched, start, blocksIn}
@@ -44,7 +44,7 @@ pub record BatchAfter : Type 0 where
   pub buffer : List ℕ
 
 abbrev pub batchedFrom : (N : Numbers) → Lent → List ℕ → Batched (Fixed 32) (Fixed (N .B))
-batchedFrom N t l = Paper.batch (engine (N .B)) N (start (boxIn N t) (t .counters)) l
+batchedFrom N t l = Paper.batch (labelled N) N (start (boxIn N t) (t .counters)) l
 
 unfoldable pub servedBatch : Numbers → Lent → List ℕ → BatchAfter
 servedBatch N t l =

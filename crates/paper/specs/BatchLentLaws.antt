@@ -12,7 +12,7 @@ use Rattle.tables.specs.Rows.{tableBytes}
 use Rattle.tables.specs.Unsound.{addressesUnsound, blocksUnsound, dirtyUncached}
 use Rattle.paper.specs.Cache.{Numbers, Call, counted, serve}
 use Rattle.paper.specs.KeyedLaws.{eqb-self, All, or-false-left, or-false-right}
-use Rattle.paper.specs.Engine.{Fixed, engine}
+use Rattle.paper.specs.Engine.{Fixed, labelled}
 use Rattle.paper.specs.Lent.{Lent, Ask, test, oneOf, calling, callOf, refusal, unfit, wrongBuffers, otherLength, over, boxIn, lentOf, served}
 use Rattle.paper.specs.Sound.{Sound, sound-serve}
 use Rattle.paper.specs.Orphans.{NoWaste}
@@ -148,11 +148,11 @@ module _ (N : Numbers) (t : Lent) (l buffer : List ℕ) (e : batchRefusal N t l 
   unfolding servedBatch
   batch-lent = ap (λ a. a .lent) (batch-served N t l buffer e)
 
-  pub batch-leaves : Sound (engine (N .B)) N (left .box)
-      × (NoWaste (engine (N .B)) ((boxIn N t) .rows) ((boxIn N t) .used) → NoWaste (engine (N .B)) (left .box .rows) (left .box .used))
+  pub batch-leaves : Sound (labelled N) N (left .box)
+      × (NoWaste (labelled N) ((boxIn N t) .rows) ((boxIn N t) .used) → NoWaste (labelled N) (left .box .rows) (left .box .used))
   batch-leaves =
       let x = batch-finds N t l buffer e in
-      batch-sound (engine (N .B)) N (x .fits .m-least) (x .fits .d-least) (start (boxIn N t) (t .counters)) l (x .within) (passes-sound N t (x .passes))
+      batch-sound (labelled N) N (x .fits .m-least) (x .fits .d-least) (start (boxIn N t) (t .counters)) l (x .within) (passes-sound N t (x .passes))
 
   pub batch-box : boxIn N ((callBatch N t l buffer) .lent) ≡ left .box
   batch-box =
@@ -169,7 +169,7 @@ module _ (N : Numbers) (t : Lent) (l buffer : List ℕ) (e : batchRefusal N t l 
   unfolding lentOf
   batch-fits =
       let x = batch-finds N t l buffer e in
-      let g = batch-grows (engine (N .B)) N (x .fits .m-least) (x .fits .d-least) (x .fits .m-most) (start (boxIn N t) (t .counters)) l
+      let g = batch-grows (labelled N) N (x .fits .m-least) (x .fits .d-least) (x .fits .m-most) (start (boxIn N t) (t .counters)) l
       (passes-sound N t (x .passes)) (x .within) in
       let n = x .count in
       let h = not-over (t .counters) (x .counters) in
@@ -187,30 +187,30 @@ module _ (N : Numbers) (t : Lent) (l buffer : List ℕ) (e : batchRefusal N t l 
 -- ---- the reads done in turn, in bytes
 
 module _ (N : Numbers) (f : Fits N) where
-  in-turn-from : (v : Batched (Fixed 32) (Fixed (N .B))) (l : List ℕ) → Sound (engine (N .B)) N (v .box) → All (λ a. a < N .P) l
-      → let w = inTurn (engine (N .B)) N v l in servedInTurn N (lentOf N (v .box) (v .counters)) l ≡ lentOf N (w .box) (w .counters)
+  in-turn-from : (v : Batched (Fixed 32) (Fixed (N .B))) (l : List ℕ) → Sound (labelled N) N (v .box) → All (λ a. a < N .P) l
+      → let w = inTurn (labelled N) N v l in servedInTurn N (lentOf N (v .box) (v .counters)) l ≡ lentOf N (w .box) (w .counters)
   unfolding inTurn servedInTurn served callOf lentOf
   in-turn-from v [] h w = refl
   in-turn-from v (a ∷ l) h w =
-      let o = serve (engine (N .B)) N (v .box) (Call.read a) in
+      let o = serve (labelled N) N (v .box) (Call.read a) in
       let back = lent-back N (v .box) h (v .counters) (f .P-most) (f .d-most) in
-      ap (λ s. let p = serve (engine (N .B)) N s (Call.read a) in servedInTurn N (lentOf N (p .box) (counted (v .counters) (Call.read a) p)) l) back
-      ∙ in-turn-from (added (engine (N .B)) v a true o) l (sound-serve (engine (N .B)) N (v .box) (Call.read a) h (f .m-least) (f .d-least) (w .0)) (w .1)
+      ap (λ s. let p = serve (labelled N) N s (Call.read a) in servedInTurn N (lentOf N (p .box) (counted (v .counters) (Call.read a) p)) l) back
+      ∙ in-turn-from (added (labelled N) v a true o) l (sound-serve (labelled N) N (v .box) (Call.read a) h (f .m-least) (f .d-least) (w .0)) (w .1)
 
   pub in-turn-is : (t : Lent) (l : List ℕ) → Passes N t → All (λ a. a < N .P) l → 0 < length l
-      → let w = inTurn (engine (N .B)) N (start (boxIn N t) (t .counters)) l in servedInTurn N t l ≡ lentOf N (w .box) (w .counters)
+      → let w = inTurn (labelled N) N (start (boxIn N t) (t .counters)) l in servedInTurn N t l ≡ lentOf N (w .box) (w .counters)
   unfolding inTurn servedInTurn served callOf lentOf
   in-turn-is t [] p w n = absurd (omega (arith, n))
   in-turn-is t (a ∷ l) p w n =
-      let o = serve (engine (N .B)) N (boxIn N t) (Call.read a) in
-      in-turn-from (added (engine (N .B)) (start (boxIn N t) (t .counters)) a true o) l
-      (sound-serve (engine (N .B)) N (boxIn N t) (Call.read a) (passes-sound N t p) (f .m-least) (f .d-least) (w .0)) (w .1)
+      let o = serve (labelled N) N (boxIn N t) (Call.read a) in
+      in-turn-from (added (labelled N) (start (boxIn N t) (t .counters)) a true o) l
+      (sound-serve (labelled N) N (boxIn N t) (Call.read a) (passes-sound N t p) (f .m-least) (f .d-least) (w .0)) (w .1)
 
   read-passes : (t : Lent) (a : ℕ) → Passes N t → a < N .P → Passes N ((served N t (Ask.read a [])) .lent)
   unfolding served callOf
   read-passes t a p w =
-      let o = serve (engine (N .B)) N (boxIn N t) (Call.read a) in
-      sound-passes N (o .box) (sound-serve (engine (N .B)) N (boxIn N t) (Call.read a) (passes-sound N t p) (f .m-least) (f .d-least) w)
+      let o = serve (labelled N) N (boxIn N t) (Call.read a) in
+      sound-passes N (o .box) (sound-serve (labelled N) N (boxIn N t) (Call.read a) (passes-sound N t p) (f .m-least) (f .d-least) w)
       (counted (t .counters) (Call.read a) o) (f .P-most) (f .d-most)
 
   passes-in-turn : (t : Lent) (l : List ℕ) → Passes N t → All (λ a. a < N .P) l → Passes N (servedInTurn N t l)
@@ -218,18 +218,28 @@ module _ (N : Numbers) (f : Fits N) where
   passes-in-turn t [] p w = p
   passes-in-turn t (a ∷ l) p w = passes-in-turn ((served N t (Ask.read a [])) .lent) l (read-passes t a p (w .0)) (w .1)
 
-right-buffers : (N : Numbers) (t : Lent) → Passes N t → wrongBuffers N t ≡ false
+right-buffers : (N : Numbers) (t : Lent) → length (N .label) ≡ 64 → Passes N t → wrongBuffers N t ≡ false
 unfolding wrongBuffers
-right-buffers N t p =
+right-buffers N t l p =
     let x = p .lengths in
-    rw (x .disk, x .flash, x .addresses, x .blocks, eqb-self (N .P * N .B), eqb-self (N .d * N .B), eqb-self (tableBytes (N .m)), eqb-self (tableBytes (N .d)))
+    rw (
+      l,
+      x .disk,
+      x .flash,
+      x .addresses,
+      x .blocks,
+      eqb-self (N .P * N .B),
+      eqb-self (N .d * N .B),
+      eqb-self (tableBytes (N .m)),
+      eqb-self (tableBytes (N .d)),
+    )
     refl
 
 -- "with 9 checked only before the first": between the reads done in turn a single read would get 9 where a counter is over, and no other number
-pub only-9-between : (N : Numbers) (t : Lent) (l : List ℕ) (a : ℕ) (x : List ℕ) → unfit N ≡ false → Passes N t → All (λ b. b < N .P) l → a < N .P
-    → length x ≡ N .B → let u = servedInTurn N t l in refusal N u (calling (Ask.read a x)) ≡ cond (over (u .counters)) 9 0
+pub only-9-between : (N : Numbers) (t : Lent) (l : List ℕ) (a : ℕ) (x : List ℕ) → unfit N ≡ false → length (N .label) ≡ 64 → Passes N t
+    → All (λ b. b < N .P) l → a < N .P → length x ≡ N .B → let u = servedInTurn N t l in refusal N u (calling (Ask.read a x)) ≡ cond (over (u .counters)) 9 0
 unfolding refusal
-only-9-between N t l a x nu p w wa lx =
+only-9-between N t l a x nu nl p w wa lx =
     let u = servedInTurn N t l in
     let q = passes-in-turn N (fits N nu) t l p w in
-    rw (nu, right-buffers N u q, lx, eqb-self (N .B), lt-leb (N .P) a wa, q .addresses, q .blocks, q .dirty) refl
+    rw (nu, right-buffers N u nl q, lx, eqb-self (N .B), lt-leb (N .P) a wa, q .addresses, q .blocks, q .dirty) refl

@@ -16,6 +16,8 @@ pub record Numbers : Type 0 where
   pub P : ℕ
   pub m : ℕ
   pub d : ℕ
+  -- U6: "The box record carries the label": "a 64-byte office label"
+  pub label : List ℕ
 
 -- What the cache needs to know of blocks: the fingerprint of one, when two fingerprints are the same, and a block to stand for none.
 pub record Hashing (F X : Type 0) : Type 0 where

@@ -14,7 +14,7 @@ use Rattle.tables.specs.Unsound.{elem}
 use Rattle.paper.specs.Cache.{Numbers, About, about, Below, Outcome, Within, Counters, counted, serve, isRead, isHit}
 use Rattle.paper.specs.Cache.{flushed, dirtyRows, done}
 use Rattle.paper.specs.KeyedLaws.{All, clash, by-test, or-false-left, or-false-right, and-left, and-right}
-use Rattle.paper.specs.Engine.{Fixed, fit, engine}
+use Rattle.paper.specs.Engine.{Fixed, fit, labelled}
 use Rattle.paper.specs.Lent.{Lent, Ask, calling, callOf, aboutAsk, addressOf, lentBlock, between, unfit, wrongBuffers, wrongBlock, outside, over, counts}
 use Rattle.paper.specs.Lent.{answered, refusal, served, call, boxIn, lentOf}
 use Rattle.paper.specs.Sound.{Sound, sound-serve}
@@ -125,13 +125,13 @@ served-finds N t q e =
 
 -- the paper's outcome of a call on lent bytes
 abbrev pub outcome : (N : Numbers) → Lent → Ask → Outcome (Fixed 32) (Fixed (N .B))
-outcome N t q = serve (engine (N .B)) N (boxIn N t) (callOf (N .B) q)
+outcome N t q = serve (labelled N) N (boxIn N t) (callOf (N .B) q)
 
 module _ (N : Numbers) (t : Lent) (q : Ask) (e : refusal N t (calling q) ≡ 0) where
-  pub outcome-sound : Sound (engine (N .B)) N ((outcome N t q) .box)
+  pub outcome-sound : Sound (labelled N) N ((outcome N t q) .box)
   outcome-sound =
       let x = served-finds N t q e in
-      sound-serve (engine (N .B)) N (boxIn N t) (callOf (N .B) q) (passes-sound N t (x .passes)) (x .fits .m-least) (x .fits .d-least) (x .within)
+      sound-serve (labelled N) N (boxIn N t) (callOf (N .B) q) (passes-sound N t (x .passes)) (x .fits .m-least) (x .fits .d-least) (x .within)
 
   pub served-lent : (call N t q) .lent ≡ lentOf N ((outcome N t q) .box) (counted (t .counters) (callOf (N .B) q) (outcome N t q))
   unfolding served
@@ -169,7 +169,7 @@ adds-few N t q e =
     let o = outcome N t q in
     let k = t .counters in
     let c = callOf (N .B) q in
-    let few = serve-few (engine (N .B)) N (boxIn N t) c (passes-sound N t (x .passes)) (x .fits .m-least) in
+    let few = serve-few (labelled N) N (boxIn N t) c (passes-sound N t (x .passes)) (x .fits .m-least) in
     let f : o .flashWrites ≤ 1 = few .0 in
     let p : o .primaryWrites ≤ N .m + 1 = few .1 in
     let r = one-if-le (isRead c) in
@@ -237,7 +237,7 @@ counters-fit N t q h =
 look-counted : (N : Numbers) (t : Lent) (a : ℕ) → counted (t .counters) (callOf (N .B) (Ask.look a)) (outcome N t (Ask.look a)) ≡ t .counters
 unfolding counted callOf
 look-counted N t a =
-    let x = look-nothing (engine (N .B)) N (boxIn N t) a in
+    let x = look-nothing (labelled N) N (boxIn N t) a in
     let k = t .counters in
     let x₀ = x .0 in
     let x₁ = x .1 in
@@ -260,23 +260,23 @@ look-keeps N t a bytesA bytesB =
     (λ y.
     let e = eqb-true (refusal N t (calling q)) 0 y in
     let p = (served-finds N t q e) .passes in
-    served-lent N t q e ∙ ap₂ {C = Lent} (lentOf N) (look-same (engine (N .B)) N (boxIn N t) a) (look-counted N t a)
+    served-lent N t q e ∙ ap₂ {C = Lent} (lentOf N) (look-same (labelled N) N (boxIn N t) a) (look-counted N t a)
     ∙ lent-forth N t (p .lengths) bytesA bytesB (p .addresses) (p .blocks))
     (λ y. keeps N t q (eqb-false (refusal N t (calling q)) 0 y) .lent)
 
 -- "says how many it cleaned"; "The count is the smaller of k and the dirty rows before."
 pub flush-counts : (N : Numbers) (t : Lent) (k : ℕ) → refusal N t (calling (Ask.flush k)) ≡ 0
-    → (call N t (Ask.flush k)) .answer ≡ answered done 0 (min k (dirtyRows (engine (N .B)) ((boxIn N t) .rows)))
+    → (call N t (Ask.flush k)) .answer ≡ answered done 0 (min k (dirtyRows (labelled N) ((boxIn N t) .rows)))
 unfolding callOf serve flushed served
 flush-counts N t k e =
-    ap (λ x. x .answer) (served-is N t (Ask.flush k) e) ∙ ap (answered done 0) (count-is (engine (N .B)) k (boxIn N t))
+    ap (λ x. x .answer) (served-is N t (Ask.flush k) e) ∙ ap (answered done 0) (count-is (labelled N) k (boxIn N t))
 
 -- the rows that it leaves dirty are the newest of the dirty rows before
 pub flush-leaves : (N : Numbers) (t : Lent) (k : ℕ) → refusal N t (calling (Ask.flush k)) ≡ 0
     → dirtyOf ((boxIn N ((call N t (Ask.flush k)) .lent)) .rows)
-    ≡ drop (min k (dirtyRows (engine (N .B)) ((boxIn N t) .rows))) (dirtyOf ((boxIn N t) .rows))
+    ≡ drop (min k (dirtyRows (labelled N) ((boxIn N t) .rows))) (dirtyOf ((boxIn N t) .rows))
 unfolding callOf serve
-flush-leaves N t k e = ap (λ x. dirtyOf (x .rows)) (served-box N t (Ask.flush k) e) ∙ newest-stay (engine (N .B)) k (boxIn N t)
+flush-leaves N t k e = ap (λ x. dirtyOf (x .rows)) (served-box N t (Ask.flush k) e) ∙ newest-stay (labelled N) k (boxIn N t)
 
 -- after a full flush that is not refused no row is dirty
 pub flush-cleans : (N : Numbers) (t : Lent) → refusal N t (calling (Ask.flush (N .m))) ≡ 0
@@ -286,8 +286,8 @@ flush-cleans N t e =
     let few = (passes-sound N t ((served-finds N t (Ask.flush (N .m)) e) .passes)) .few in
     let rows = (boxIn N t) .rows in
     rw (served-box N t (Ask.flush (N .m)) e)
-    (none-dirty (engine (N .B)) ((flushed (engine (N .B)) (N .m) (boxIn N t)) .box .rows)
-    (left-dirty (engine (N .B)) (N .m) (boxIn N t) ∙ omega (arith, dirty-few (engine (N .B)) rows, few)))
+    (none-dirty (labelled N) ((flushed (labelled N) (N .m) (boxIn N t)) .box .rows)
+    (left-dirty (labelled N) (N .m) (boxIn N t) ∙ omega (arith, dirty-few (labelled N) rows, few)))
 
 -- counters of 64 bits keep to them, whatever is asked
 pub counters-stay : (N : Numbers) (t : Lent) (q : Ask) → In64 (t .counters) → In64 ((call N t q) .lent .counters)

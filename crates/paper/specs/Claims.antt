@@ -10,12 +10,12 @@ use lib.Dec.{eqb}
 use Rattle.paper.specs.KeyedLaws.{All, eqb→≡, eqb-self}
 use Rattle.paper.specs.Cache.{Numbers, Hashing, Box, Call, newest, blockRow, Word, hit, miss}
 use Rattle.paper.specs.Worked.{labels}
-use Rattle.paper.specs.Engine.{Fixed, fit, engine}
+use Rattle.paper.specs.Engine.{Fixed, fit, labelled}
 use Rattle.paper.specs.Lent.{Lent, Ask, After, opening, calling, refusal, callOf, lentBlock, blockAfter, partAfter, boxIn, call, opened}
 use Rattle.paper.specs.BatchLent.{one}
 use Rattle.paper.specs.Machines.{plainNext, plainBlock, NoWrite, Read, Compared, seenIn, printedNext, printedHit, put, printedTrace, contentOf}
 use Rattle.paper.specs.Machines.{OrphanLaw, TrueFingerprints, NoTwoShare}
-use Rattle.paper.specs.Demand3.{next, firstPlain, InList, returned, wordOf, readsOf, seenAfter}
+use Rattle.paper.specs.Demand3.{next, firstPlain, InList, returned, saidWord, readsOf, seenAfter}
 use Rattle.paper.specs.Demand3Laws.{demand-3}
 
 -- ---- each call by its name
@@ -160,7 +160,7 @@ asRead r = Ask.read (r .0) (r .1)
 -- after each read of a list: the held addresses in order, the cached fingerprints in order, and hit or miss
 unfoldable pub shownBy : (N : Numbers) → Lent → List (ℕ × List ℕ) → List (Compared (Fixed 32))
 shownBy N t [] = []
-shownBy N t (r ∷ rs) = seenIn (boxIn N (next N t (one (asRead r)))) (wordOf ((call N t (asRead r)) .answer)) ∷ shownBy N (next N t (one (asRead r))) rs
+shownBy N t (r ∷ rs) = seenIn (boxIn N (next N t (one (asRead r)))) (saidWord ((call N t (asRead r)) .answer)) ∷ shownBy N (next N t (one (asRead r))) rs
 
 -- what printed D-LRU is fed: each read's address, and whether it is refused
 unfoldable pub fedBy : (N : Numbers) → Lent → List (ℕ × List ℕ) → List Read
@@ -172,7 +172,7 @@ module _ (N : Numbers) where
   unfolding seenAfter shownBy callOf
   seen-shown t [] = refl
   seen-shown t (r ∷ rs) =
-      ap {B = List (Compared (Fixed 32))} (λ l. seenIn (boxIn N (next N t (one (asRead r)))) (wordOf ((call N t (asRead r)) .answer)) ∷ l)
+      ap {B = List (Compared (Fixed 32))} (λ l. seenIn (boxIn N (next N t (one (asRead r)))) (saidWord ((call N t (asRead r)) .answer)) ∷ l)
       (seen-shown (next N t (one (asRead r))) rs)
 
   fed-reads : (t : Lent) (rs : List (ℕ × List ℕ)) → readsOf N t (map asRead rs) ≡ fedBy N t rs
@@ -189,11 +189,11 @@ module _ (N : Numbers) where
   -- In a list of reads alone, from a fresh box over any disk and flash bytes: hits, misses and the order of addresses and blocks are the printed D-LRU's.
   pub reads-alone : (t : Lent) (rs : List (ℕ × List ℕ)) → refusal N t opening ≡ 0
       → shownBy N (opened N t) rs
-      ≡ printedTrace (engine (N .B) .same) (N .m) (N .d) (contentOf (engine (N .B)) (firstPlain N (opened N t)))
+      ≡ printedTrace (labelled N .same) (N .m) (N .d) (contentOf (labelled N) (firstPlain N (opened N t)))
       (record { addresses = []; fingerprints = [] }) (fedBy N (opened N t) rs)
   reads-alone t rs opens =
       sym (seen-shown (opened N t) rs)
       ∙ (demand-3 N t (map one (map asRead rs)) opens) .printed (map asRead rs) refl (no-write rs)
       ∙ ap
-      (printedTrace (engine (N .B) .same) (N .m) (N .d) (contentOf (engine (N .B)) (firstPlain N (opened N t))) (record { addresses = []; fingerprints = [] }))
+      (printedTrace (labelled N .same) (N .m) (N .d) (contentOf (labelled N) (firstPlain N (opened N t))) (record { addresses = []; fingerprints = [] }))
       (fed-reads (opened N t) rs)

@@ -9,7 +9,7 @@ use lib.Dec.{eqb}
 use lib.ListN.{getD, take}
 use Rattle.paper.specs.KeyedLaws.{All}
 use Rattle.paper.specs.Cache.{Numbers, Word}
-use Rattle.paper.specs.Engine.{Fixed, engine}
+use Rattle.paper.specs.Engine.{Fixed, labelled}
 use Rattle.paper.specs.Lent.{Lent, Ask, Answer, refused, answered, After, calling, oneOf, aboutAsk, refusal, call, callOf, boxIn, join, split}
 use Rattle.paper.specs.BatchLent.{Asking, one, many, batchRefusal, batchedFrom, callBatch, servedInTurn}
 use Rattle.paper.specs.Machines.{plainNext, plainBlock, writtenBy, NoWrite, Read, Compared, ifRead, seenIn, printedTrace, contentOf}
@@ -65,8 +65,8 @@ returned q y = cond (aboutAsk q .reads) (y .block) (cond (aboutAsk q .returns) (
 -- it is the plain disk's; of a folder read the buffer has the plain disk's blocks at its addresses
 abbrev pub ShowsPlain : (N : Numbers) → Lent → List (Fixed (N .B)) → Asking → Type 0
 ShowsPlain N t plain (one q) =
-    returned q (call N t q) ≡ Option·map (λ (b : Fixed (N .B)). b .0) (plainBlock (engine (N .B) .blank) plain (callOf (N .B) q))
-ShowsPlain N t plain (many l buffer) = (callBatch N t l buffer) .buffer ≡ join (map (λ a. getD plain a (engine (N .B) .blank)) l)
+    returned q (call N t q) ≡ Option·map (λ (b : Fixed (N .B)). b .0) (plainBlock (labelled N .blank) plain (callOf (N .B) q))
+ShowsPlain N t plain (many l buffer) = (callBatch N t l buffer) .buffer ≡ join (map (λ a. getD plain a (labelled N .blank)) l)
 
 -- U2: "blocks, flash, tables, counters and disk are those of the reads done in turn, with 9 checked only before the first" (of the blocks it is said by
 -- `ShowsPlain`)
@@ -77,7 +77,7 @@ AsReads N t plain (many l buffer) = (callBatch N t l buffer) .lent ≡ servedInT
 -- U2: "A list with this call in it counts as those reads for every law about .. orphans": also between its reads
 abbrev pub OrphansWithin : (N : Numbers) → Lent → List (Fixed (N .B)) → Asking → Type 0
 OrphansWithin N t plain (one q) = Unit {0}
-OrphansWithin N t plain (many l buffer) = (k : ℕ) → OrphanLaw (engine (N .B)) ((batchedFrom N t (take k l)) .box)
+OrphansWithin N t plain (many l buffer) = (k : ℕ) → OrphanLaw (labelled N) ((batchedFrom N t (take k l)) .box)
 
 -- "where demand 3 says "after each flush", the full one is meant": after it the disk is the plain disk
 abbrev pub FlushesWhole : (N : Numbers) → Lent → List (Fixed (N .B)) → Asking → Type 0
@@ -94,14 +94,14 @@ readsOf N t [] = []
 readsOf N t (q ∷ qs) =
     ifRead (callOf (N .B) q) (λ a. record { address = a; refused = not (eqb (refusal N t (calling q)) 0) }) (readsOf N (next N t (one q)) qs)
 
-abbrev pub wordOf : Answer → Option Word
-wordOf (refused k) = none
-wordOf (answered w f p) = some w
+abbrev pub saidWord : Answer → Option Word
+saidWord (refused k) = none
+saidWord (answered w f p) = some w
 
 unfoldable pub seenAfter : Numbers → Lent → List Ask → List (Compared (Fixed 32))
 seenAfter N t [] = []
 seenAfter N t (q ∷ qs) =
-    ifRead (callOf (N .B) q) (λ a. seenIn (boxIn N (next N t (one q))) (wordOf ((call N t q) .answer))) (seenAfter N (next N t (one q)) qs)
+    ifRead (callOf (N .B) q) (λ a. seenIn (boxIn N (next N t (one q))) (saidWord ((call N t q) .answer))) (seenAfter N (next N t (one q)) qs)
 
 -- "Plain disk: P blocks, first those of the disk."
 abbrev pub firstPlain : (N : Numbers) → Lent → List (Fixed (N .B))
@@ -109,20 +109,20 @@ firstPlain N t = split (N .B) (N .P) (t .disk)
 
 -- The premise, of the first plain disk and the blocks written in the list: no two different blocks of these share a fingerprint.
 abbrev pub Premise : (N : Numbers) → Lent → List Asking → Type 0
-Premise N t qs = NoTwoShare (engine (N .B)) (firstPlain N t ++ written N t qs)
+Premise N t qs = NoTwoShare (labelled N) (firstPlain N t ++ written N t qs)
 
 -- "Demand 3 is one claim about the whole list of calls, not one for each call. A list begins with a fresh box over any disk and flash bytes."
 -- t is the fresh box. `fingerprints`, `blocks`, `asReads`, `flushes` and `clean` are under the premise.
 -- `printed` is of a list of single calls with no write in it: of reads alone, or with looks and flushes among them.
 pub record Demand3 (N : Numbers) (t : Lent) (qs : List Asking) : Type 0 where
   pub numbers : All InList (refusals N t qs)
-  pub orphans : Throughout N (λ x plain. OrphanLaw (engine (N .B)) (boxIn N x)) t (firstPlain N t) qs
+  pub orphans : Throughout N (λ x plain. OrphanLaw (labelled N) (boxIn N x)) t (firstPlain N t) qs
   pub orphansWithin : EachServed N (OrphansWithin N) t (firstPlain N t) qs
-  pub fingerprints : Premise N t qs → Throughout N (λ x plain. TrueFingerprints (engine (N .B)) (boxIn N x) plain) t (firstPlain N t) qs
+  pub fingerprints : Premise N t qs → Throughout N (λ x plain. TrueFingerprints (labelled N) (boxIn N x) plain) t (firstPlain N t) qs
   pub blocks : Premise N t qs → EachServed N (ShowsPlain N) t (firstPlain N t) qs
   pub asReads : Premise N t qs → EachServed N (AsReads N) t (firstPlain N t) qs
   pub flushes : Premise N t qs → EachServed N (FlushesWhole N) t (firstPlain N t) qs
   pub clean : Premise N t qs → Throughout N (CleanIsPlain N) t (firstPlain N t) qs
   pub printed : (rs : List Ask) → qs ≡ map one rs → All (λ q. NoWrite (callOf (N .B) q)) rs
-      → seenAfter N t rs ≡ printedTrace (engine (N .B) .same) (N .m) (N .d) (contentOf (engine (N .B)) (firstPlain N t))
+      → seenAfter N t rs ≡ printedTrace (labelled N .same) (N .m) (N .d) (contentOf (labelled N) (firstPlain N t))
       (record { addresses = []; fingerprints = [] }) (readsOf N t rs)

@@ -12,7 +12,7 @@ use Rattle.tables.specs.Records.{addressTable, blockTable, freeRow, slotsFrom, 
 use Rattle.paper.specs.Cache as Paper
 use Rattle.paper.specs.Cache.{Numbers, Hashing, Box, Counters, noCounts}
 use Rattle.paper.specs.KeyedLaws.{All, all-left, all-right, all-map, by-test}
-use Rattle.paper.specs.Engine.{Fixed, engine}
+use Rattle.paper.specs.Engine.{Fixed, labelled}
 use Rattle.paper.specs.Lent.{Lent, Ask, opening, calling, callOf, lentBlock, addressOf, wrongBuffers, wrongBlock, otherLength, outside, counts}
 use Rattle.paper.specs.Lent.{over, unfit, refusal}
 use Rattle.paper.specs.Lent.{served, call, boxIn, lentOf, join, split, fresh, opened, blockAfter, partAfter}
@@ -22,7 +22,7 @@ use Rattle.paper.specs.Machines.{plainNext, plainBlock, writtenBy, NoWri
 use Rattle.paper.specs.Machines.{TrueFingerprints}
 use Rattle.paper.specs.Demand3.{numberOf, next, plainStep, Throughout, EachServed, InList, refusals, writtenIn, written, ShowsPlain, AsReads}
 use Rattle.paper.specs.Demand3.{OrphansWithin}
-use Rattle.paper.specs.Demand3.{FlushesWhole, CleanIsPlain, readsOf, wordOf, seenAfter, firstPlain, Demand3}
+use Rattle.paper.specs.Demand3.{FlushesWhole, CleanIsPlain, readsOf, saidWord, seenAfter, firstPlain, Demand3}
 use Rattle.paper.specs.Events.{Event}
 use Rattle.paper.specs.Sound.{Sound, sound-fresh}
 use Rattle.paper.specs.Orphans.{NoWaste}
@@ -57,7 +57,7 @@ eventsOf N t (q ∷ qs) = record { call = callOf (N .B) q; refused = isRefused N
 
 module _ (N : Numbers) where
   abbrev H : Hashing (Fixed 32) (Fixed (N .B))
-  H = engine (N .B)
+  H = labelled N
 
   -- ---- what each call keeps with no premise: the bytes pass, and nothing is wasted
 
@@ -271,12 +271,12 @@ module _ (N : Numbers) where
   same-reads t (q ∷ qs) =
       ap (ifRead (callOf (N .B) q) (λ a. record { address = a; refused = isRefused N t q })) (same-reads (next N t (one q)) qs)
 
-  word-is : (t : Lent) (q : Ask) → wordOf ((call N t q) .answer) ≡ cond (isRefused N t q) none (some ((outcome N t q) .word))
+  word-is : (t : Lent) (q : Ask) → saidWord ((call N t q) .answer) ≡ cond (isRefused N t q) none (some ((outcome N t q) .word))
   unfolding served
   word-is t q =
       by-test (eqb (refusal N t (calling q)) 0)
-      (λ y. ap (λ x. wordOf (x .answer)) (served-is N t q (eqb-true (refusal N t (calling q)) 0 y)) ∙ rw y refl)
-      (λ y. ap wordOf (keeps N t q (eqb-false (refusal N t (calling q)) 0 y) .answer) ∙ rw y refl)
+      (λ y. ap (λ x. saidWord (x .answer)) (served-is N t q (eqb-true (refusal N t (calling q)) 0 y)) ∙ rw y refl)
+      (λ y. ap saidWord (keeps N t q (eqb-false (refusal N t (calling q)) 0 y) .answer) ∙ rw y refl)
 
   same-seen : (t : Lent) (qs : List Ask) → seenAfter N t qs ≡ traceOf H N (boxIn N t) (eventsOf N t qs)
   unfolding seenAfter traceOf eventsOf
@@ -285,7 +285,7 @@ module _ (N : Numbers) where
       let es = eventsOf N (next N t (one q)) qs in
       let s = cond (isRefused N t q) (boxIn N t) ((outcome N t q) .box) in
       let w = cond (isRefused N t q) none (some ((outcome N t q) .word)) in
-      ap (ifRead (callOf (N .B) q) (λ a. seenIn (boxIn N (next N t (one q))) (wordOf ((call N t q) .answer)))) (same-seen (next N t (one q)) qs)
+      ap (ifRead (callOf (N .B) q) (λ a. seenIn (boxIn N (next N t (one q))) (saidWord ((call N t q) .answer)))) (same-seen (next N t (one q)) qs)
       ∙ ap₂ {C = List (Compared (Fixed 32))} (λ b v. ifRead (callOf (N .B) q) (λ a. seenIn b v) (traceOf H N b es)) (next-box t q) (word-is t q)
 
   no-writes : (t : Lent) (qs : List Ask) → All (λ q. NoWrite (callOf (N .B) q)) qs → All (λ e. NoWrite (e .call)) (eventsOf N t qs)
@@ -366,7 +366,7 @@ module _ (N : Numbers) where
     module _ (qs : List Asking) where
       -- "In every state reached, the fresh one included": addresses distinct and below P, at most m of them, fingerprints of used rows distinct,
       -- slots each of 0 to d − 1 once, a dirty row's fingerprint cached
-      pub structure-throughout : Throughout N (λ x plain. Sound (engine (N .B)) N (boxIn N x)) (opened N t) (firstPlain N (opened N t)) qs
+      pub structure-throughout : Throughout N (λ x plain. Sound (labelled N) N (boxIn N x)) (opened N t) (firstPlain N (opened N t)) qs
       structure-throughout = kept-throughout (λ x. Sound H N (boxIn N x)) (λ x k. passes-sound N x (k .passes)) (opened N t)
           (firstPlain N (opened N t)) qs fresh-kept
 
@@ -396,7 +396,7 @@ demand-3 N t qs opens = demand-3-from N t opens qs
 
 -- lent memory that some sound box writes
 abbrev pub Written : (N : Numbers) → Lent → Type 0
-Written N t = (s : Box (Fixed 32) (Fixed (N .B))) × (k : Counters) × Sound (engine (N .B)) N s × (t ≡ lentOf N s k)
+Written N t = (s : Box (Fixed 32) (Fixed (N .B))) × (k : Counters) × Sound (labelled N) N s × (t ≡ lentOf N s k)
 
 -- a fresh box is such, and what a call leaves where it found such
 pub opened-written : (N : Numbers) (t : Lent) → refusal N t opening ≡ 0 → Written N (opened N t)
@@ -432,7 +432,7 @@ look-stays N t a w =
     let s = w .0 in
     let k = w .1 in
     let back : boxIn N t ≡ s = ap (boxIn N) (w .3) ∙ lent-back N s (w .2) k (f .P-most) (f .d-most) in
-    let box : (outcome N t q) .box ≡ s = Quiet.look-same (engine (N .B)) N (boxIn N t) a ∙ back in
+    let box : (outcome N t q) .box ≡ s = Quiet.look-same (labelled N) N (boxIn N t) a ∙ back in
     let own = ap (λ (x : Lent). x .counters) (served-lent N t q e) in
     let same = look-counts N t a in
     let mine = ap (λ (x : Lent). x .counters) (w .3) in

@@ -1,4 +1,4 @@
--- The engine's own blocks and fingerprints: B bytes, and SHA-256 of them.
+-- The engine's own blocks and fingerprints: B bytes, and SHA-256 over the office label and them.
 -- Assumes nothing.
 use mathlib.Core.Path.{_≡_, refl}
 use mathlib.Core.List.{List, [], _++_, append-assoc}
@@ -15,7 +15,7 @@ use Rattle.tables.specs.Find.{same}
 use Rattle.tables.specs.ShiftLaws.{length-zeros}
 pub use Rattle.tables.specs.FindLaws.{same-refl}
 pub use Rattle.tables.specs.SoundLaws.{same-true as same→≡}
-use Rattle.paper.specs.Cache.{Hashing}
+use Rattle.paper.specs.Cache.{Numbers, Hashing}
 
 -- lists of n bytes
 abbrev pub Fixed : ℕ → Type 0
@@ -35,16 +35,24 @@ pub fit-front : (n : ℕ) (f : Fixed n) (rest : List ℕ) → fit n (f .0 ++ res
 unfolding fit
 fit-front n f rest = fixed-≡ (fit n (f .0 ++ rest)) f (rw (append-assoc (f .0) rest (zeros n)) (take-at (f .0) (rest ++ zeros n) n (f .1)))
 
--- "The fingerprint of a block is SHA-256 over its B bytes."
-abbrev pub engine : (B : ℕ) → Hashing (Fixed 32) (Fixed B)
-engine B =
+-- U6: "The fingerprint becomes SHA-256 over a 64-byte office label followed by the block."
+abbrev pub fingerprinting : (label : List ℕ) (B : ℕ) → Hashing (Fixed 32) (Fixed B)
+fingerprinting label B =
     record {
       same = λ f g. same (f .0) (g .0);
       same→≡ = λ f g e. fixed-≡ f g (same→≡ (f .0) (g .0) e);
       same-refl = λ f. same-refl (f .0);
-      hash = λ x. (sha256 (x .0), sha256-length (x .0));
+      hash = λ x. (sha256 (label ++ x .0), sha256-length (label ++ x .0));
       blank = fit B [];
     }
 
-pub fingerprint-is : (B : ℕ) (x : Fixed B) → (engine B .hash x) .0 ≡ sha256 (x .0)
-fingerprint-is B x = refl
+-- the blocks and fingerprints of a box
+abbrev pub labelled : (N : Numbers) → Hashing (Fixed 32) (Fixed (N .B))
+labelled N = fingerprinting (N .label) (N .B)
+
+pub fingerprint-is : (N : Numbers) (x : Fixed (N .B)) → (labelled N .hash x) .0 ≡ sha256 (N .label ++ x .0)
+fingerprint-is N x = refl
+
+-- where fingerprints are only compared, the label and the size of blocks don't matter
+abbrev pub comparing : Hashing (Fixed 32) (Fixed 0)
+comparing = fingerprinting [] 0

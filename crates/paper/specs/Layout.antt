@@ -6,7 +6,7 @@ use lib.ListN.{length}
 use Rattle.tables.specs.Records.{addressTable, blockTable, freeRow}
 use Rattle.paper.specs.Cache.{Numbers, AddressRow, BlockRow, Box, Counters}
 use Rattle.paper.specs.KeyedLaws.{All}
-use Rattle.paper.specs.Engine.{Fixed, engine}
+use Rattle.paper.specs.Engine.{Fixed, labelled}
 use Rattle.paper.specs.Lent.{Lent, join, heldRow, usedRow, lentOf, boxIn}
 use Rattle.paper.specs.Sound.{Sound}
 use Rattle.paper.specs.RowBytes.{Bytes}
@@ -40,7 +40,7 @@ pub record Parts (B c : ℕ) (t : List ℕ) (bs : List (Fixed B)) : Type 0 where
   pub is : t ≡ join bs
 
 -- what a sound box writes is so
-module _ (N : Numbers) (s : Box (Fixed 32) (Fixed (N .B))) (k : Counters) (h : Sound (engine (N .B)) N s) where
+module _ (N : Numbers) (s : Box (Fixed 32) (Fixed (N .B))) (k : Counters) (h : Sound (labelled N) N s) where
   pub sound-addrs : N .P ≤ 65536 → Addrs (N .P) (N .m) ((lentOf N s k) .n) ((lentOf N s k) .addresses) (s .rows)
   unfolding lentOf addressesOf
   sound-addrs P1 = record { count = refl; few = h .few; below = h .below; small = P1; is = refl }
@@ -62,7 +62,7 @@ module _ (N : Numbers) (t : Lent) (p : Passes N t) (bytesA : Bytes (t .addresses
   written : lentOf N (boxIn N t) (t .counters) ≡ t
   written = lent-forth N t (p .lengths) bytesA bytesB (p .addresses) (p .blocks)
 
-  sound : Sound (engine (N .B)) N (boxIn N t)
+  sound : Sound (labelled N) N (boxIn N t)
   sound = passes-sound N t p
 
   pub passes-addrs : N .P ≤ 65536 → Addrs (N .P) (N .m) (t .n) (t .addresses) ((boxIn N t) .rows)

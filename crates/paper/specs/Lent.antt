@@ -11,11 +11,11 @@ use Rattle.tables.specs.Records.{addressTable, heldRows, blockTable, blockRows,
 use Rattle.tables.specs.Unsound.{elem, addressesUnsound, blocksUnsound, dirtyUncached}
 use Rattle.paper.specs.Keyed.{has}
 use Rattle.paper.specs.Cache.{Numbers, AddressRow, BlockRow, Box, Call, About, about, Word, Counters, noCounts, counted, serve}
-use Rattle.paper.specs.Engine.{Fixed, fit, engine}
-use Rattle.tables.specs.Rows.{tableBytes}
+use Rattle.paper.specs.Engine.{Fixed, fit, labelled}
+use Rattle.tables.specs.Rows.{tableBytes, zeros}
 
 -- What is lent and passes from call to call: "n is the number of addresses held now", "disk (P × B bytes), flash (d × B), address table
--- (m × 40), block table (d × 40) .. and the counters record". The box record is the four numbers and n.
+-- (m × 40), block table (d × 40) .. and the counters record". The box record is the four numbers, the label and n.
 pub record Lent : Type 0 where
   pub n : ℕ
   pub disk : List ℕ
@@ -130,7 +130,7 @@ unfit N =
     || not (between 1 1024 (N .m))
     || not (between 1 256 (N .d))
 
--- "2: a lent length isn't the one above."
+-- "2: a lent length isn't the one above."; U6: "a 64-byte office label"
 abbrev pub otherLength : List ℕ → ℕ → Bool
 otherLength l k = not (eqb (length l) k)
 
@@ -140,6 +140,7 @@ wrongBuffers N t =
     || otherLength (t .flash) (N .d * N .B)
     || otherLength (t .addresses) (tableBytes (N .m))
     || otherLength (t .blocks) (tableBytes (N .d))
+    || otherLength (N .label) 64
 
 abbrev pub wrongBlock : ℕ → Option (List ℕ) → Bool
 wrongBlock B none = false
@@ -221,7 +222,7 @@ partAfter q b = cond (aboutAsk q .returns && not (aboutAsk q .reads)) (bytesOr [
 -- a call that is served: the paper's call on the box in the lent bytes, written down again
 unfoldable pub served : (N : Numbers) → Lent → Ask → After
 served N t q =
-    let o = serve (engine (N .B)) N (boxIn N t) (callOf (N .B) q) in
+    let o = serve (labelled N) N (boxIn N t) (callOf (N .B) q) in
     record {
       answer = answered (o .word) (o .flashWrites) (o .primaryWrites);
       lent = lentOf N (o .box) (counted (t .counters) (callOf (N .B) q) o);
@@ -248,3 +249,11 @@ unopened t = record { n = 0; disk = t .disk; flash = t .flash; addresses = t .ad
 -- an opening: a fresh box, or refused
 unfoldable pub opened : Numbers → Lent → Lent
 opened N t = cond (eqb (refusal N t opening) 0) (fresh N t) (unopened t)
+
+-- U6: "The box record carries the label, given at opening (zeros if refused)."
+unfoldable pub labelAfter : Numbers → Lent → List ℕ
+labelAfter N t = cond (eqb (refusal N t opening) 0) (N .label) (zeros 64)
+
+-- numbers with another label
+abbrev pub withLabel : Numbers → List ℕ → Numbers
+withLabel N l = record { B = N .B; P = N .P; m = N .m; d = N .d; label = l }

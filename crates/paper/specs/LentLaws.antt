@@ -22,7 +22,7 @@ use Rattle.table_laws.specs.KeptLists.{both, zeros-zero}
 use Rattle.table_laws.specs.KeptAddresses.{addressOk-of}
 use Rattle.paper.specs.Cache.{Numbers, AddressRow, BlockRow, Box, Counters}
 use Rattle.paper.specs.KeyedLaws.{All, all-map, all-of-map, all-left, all-right, all-perm, or-false-left, or-false-right}
-use Rattle.paper.specs.Engine.{Fixed, fixed-≡, fit, engine}
+use Rattle.paper.specs.Engine.{Fixed, fixed-≡, fit, labelled}
 use Rattle.paper.specs.Lent.{Lent, bit, heldRow, usedRow, asHeld, freeSlots, usedRows, boxIn, lentOf, otherLength, wrongBuffers}
 use Rattle.paper.specs.Sound.{Sound, length-perm, length-slotsFrom}
 use Rattle.paper.specs.Faithful.{slots-below-0}
@@ -154,13 +154,14 @@ right-lengths N t h =
     let b = otherLength (t .flash) (N .d * N .B) in
     let c = otherLength (t .addresses) (tableBytes (N .m)) in
     let d = otherLength (t .blocks) (tableBytes (N .d)) in
-    let h₃ = or-false-left (a || b || c) d h in
+    let h₄ = or-false-left (a || b || c || d) (otherLength (N .label) 64) h in
+    let h₃ = or-false-left (a || b || c) d h₄ in
     let h₂ = or-false-left (a || b) c h₃ in
     record {
       disk = length-is (t .disk) (N .P * N .B) (or-false-left a b h₂);
       flash = length-is (t .flash) (N .d * N .B) (or-false-right a b h₂);
       addresses = length-is (t .addresses) (tableBytes (N .m)) (or-false-right (a || b) c h₃);
-      blocks = length-is (t .blocks) (tableBytes (N .d)) (or-false-right (a || b || c) d h);
+      blocks = length-is (t .blocks) (tableBytes (N .d)) (or-false-right (a || b || c) d h₄);
     }
   where
     length-is : (l : List ℕ) (k : ℕ) → otherLength l k ≡ false → length l ≡ k
@@ -173,7 +174,7 @@ pub record Passes (N : Numbers) (t : Lent) : Type 0 where
   pub blocks : blocksUnsound (N .d) (t .blocks) ≡ false
   pub dirty : dirtyUncached (t .n) (N .d) (t .addresses) (t .blocks) ≡ false
 
-pub passes-sound : (N : Numbers) (t : Lent) → Passes N t → Sound (engine (N .B)) N (boxIn N t)
+pub passes-sound : (N : Numbers) (t : Lent) → Passes N t → Sound (labelled N) N (boxIn N t)
 unfolding boxIn heldRows blockRows
 passes-sound N t p =
     let l = p .lengths in
@@ -190,16 +191,16 @@ passes-sound N t p =
       addresses = addresses-apart held (a .apart);
       below = addresses-below (N .P) held (a .each);
       few = subst (λ k. k ≤ N .m) (sym (length-map (map readAddress held) asHeld ∙ length-map held readAddress ∙ rows-length (t .n) (t .addresses))) few;
-      fingerprints = used-apart (N .B) cached cw (b .once);
+      fingerprints = used-apart N cached cw (b .once);
       slots = slots-each (N .d) cached (rows-length (N .d) (t .blocks)) (b .each) (b .apart);
-      dirtyCached = dirty-cached (N .B) cached cw held hw
+      dirtyCached = dirty-cached N cached cw held hw
           (not-false (all (dirtyOk cached) held) (sym (dirty-checked (t .n) (N .d) (t .addresses) (t .blocks)) ∙ p .dirty));
       flashLength = length-split (N .B) (N .d) (t .flash);
       diskLength = length-split (N .B) (N .P) (t .disk);
     }
 
 -- what a sound box writes
-module _ (N : Numbers) (s : Box (Fixed 32) (Fixed (N .B))) (h : Sound (engine (N .B)) N s) where
+module _ (N : Numbers) (s : Box (Fixed 32) (Fixed (N .B))) (h : Sound (labelled N) N s) where
   slots-below : All (λ k. k < N .d) (s .free ++ map (λ u. u .slot) (s .used))
   slots-below = all-perm (λ k. k < N .d) (Permᴰ·symm (h .slots)) (slots-below-0 (N .d))
 
@@ -241,7 +242,7 @@ module _ (N : Numbers) (s : Box (Fixed 32) (Fixed (N .B))) (h : Sound (engine (N
         let di = split-join (N .B) (N .P) (s .disk) (h .diskLength) in
         λ i. record { rows = r i; free = f i; used = u i; flash = fl i; disk = di i }
 
-    sound-again : Sound (engine (N .B)) N (boxIn N (lentOf N s k))
+    sound-again : Sound (labelled N) N (boxIn N (lentOf N s k))
     sound-again = rw lent-back h
 
     -- no sound box gets 6, 7 or 8
@@ -269,7 +270,7 @@ module _ (N : Numbers) (s : Box (Fixed 32) (Fixed (N .B))) (h : Sound (engine (N
           blocks = good-blocks (N .d) b (record {
             each = ap (every (rowOk (N .d))) br ∙ table-each (N .d) d1 (s .free) (s .used) free-below used-below;
             apart = each-slots (N .d) cached (sound-again .slots);
-            once = used-once (N .B) cached bw (sound-again .fingerprints);
+            once = used-once N cached bw (sound-again .fingerprints);
           });
-          dirty = dirty-checked n (N .d) t b ∙ ap not (cached-dirty (N .B) cached bw held hw (sound-again .dirtyCached));
+          dirty = dirty-checked n (N .d) t b ∙ ap not (cached-dirty N cached bw held hw (sound-again .dirtyCached));
         }

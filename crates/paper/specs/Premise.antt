@@ -14,7 +14,7 @@ use Rattle.tables.specs.Find as Find
 use Rattle.tables.specs.Unsound as Unsound
 use Rattle.paper.specs.Cache as Cache
 use Rattle.paper.specs.KeyedLaws.{by-test}
-use Rattle.paper.specs.Engine.{Fixed, fit, engine}
+use Rattle.paper.specs.Engine.{Fixed, fit, fingerprinting, labelled}
 use Rattle.paper.specs.Cache.{Numbers}
 use Rattle.paper.specs.Lent as Lent
 use Rattle.paper.specs.Lent.{Lent, Ask, opening, calling, refusal, opened, fresh, split, call}
@@ -26,7 +26,7 @@ use Rattle.paper.specs.Demand3Laws.{head-≡, demand-3}
 
 -- one disk block, filled with 0; one address held, one block cached
 abbrev numbers : Numbers
-numbers = record { B = 64; P = 1; m = 1; d = 1 }
+numbers = record { B = 64; P = 1; m = 1; d = 1; label = replicate 64 0 }
 
 abbrev filled : ℕ → List ℕ
 filled k = replicate 64 k
@@ -82,20 +82,29 @@ blocks-are = ap (λ (t : Lent). split 64 1 (t .disk) ++ written numbers (opened 
     ∙ ap {B = List (Fixed 64)} (λ l. block 0 ∷ l) written-is
 
 -- their fingerprints differ in the first byte
-abbrev firstByte : Fixed 64 → ℕ
-firstByte b = getD (engine 64 .hash b .0) 0 0
+abbrev firstUnder : List ℕ → Fixed 64 → ℕ
+firstUnder label b = getD (fingerprinting label 64 .hash b .0) 0 0
 
-first-bytes : (firstByte (block 0) ≡ 0xf5) × (firstByte (block 1) ≡ 0x7c)
+abbrev firstByte : Fixed 64 → ℕ
+firstByte b = firstUnder (numbers .label) b
+
+first-bytes : (firstByte (block 0) ≡ 0x38) × (firstByte (block 1) ≡ 0xd8)
 unfolding Ch Maj Σ0 Σ1 σ0 σ1 K H0 M next W T1 T2 round rounds sum8 compress blocks bytes32 bytes64 padded pad digest sha256 fit Rows.zeros
 first-bytes = (refl, refl)
 
-pub premise-met : NoTwoShare (engine 64) (split 64 1 ((opened numbers memory) .disk) ++ written numbers (opened numbers memory) asked)
+-- U6: "equal pages of two offices .. have unrelated fingerprints": the block of zeros under a label of ones. It isn't the block of ones under a label of
+-- zeros, above.
+pub other-office : firstUnder (filled 1) (block 0) ≡ 0xec
+unfolding Ch Maj Σ0 Σ1 σ0 σ1 K H0 M next W T1 T2 round rounds sum8 compress blocks bytes32 bytes64 padded pad digest sha256 fit Rows.zeros
+other-office = refl
+
+pub premise-met : NoTwoShare (labelled numbers) (split 64 1 ((opened numbers memory) .disk) ++ written numbers (opened numbers memory) asked)
 premise-met =
     let e₀ = first-bytes .0 in
     let e₁ = first-bytes .1 in
-    subst (NoTwoShare (engine 64)) (sym blocks-are) (two (block 0) (block 1) (λ y. omega arith))
+    subst (NoTwoShare (labelled numbers)) (sym blocks-are) (two (block 0) (block 1) (λ y. omega arith))
   where
-    two : (x y : Fixed 64) → firstByte x ≢ firstByte y → NoTwoShare (engine 64) (x ∷ y ∷ [])
+    two : (x y : Fixed 64) → firstByte x ≢ firstByte y → NoTwoShare (labelled numbers) (x ∷ y ∷ [])
     two x y n b c (List·Memᴰ·head i) (List·Memᴰ·head j) e = i ∙ sym j
     two x y n b c (List·Memᴰ·head i) (List·Memᴰ·tail (List·Memᴰ·head j)) e = absurd (n (ap firstByte (sym i) ∙ ap (λ f. getD (f .0) 0 0) e ∙ ap firstByte j))
     two x y n b c (List·Memᴰ·tail (List·Memᴰ·head i)) (List·Memᴰ·head j) e

@@ -7,20 +7,21 @@ use Prim.Native.Nat.{ℕ}
 use lib.Dec.{eqb}
 use lib.ListN.{take, drop}
 use borrow.Author.Tests.{ne-eqb}
+use Rattle.tables.specs.Rows.{zeros}
 use Rattle.tables.specs.Unsound.{addressesUnsound, blocksUnsound, dirtyUncached}
 use Rattle.paper.specs.KeyedLaws.{All, Distinct, by-test, either, clash, eqb→≡, eqb-self, or-cases, or-left, or-right, or-false-left, or-false-right}
 use Rattle.paper.specs.Cache.{Numbers}
 use Rattle.paper.specs.Lent.{Lent, Ask, opening, calling, addressOf, lentBlock, unfit, wrongBuffers, wrongBlock, outside, over, counts}
 use Rattle.paper.specs.Lent.{Test, test, first, oneOf, tests, refusal, refused}
-use Rattle.paper.specs.Lent.{served, kept, call, fresh, unopened, opened}
+use Rattle.paper.specs.Lent.{served, kept, call, fresh, unopened, opened, labelAfter}
 
 -- the numbers of tests
-abbrev pub numbersOf : List Test → List ℕ
-numbersOf l = map (λ x. x .number) l
+abbrev pub testNumbers : List Test → List ℕ
+testNumbers l = map (λ x. x .number) l
 
 -- 0 and the numbers are all different
 abbrev pub Apart : List Test → Type 0
-Apart l = Distinct eqb (λ k. k) (0 ∷ numbersOf l)
+Apart l = Distinct eqb (λ k. k) (0 ∷ testNumbers l)
 
 -- none of these tests holds
 abbrev pub NoneOf : List Bool → Type 0
@@ -29,26 +30,26 @@ NoneOf l = All (λ b. b ≡ false) l
 abbrev pub holdings : List Test → List Bool
 holdings l = map (λ x. x .holds) l
 
-in-middle : (before : List Test) (x : Test) (after : List Test) → oneOf (x .number) (numbersOf (before ++ (x ∷ after))) ≡ true
+in-middle : (before : List Test) (x : Test) (after : List Test) → oneOf (x .number) (testNumbers (before ++ (x ∷ after))) ≡ true
 in-middle [] x after = rw (eqb-self (x .number)) refl
-in-middle (y ∷ ys) x after = or-right (eqb (x .number) (y .number)) (oneOf (x .number) (numbersOf (ys ++ (x ∷ after)))) (in-middle ys x after)
+in-middle (y ∷ ys) x after = or-right (eqb (x .number) (y .number)) (oneOf (x .number) (testNumbers (ys ++ (x ∷ after)))) (in-middle ys x after)
 
 -- what is given is 0 or one of the numbers
-pub in-first : (l : List Test) → oneOf (first l) (0 ∷ numbersOf l) ≡ true
+pub in-first : (l : List Test) → oneOf (first l) (0 ∷ testNumbers l) ≡ true
 in-first [] = refl
 in-first (x ∷ xs) =
     by-test (x .holds)
-    (λ e. rw e (or-right (eqb (x .number) 0) (oneOf (x .number) (numbersOf (x ∷ xs))) (in-middle [] x xs)))
-    (λ e. rw e (either (or-cases (eqb (first xs) 0) (oneOf (first xs) (numbersOf xs)) (in-first xs))
-    (λ y. or-left (eqb (first xs) 0) (oneOf (first xs) (numbersOf (x ∷ xs))) y)
-    (λ y. or-right (eqb (first xs) 0) (oneOf (first xs) (numbersOf (x ∷ xs))) (or-right (eqb (first xs) (x .number)) (oneOf (first xs) (numbersOf xs)) y))))
+    (λ e. rw e (or-right (eqb (x .number) 0) (oneOf (x .number) (testNumbers (x ∷ xs))) (in-middle [] x xs)))
+    (λ e. rw e (either (or-cases (eqb (first xs) 0) (oneOf (first xs) (testNumbers xs)) (in-first xs))
+    (λ y. or-left (eqb (first xs) 0) (oneOf (first xs) (testNumbers (x ∷ xs))) y)
+    (λ y. or-right (eqb (first xs) 0) (oneOf (first xs) (testNumbers (x ∷ xs))) (or-right (eqb (first xs) (x .number)) (oneOf (first xs) (testNumbers xs)) y))))
 
 -- the tests but the first are apart too
 apart-rest : (x : Test) (xs : List Test) → Apart (x ∷ xs) → Apart xs
-apart-rest x xs d = (or-false-right (eqb 0 (x .number)) (oneOf 0 (numbersOf xs)) (d .0), d .1 .1)
+apart-rest x xs d = (or-false-right (eqb 0 (x .number)) (oneOf 0 (testNumbers xs)) (d .0), d .1 .1)
 
 not-zero : (x : Test) (xs : List Test) → Apart (x ∷ xs) → x .number ≢ 0
-not-zero x xs d e = clash (rw e refl) (or-false-left (eqb 0 (x .number)) (oneOf 0 (numbersOf xs)) (d .0))
+not-zero x xs d e = clash (rw e refl) (or-false-left (eqb 0 (x .number)) (oneOf 0 (testNumbers xs)) (d .0))
 
 -- Each number is given exactly where its test holds and none before it does, and 0 exactly where none holds.
 pub gives : (before : List Test) (x : Test) (after : List Test) → Apart (before ++ (x ∷ after))
@@ -56,7 +57,7 @@ pub gives : (before : List Test) (x : Test) (after : List Test) → Apart (befor
 gives [] x after d = (
   by-test (x .holds)
       (λ y. rw y (λ e. (tt, refl)))
-      (λ y. rw y (λ e. either (or-cases (eqb (first after) 0) (oneOf (first after) (numbersOf after)) (in-first after))
+      (λ y. rw y (λ e. either (or-cases (eqb (first after) 0) (oneOf (first after) (testNumbers after)) (in-first after))
       (λ z. absurd (not-zero x after d (sym e ∙ eqb→≡ (first after) 0 z)))
       (λ z. clash (rw e at z) (d .1 .0)))),
   λ h. rw (h .1) refl,
@@ -208,3 +209,12 @@ keeps-opening N t z =
 pub opened-is : (N : Numbers) (t : Lent) → refusal N t opening ≡ 0 → opened N t ≡ fresh N t
 unfolding opened
 opened-is N t e = rw e refl
+
+-- U6: "The box record carries the label, given at opening (zeros if refused)."
+pub label-carried : (N : Numbers) (t : Lent) → refusal N t opening ≡ 0 → labelAfter N t ≡ N .label
+unfolding labelAfter
+label-carried N t e = rw e refl
+
+pub label-zeros : (N : Numbers) (t : Lent) → refusal N t opening ≢ 0 → labelAfter N t ≡ zeros 64
+unfolding labelAfter
+label-zeros N t n = rw (ne-eqb (refusal N t opening) 0 n) refl

@@ -16,10 +16,10 @@ use Rattle.paper.specs.Cache as Cache
 use Rattle.paper.specs.Cache.{Numbers, hit, fromCache, fromDisk, done, Counters, noCounts}
 use Rattle.paper.specs.Engine as Engine
 use Rattle.paper.specs.Lent as Lent
-use Rattle.paper.specs.Lent.{Lent, Ask, Asked, opening, calling, Answer, refused, answered, After, unfit, refusal, call, opened}
+use Rattle.paper.specs.Lent.{Lent, Ask, Asked, opening, calling, Answer, refused, answered, After, unfit, refusal, call, opened, labelAfter}
 
 abbrev pub numbers : ℕ → ℕ → ℕ → ℕ → Numbers
-numbers B P m d = record { B = B; P = P; m = m; d = d }
+numbers B P m d = record { B = B; P = P; m = m; d = d; label = replicate 64 0 }
 
 abbrev pub counters : ℕ → ℕ → ℕ → ℕ → Counters
 counters r h f p = record { reads = r; hits = h; flashWrites = f; primaryWrites = p }
@@ -147,6 +147,21 @@ lengths q =
     ∷ asks q (cut 128 128 80 81 sound) 2
     ∷ []
 
+-- a label of so many bytes
+abbrev labelledBy : ℕ → ℕ → Numbers
+labelledBy B k = record { B = B; P = 2; m = 2; d = 2; label = replicate k 7 }
+
+-- 2, of the label: a byte short, a byte long, none; 1 comes before it, 3 after it
+abbrev labels : (ℕ → Asked) → List Case
+labels q =
+    record { numbers = labelledBy 64 64; lent = sound; asked = q 1; number = 0 }
+    ∷ record { numbers = labelledBy 64 63; lent = sound; asked = q 1; number = 2 }
+    ∷ record { numbers = labelledBy 64 65; lent = sound; asked = q 1; number = 2 }
+    ∷ record { numbers = labelledBy 64 0; lent = sound; asked = q 1; number = 2 }
+    ∷ record { numbers = labelledBy 96 63; lent = sound; asked = q 1; number = 1 }
+    ∷ record { numbers = labelledBy 64 63; lent = sound; asked = q 2; number = 2 }
+    ∷ []
+
 abbrev blockLengths : (List ℕ → Ask) → List Case
 blockLengths q = asks (calling (q (replicate 63 5))) sound 2 ∷ asks (calling (q (replicate 64 5))) sound 0 ∷ asks (calling (q (replicate 65 5))) sound 2 ∷ []
 
@@ -258,6 +273,11 @@ table =
     ++ lengths (looking 1)
     ++ lengths (flushing 1)
     ++ lengths opening
+    ++ labels reading
+    ++ labels backing
+    ++ labels looking
+    ++ labels flushing
+    ++ labels starting
     ++ blockLengths (Ask.read 1)
     ++ blockLengths (Ask.through 1)
     ++ blockLengths (Ask.back 1)
@@ -380,6 +400,14 @@ unfolding call refusal unfit Lent.wrongBuffers Lent.over Lent.served Lent.kept L
     Unsound.freeAfterUsed Unsound.eachOnce Unsound.usedTwice Unsound.blocksUnsound Unsound.dirtyUncached Cache.serve Cache.readAs Cache.lookAs
     Cache.flushed Cache.ifCached Cache.answer Cache.step Cache.step1 Cache.step3 Cache.step4 Cache.freed Cache.counted
 calls-leave = refl
+
+-- U6: "given at opening (zeros if refused)"
+pub labels-after :
+    (labelAfter (labelledBy 64 64) sound ≡ replicate 64 7)
+    × (labelAfter (labelledBy 32 64) sound ≡ replicate 64 0)
+    × (labelAfter (labelledBy 64 63) sound ≡ replicate 64 0)
+unfolding labelAfter refusal unfit Lent.wrongBuffers Unsound.elem Rows.zeros Rows.flat addressTable blockTable Records.addressBytes Records.blockBytes
+labels-after = (refl, refl, refl)
 
 -- An opening: the numbers, the lent memory, and what it leaves. A refused one has n = 0 and keeps all else; a damaged box is opened, and is fresh.
 pub record Opening : Type 0 where

@@ -19,10 +19,10 @@ use Rattle.tables.specs.OperationLaws.{Wide}
 use Rattle.table_laws.specs.Checked.{addresses-checked, blocks-checked}
 use Rattle.table_laws.specs.KeptLists.{both}
 use Rattle.table_laws.specs.KeptAddresses.{Addrs, addrs-parts, parts-addrs}
-use Rattle.paper.specs.Cache.{cached}
+use Rattle.paper.specs.Cache.{Numbers, cached}
 use Rattle.paper.specs.KeyedLaws.{All, Distinct, by-test, and-left, and-right}
 use Rattle.paper.specs.Keyed.{has}
-use Rattle.paper.specs.Engine.{Fixed, fit, engine}
+use Rattle.paper.specs.Engine.{Fixed, fit, labelled}
 use Rattle.paper.specs.Lent.{asHeld, freeSlots, usedRows}
 use Rattle.paper.specs.Sound.{DirtyCached}
 use Rattle.paper.specs.TestLaws.{same-swap, slots-are, slots-differ}
@@ -93,40 +93,42 @@ pub held-print-is : (r : List ℕ) → length r ≡ rowBytes → (fit 32 (readAd
 held-print-is r l = fit-is 32 (readAddress r .fingerprint) (address-print-length r l)
 
 -- "cached" as the tables search for it
-cached-is : (B : ℕ) (g : Fixed 32) (k : ℕ) (rs : List (List ℕ)) → Wide rs
-    → absent (findFrom (caches (g .0)) k rs) ≡ not (cached (engine B) g (usedRows (map readBlock rs)))
+cached-is : (N : Numbers) (g : Fixed 32) (k : ℕ) (rs : List (List ℕ)) → Wide rs
+    → absent (findFrom (caches (g .0)) k rs) ≡ not (cached (labelled N) g (usedRows (map readBlock rs)))
 unfolding usedRows findFrom
-cached-is B g k [] w = refl
-cached-is B g k (r ∷ rs) w =
+cached-is N g k [] w = refl
+cached-is N g k (r ∷ rs) w =
     by-test (isUsed r)
     (λ u. rw (u, ap (same (g .0)) (print-is r (w .0)) ∙ same-swap (g .0) (readBlock r .fingerprint))
-    (by-test (same (readBlock r .fingerprint) (g .0)) (λ e. rw e) (λ e. rw e (cached-is B g (suc k) rs (w .1)))))
-    (λ u. rw u (cached-is B g (suc k) rs (w .1)))
+    (by-test (same (readBlock r .fingerprint) (g .0)) (λ e. rw e) (λ e. rw e (cached-is N g (suc k) rs (w .1)))))
+    (λ u. rw u (cached-is N g (suc k) rs (w .1)))
 
 -- a fingerprint used once
-row-cached : (B : ℕ) (r : List ℕ) (rs : List (List ℕ)) → length r ≡ rowBytes → Wide rs
-    → absent (findFrom (caches (readBlock r .fingerprint)) 0 rs) ≡ not (cached (engine B) (fit 32 (readBlock r .fingerprint)) (usedRows (map readBlock rs)))
-row-cached B r rs l w = ap (λ g. absent (findFrom (caches g) 0 rs)) (sym (print-is r l)) ∙ cached-is B (fit 32 (readBlock r .fingerprint)) 0 rs w
+row-cached : (N : Numbers) (r : List ℕ) (rs : List (List ℕ)) → length r ≡ rowBytes → Wide rs
+    → absent (findFrom (caches (readBlock r .fingerprint)) 0 rs) ≡ not (cached (labelled N) (fit 32 (readBlock r .fingerprint)) (usedRows (map readBlock rs)))
+row-cached N r rs l w = ap (λ g. absent (findFrom (caches g) 0 rs)) (sym (print-is r l)) ∙ cached-is N (fit 32 (readBlock r .fingerprint)) 0 rs w
 
-pub used-apart : (B : ℕ) (rs : List (List ℕ)) → Wide rs → every unique rs ≡ true → Distinct (engine B .same) (λ u. u .fingerprint) (usedRows (map readBlock rs))
+pub used-apart : (N : Numbers) (rs : List (List ℕ)) → Wide rs → every unique rs ≡ true
+    → Distinct (labelled N .same) (λ u. u .fingerprint) (usedRows (map readBlock rs))
 unfolding every usedRows
-used-apart B [] w = λ h. tt
-used-apart B (r ∷ rs) w =
+used-apart N [] w = λ h. tt
+used-apart N (r ∷ rs) w =
     by-test (isUsed r)
     (λ u. rw u (λ h.
     let a = absent (findFrom (caches (readBlock r .fingerprint)) 0 rs) in
-    let c = cached (engine B) (fit 32 (readBlock r .fingerprint)) (usedRows (map readBlock rs)) in
-    (not-true c (sym (row-cached B r rs (w .0) (w .1)) ∙ and-left a (every unique rs) h), used-apart B rs (w .1) (and-right a (every unique rs) h))))
-    (λ u. rw u (λ h. used-apart B rs (w .1) h))
+    let c = cached (labelled N) (fit 32 (readBlock r .fingerprint)) (usedRows (map readBlock rs)) in
+    (not-true c (sym (row-cached N r rs (w .0) (w .1)) ∙ and-left a (every unique rs) h), used-apart N rs (w .1) (and-right a (every unique rs) h))))
+    (λ u. rw u (λ h. used-apart N rs (w .1) h))
 
-pub used-once : (B : ℕ) (rs : List (List ℕ)) → Wide rs → Distinct (engine B .same) (λ u. u .fingerprint) (usedRows (map readBlock rs)) → every unique rs ≡ true
+pub used-once : (N : Numbers) (rs : List (List ℕ)) → Wide rs → Distinct (labelled N .same) (λ u. u .fingerprint) (usedRows (map readBlock rs))
+    → every unique rs ≡ true
 unfolding every usedRows
-used-once B [] w = λ h. refl
-used-once B (r ∷ rs) w =
+used-once N [] w = λ h. refl
+used-once N (r ∷ rs) w =
     by-test (isUsed r)
-    (λ u. rw u (λ h. both (absent (findFrom (caches (readBlock r .fingerprint)) 0 rs)) (every unique rs) (row-cached B r rs (w .0) (w .1) ∙ ap not (h .0))
-    (used-once B rs (w .1) (h .1))))
-    (λ u. rw u (λ h. used-once B rs (w .1) h))
+    (λ u. rw u (λ h. both (absent (findFrom (caches (readBlock r .fingerprint)) 0 rs)) (every unique rs) (row-cached N r rs (w .0) (w .1) ∙ ap not (h .0))
+    (used-once N rs (w .1) (h .1))))
+    (λ u. rw u (λ h. used-once N rs (w .1) h))
 
 -- slots
 slots-perm : (l : List Table.BlockRow) → List·Permᴰ (freeSlots l ++ map (λ u. u .slot) (usedRows l)) (map (λ r. r .slot) l)
@@ -161,17 +163,17 @@ module _ (d : ℕ) where
         (List·Permᴰ·trans (Permᴰ·symm (slots-perm (map readBlock rs))) p))
 
 -- dirty rows
-module _ (B : ℕ) (bs : List (List ℕ)) (wide : Wide bs) where
+module _ (N : Numbers) (bs : List (List ℕ)) (wide : Wide bs) where
   held-cached : (r : List ℕ) → length r ≡ rowBytes → absent (findFrom (caches (readAddress r .fingerprint)) 0 bs)
-      ≡ not (cached (engine B) ((asHeld (readAddress r)) .fingerprint) (usedRows (map readBlock bs)))
-  held-cached r l = ap (λ g. absent (findFrom (caches g) 0 bs)) (sym (held-print-is r l)) ∙ cached-is B (fit 32 (readAddress r .fingerprint)) 0 bs wide
+      ≡ not (cached (labelled N) ((asHeld (readAddress r)) .fingerprint) (usedRows (map readBlock bs)))
+  held-cached r l = ap (λ g. absent (findFrom (caches g) 0 bs)) (sym (held-print-is r l)) ∙ cached-is N (fit 32 (readAddress r .fingerprint)) 0 bs wide
 
   pub dirty-cached : (rs : List (List ℕ)) → Wide rs → all (dirtyOk bs) rs ≡ true
-      → All (DirtyCached (engine B) (usedRows (map readBlock bs))) (map asHeld (map readAddress rs))
+      → All (DirtyCached (labelled N) (usedRows (map readBlock bs))) (map asHeld (map readAddress rs))
   unfolding all
   dirty-cached [] w h = tt
   dirty-cached (r ∷ rs) w h = (
-    (λ y. not-not (cached (engine B) ((asHeld (readAddress r)) .fingerprint) (usedRows (map readBlock bs)))
+    (λ y. not-not (cached (labelled N) ((asHeld (readAddress r)) .fingerprint) (usedRows (map readBlock bs)))
         (ap not (sym (held-cached r (w .0))) ∙ (rw y at (and-left (dirtyOk bs r) (all (dirtyOk bs) rs) h)))),
     dirty-cached rs (w .1) (and-right (dirtyOk bs r) (all (dirtyOk bs) rs) h),
   )
@@ -179,7 +181,7 @@ module _ (B : ℕ) (bs : List (List ℕ)) (wide : Wide bs) where
       not-not : (b : Bool) → not (not b) ≡ true → b ≡ true
       not-not b e = not-false b (not-true (not b) e)
 
-  pub cached-dirty : (rs : List (List ℕ)) → Wide rs → All (DirtyCached (engine B) (usedRows (map readBlock bs))) (map asHeld (map readAddress rs))
+  pub cached-dirty : (rs : List (List ℕ)) → Wide rs → All (DirtyCached (labelled N) (usedRows (map readBlock bs))) (map asHeld (map readAddress rs))
       → all (dirtyOk bs) rs ≡ true
   unfolding all
   cached-dirty [] w h = refl

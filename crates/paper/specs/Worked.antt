@@ -56,7 +56,7 @@ pub record State : Type 0 where
 
 -- "box 64 8 m d"
 abbrev pub boxOf : (m d : ℕ) → Numbers
-boxOf m d = record { B = 64; P = 8; m = m; d = d }
+boxOf m d = record { B = 64; P = 8; m = m; d = d; label = replicate 64 0 }
 
 -- An example: the numbers of the box, and the state that is expected
 pub record Example : Type 0 where
@@ -422,9 +422,9 @@ further-states = refl
 pub data Letter : Type 0 where
   R L F T B I : Letter
 
-pub data Printed : Type 0 where
-  line : ℕ → Letter → Option ℕ → Word → ℕ → ℕ → Printed
-  counts : (reads hits flash primary : ℕ) → Printed
+pub data PrintedLine : Type 0 where
+  line : ℕ → Letter → Option ℕ → Word → ℕ → ℕ → PrintedLine
+  counts : (reads hits flash primary : ℕ) → PrintedLine
 
 abbrev letter : Call ℕ → Letter
 letter (read a) = R
@@ -434,11 +434,11 @@ letter (through a b) = T
 letter (back a b) = B
 letter (invalidate a b) = I
 
-abbrev prints : ℕ → List Said → Counters → List Printed
+abbrev prints : ℕ → List Said → Counters → List PrintedLine
 prints i [] k = counts (k .reads) (k .hits) (k .flashWrites) (k .primaryWrites) ∷ []
 prints i (x ∷ xs) k = line i (letter (x .call)) (about (x .call) .address) (x .word) (x .flashWrites) (x .primaryWrites) ∷ prints (suc i) xs k
 
-abbrev output : State → List Printed
+abbrev output : State → List PrintedLine
 output t = prints 1 (t .said) (t .counters)
 
 pub replay-prints : output (plays (boxOf 3 2) (start (boxOf 3 2)) noCounts (read 1 ∷ read 2 ∷ back 3 1 ∷ read 3 ∷ read 4 ∷ read 2 ∷ flush 3 ∷ look 3 ∷ []))

@@ -11,8 +11,8 @@ use Rattle.tables.specs.Find.{all, findFrom, absent, caches, hasFingerprint}
 use Rattle.tables.specs.Index.{cachedIn, unknownIn}
 use Rattle.tables.specs.declared.Found.{Found}
 use Rattle.paper.specs.KeyedLaws.{by-test}
-use Rattle.paper.specs.Cache.{AddressRow, BlockRow, known, cached, someUncached}
-use Rattle.paper.specs.Engine.{Fixed, engine}
+use Rattle.paper.specs.Cache.{Numbers, AddressRow, BlockRow, known, cached, someUncached}
+use Rattle.paper.specs.Engine.{Fixed, labelled, comparing}
 use Rattle.paper.specs.Index.{indexWhere, index-map}
 use Rattle.paper.specs.Layout.{Addrs, Blocks}
 use Rattle.parts.specs.TableLaws.{addrBytes, usedBytes, rows-addrs, rows-blocks, length-blocks, fp-of, fp-used, flag-used, placed, placed-first, isAt, absent-is, fp-known, fp-cached, all-any}
@@ -29,35 +29,35 @@ not-not false = refl
 
 module _ (d : ℕ) (bt : List ℕ) (free : List ℕ) (used : List (BlockRow (Fixed 32))) (hb : Blocks d bt free used) where
   -- an address row's fingerprint is cached
-  row-cached : (r : AddressRow (Fixed 32)) → cachedIn (rows d bt) (addrBytes r) ≡ cached (engine 0) (r .fingerprint) used
+  row-cached : (r : AddressRow (Fixed 32)) → cachedIn (rows d bt) (addrBytes r) ≡ cached (comparing) (r .fingerprint) used
   row-cached r =
       ap not (absent-is (findFrom (caches (readAddress (addrBytes r) .fingerprint)) 0 (rows d bt))) ∙ not-not (isAt (findFrom (caches (readAddress (addrBytes r) .fingerprint)) 0 (rows d bt)))
       ∙ fp-cached d bt free used hb (readAddress (addrBytes r) .fingerprint) (r .fingerprint) (sym (fp-of r))
 
-  all-cached : (B : ℕ) (l : List (AddressRow (Fixed 32))) → not (all (cachedIn (rows d bt)) (map addrBytes l)) ≡ someUncached (engine B) l used
+  all-cached : (N : Numbers) (l : List (AddressRow (Fixed 32))) → not (all (cachedIn (rows d bt)) (map addrBytes l)) ≡ someUncached (labelled N) l used
   unfolding all
-  all-cached B [] = refl
-  all-cached B (r ∷ l) =
-      rw (row-cached r) (by-test (cached (engine B) (r .fingerprint) used) (λ e. rw e (all-cached B l)) (λ e. rw e refl))
+  all-cached N [] = refl
+  all-cached N (r ∷ l) =
+      rw (row-cached r) (by-test (cached (labelled N) (r .fingerprint) used) (λ e. rw e (all-cached N l)) (λ e. rw e refl))
 
   -- one of the first k held rows has a fingerprint that is not cached
-  pub uncached-is : (B P m n k : ℕ) (t : List ℕ) (l : List (AddressRow (Fixed 32))) → Addrs P m n t l → k ≤ n → not (all (cachedIn (rows d bt)) (rows k t)) ≡ someUncached (engine B) (take k l) used
-  uncached-is B P m n k t l h kn =
+  pub uncached-is : (N : Numbers) (P m n k : ℕ) (t : List ℕ) (l : List (AddressRow (Fixed 32))) → Addrs P m n t l → k ≤ n → not (all (cachedIn (rows d bt)) (rows k t)) ≡ someUncached (labelled N) (take k l) used
+  uncached-is N P m n k t l h kn =
       ap (λ (x : List (List ℕ)). not (all (cachedIn (rows d bt)) x)) (sym (take-rows k n t kn) ∙ ap (take k) (rows-addrs P m n t l h) ∙ map-take addrBytes k l)
-      ∙ all-cached B (take k l)
+      ∙ all-cached N (take k l)
 
 -- a used block row's fingerprint is that of no held row
-row-unknown : (B P m n : ℕ) (t : List ℕ) (l : List (AddressRow (Fixed 32))) → Addrs P m n t l → (u : BlockRow (Fixed 32)) → unknownIn (rows n t) (usedBytes u) ≡ not (known (engine B) (u .fingerprint) l)
-row-unknown B P m n t l h u =
+row-unknown : (P m n : ℕ) (t : List ℕ) (l : List (AddressRow (Fixed 32))) → Addrs P m n t l → (u : BlockRow (Fixed 32)) → unknownIn (rows n t) (usedBytes u) ≡ not (known comparing (u .fingerprint) l)
+row-unknown P m n t l h u =
     ap (λ (k : ℕ). eqb k 1 && absent (findFrom (hasFingerprint (readBlock (usedBytes u) .fingerprint)) 0 (rows n t))) (flag-used u)
     ∙ absent-is (findFrom (hasFingerprint (readBlock (usedBytes u) .fingerprint)) 0 (rows n t))
     ∙ ap not (fp-known P m n t l h (readBlock (usedBytes u) .fingerprint) (u .fingerprint) (sym (fp-used u)) (findFrom (hasFingerprint (readBlock (usedBytes u) .fingerprint)) 0 (rows n t)) refl)
 
 -- the first such row
-pub unknown-is : (B P m n d : ℕ) (t bt : List ℕ) (l : List (AddressRow (Fixed 32))) (used : List (BlockRow (Fixed 32))) → Addrs P m n t l → Blocks d bt [] used → (f : Found) → findFrom (unknownIn (rows n t)) 0 (rows d bt) ≡ f
-    → placed f d ≡ indexWhere (λ u. not (known (engine B) (u .fingerprint) l)) used
-unknown-is B P m n d t bt l used h hb f e =
+pub unknown-is : (P m n d : ℕ) (t bt : List ℕ) (l : List (AddressRow (Fixed 32))) (used : List (BlockRow (Fixed 32))) → Addrs P m n t l → Blocks d bt [] used → (f : Found) → findFrom (unknownIn (rows n t)) 0 (rows d bt) ≡ f
+    → placed f d ≡ indexWhere (λ u. not (known comparing (u .fingerprint) l)) used
+unknown-is P m n d t bt l used h hb f e =
     ap (λ (y : Found). placed y d) (sym e ∙ ap (findFrom (unknownIn (rows n t)) 0) (rows-blocks d bt [] used hb))
     ∙ ap (placed (findFrom (unknownIn (rows n t)) 0 (map usedBytes used))) (sym (length-blocks [] used ∙ hb .count))
     ∙ placed-first (unknownIn (rows n t)) (map usedBytes used)
-    ∙ index-map usedBytes (unknownIn (rows n t)) (λ u. not (known (engine B) (u .fingerprint) l)) (λ u. Unit {0}) (λ u y. row-unknown B P m n t l h u) used (all-any used)
+    ∙ index-map usedBytes (unknownIn (rows n t)) (λ u. not (known comparing (u .fingerprint) l)) (λ u. Unit {0}) (λ u y. row-unknown P m n t l h u) used (all-any used)

@@ -9,11 +9,11 @@ use lib.ListN.{length, getD, set, take, drop, length-append, take-append-drop}
 use Rattle.parts.specs.declared.BoxRecord.{BoxRecord}
 use Rattle.paper.specs.KeyedLaws.{All, by-test}
 use Rattle.paper.specs.Cache.{Hashing, AddressRow, BlockRow, Box, newest, slotOf, blockOf, copied, copies, cleaned}
-use Rattle.paper.specs.Engine.{Fixed, engine}
+use Rattle.paper.specs.Engine.{Fixed}
 use Rattle.paper.specs.Lent.{join}
 use Rattle.paper.specs.Sound.{length-cleaned, length-copied}
 use Rattle.paper.specs.Layout.{addressesOf}
-use Rattle.parts.specs.Rep.{Rep, Copied, copiedRow, copiedRows, partBox, noRow, clean}
+use Rattle.parts.specs.Rep.{Rep, Copied, copiedRow, copiedRows, partBox, noRow, clean, engine}
 
 and-yes : (d x : Bool) → (d && x) ≡ true → (d && not x) ≡ false
 and-yes true true e = refl
@@ -68,7 +68,7 @@ module _ {X : Type 0} (H : Hashing (Fixed 32) X) (c : Fixed 32 → Bool) where
 
 module _ (b : BoxRecord) (c : Fixed 32 → Bool) (disk₀ flash addrs₀ blocks : List ℕ) (s : Box (Fixed 32) (Fixed (b .size))) (h : Rep b disk₀ flash addrs₀ blocks s) (i count : ℕ) (disk addrs : List ℕ) (inv : _≡_ {A = Copied} (record { count = count; disk = disk; addrs = addrs }) (copiedRows b c s i)) where
   H : Hashing (Fixed 32) (Fixed (b .size))
-  H = engine (b .size)
+  H = engine b
 
   -- the bytes so far are those of `partBox`
   pub rep-part : Rep b disk flash addrs blocks (partBox b c s i)
@@ -76,15 +76,15 @@ module _ (b : BoxRecord) (c : Fixed 32 → Bool) (disk₀ flash addrs₀ blocks 
   rep-part =
       record {
         rows-are = record {
-          count = part-length (engine (b .size)) c (s .rows) i ∙ h .rows-are .count;
+          count = part-length (engine b) c (s .rows) i ∙ h .rows-are .count;
           few = h .rows-are .few;
-          below = part-below (engine (b .size)) c (b .blocks) (s .rows) i (h .rows-are .below);
+          below = part-below (engine b) c (b .blocks) (s .rows) i (h .rows-are .below);
           small = h .rows-are .small;
           is = ap (λ (x : Copied). x .addrs) inv;
         };
         blocks-are = h .blocks-are;
         flash-is = h .flash-is;
-        disk-is = record { count = length-copied (engine (b .size)) c (take i (s .rows)) (s .used) (s .flash) (s .disk) ∙ h .disk-is .count; is = ap (λ (x : Copied). x .disk) inv };
+        disk-is = record { count = length-copied (engine b) c (take i (s .rows)) (s .used) (s .flash) (s .disk) ∙ h .disk-is .count; is = ap (λ (x : Copied). x .disk) inv };
       }
 
   -- row i is done
@@ -95,28 +95,28 @@ module _ (b : BoxRecord) (c : Fixed 32 → Bool) (disk₀ flash addrs₀ blocks 
       let li : i < length (s .rows) = omega (arith, h .rows-are .count) in
       let r : AddressRow (Fixed 32) = getD (s .rows) i noRow in
       let t : Bool = r .dirty && c (r .fingerprint) in
-      let rp : getD (cleaned (engine (b .size)) c (take i (s .rows)) ++ drop i (s .rows)) i noRow ≡ r = row-part (engine (b .size)) c (s .rows) i noRow li in
+      let rp : getD (cleaned (engine b) c (take i (s .rows)) ++ drop i (s .rows)) i noRow ≡ r = row-part (engine b) c (s .rows) i noRow li in
       let e1 : _≡_ {A = Copied} (record { count = k; disk = disk′; addrs = addrs′ })
       (cond (r .dirty && c (r .fingerprint))
-      (record { count = 1; disk = join (set (copied (engine (b .size)) c (take i (s .rows)) (s .used) (s .flash) (s .disk)) (r .address) (blockOf (engine (b .size)) (r .fingerprint) (s .used) (s .flash))); addrs = addressesOf (b .rows) (set (cleaned (engine (b .size)) c (take i (s .rows)) ++ drop i (s .rows)) i (clean r)) })
-      (record { count = 0; disk = join (copied (engine (b .size)) c (take i (s .rows)) (s .used) (s .flash) (s .disk)); addrs = addressesOf (b .rows) (cleaned (engine (b .size)) c (take i (s .rows)) ++ drop i (s .rows)) }))
+      (record { count = 1; disk = join (set (copied (engine b) c (take i (s .rows)) (s .used) (s .flash) (s .disk)) (r .address) (blockOf (engine b) (r .fingerprint) (s .used) (s .flash))); addrs = addressesOf (b .rows) (set (cleaned (engine b) c (take i (s .rows)) ++ drop i (s .rows)) i (clean r)) })
+      (record { count = 0; disk = join (copied (engine b) c (take i (s .rows)) (s .used) (s .flash) (s .disk)); addrs = addressesOf (b .rows) (cleaned (engine b) c (take i (s .rows)) ++ drop i (s .rows)) }))
       = rw rp at e in
-      let cs = copied-step (engine (b .size)) c (s .rows) i noRow (s .used) (s .flash) (s .disk) li in
-      let ks = copies-step (engine (b .size)) c (s .rows) i noRow li in
-      let ci : count ≡ copies (engine (b .size)) c (take i (s .rows)) = ap (λ (x : Copied). x .count) inv in
+      let cs = copied-step (engine b) c (s .rows) i noRow (s .used) (s .flash) (s .disk) li in
+      let ks = copies-step (engine b) c (s .rows) i noRow li in
+      let ci : count ≡ copies (engine b) c (take i (s .rows)) = ap (λ (x : Copied). x .count) inv in
       by-test (r .dirty && c (r .fingerprint))
       (λ y.
       let e2 = rw y at e1 in
-      λ j. record { count = (ap₂ _+_ ci (ap (λ (x : Copied). x .count) e2) ∙ sym (rw y at ks)) j; disk = (ap (λ (x : Copied). x .disk) e2 ∙ ap join (sym (rw y at cs))) j; addrs = (ap (λ (x : Copied). x .addrs) e2 ∙ ap (addressesOf (b .rows)) (rows-yes (engine (b .size)) c (s .rows) i noRow li y)) j })
+      λ j. record { count = (ap₂ _+_ ci (ap (λ (x : Copied). x .count) e2) ∙ sym (rw y at ks)) j; disk = (ap (λ (x : Copied). x .disk) e2 ∙ ap join (sym (rw y at cs))) j; addrs = (ap (λ (x : Copied). x .addrs) e2 ∙ ap (addressesOf (b .rows)) (rows-yes (engine b) c (s .rows) i noRow li y)) j })
       (λ y.
       let e2 = rw y at e1 in
-      λ j. record { count = (ap₂ _+_ ci (ap (λ (x : Copied). x .count) e2) ∙ sym (rw y at ks)) j; disk = (ap (λ (x : Copied). x .disk) e2 ∙ ap join (sym (rw y at cs))) j; addrs = (ap (λ (x : Copied). x .addrs) e2 ∙ ap (addressesOf (b .rows)) (rows-no (engine (b .size)) c (s .rows) i noRow li y)) j })
+      λ j. record { count = (ap₂ _+_ ci (ap (λ (x : Copied). x .count) e2) ∙ sym (rw y at ks)) j; disk = (ap (λ (x : Copied). x .disk) e2 ∙ ap join (sym (rw y at cs))) j; addrs = (ap (λ (x : Copied). x .addrs) e2 ∙ ap (addressesOf (b .rows)) (rows-no (engine b) c (s .rows) i noRow li y)) j })
 
 -- none is done
 pub part-none : (b : BoxRecord) (c : Fixed 32 → Bool) (disk flash addrs blocks : List ℕ) (s : Box (Fixed 32) (Fixed (b .size))) → Rep b disk flash addrs blocks s → _≡_ {A = Copied} (record { count = 0; disk = disk; addrs = addrs }) (copiedRows b c s 0)
 unfolding copiedRows partBox
 part-none b c disk flash addrs blocks s h = λ j. record { count = 0; disk = h .disk-is .is j; addrs = h .rows-are .is j }
 
-pub used-part : (b : BoxRecord) (c : Fixed 32 → Bool) (s : Box (Fixed 32) (Fixed (b .size))) (i : ℕ) (v : Fixed 32) → slotOf (engine (b .size)) v (partBox b c s i .used) ≡ slotOf (engine (b .size)) v (s .used)
+pub used-part : (b : BoxRecord) (c : Fixed 32 → Bool) (s : Box (Fixed 32) (Fixed (b .size))) (i : ℕ) (v : Fixed 32) → slotOf (engine b) v (partBox b c s i .used) ≡ slotOf (engine b) v (s .used)
 unfolding partBox
 used-part b c s i v = refl

@@ -6,7 +6,7 @@ use lib.Dec.{ltb}
 use lib.ListN.{length}
 use Rattle.tables.specs.Rows.{rowAt}
 use Rattle.paper.specs.Cache.{AddressRow, BlockRow, blockRow, known}
-use Rattle.paper.specs.Engine.{Fixed, fit, engine}
+use Rattle.paper.specs.Engine.{Fixed, fit, comparing}
 use Rattle.paper.specs.Index.{indexWhere}
 use Rattle.tables.specs.Records.{readBlock}
 use Rattle.tables.specs.Find.{isUsed}
@@ -19,9 +19,9 @@ noBlock = blockRow (fit 32 []) 0
 abbrev pub orFirst : ℕ → ℕ → ℕ
 orFirst j n = cond (ltb j n) j 0
 
-unfoldable pub victimPlace : ℕ → List (AddressRow (Fixed 32)) → List ℕ → List (BlockRow (Fixed 32)) → ℕ
-victimPlace B rows (k ∷ free) used = 0
-victimPlace B rows [] used = orFirst (indexWhere (λ u. not (known (engine B) (u .fingerprint) rows)) used) (length used)
+unfoldable pub victimPlace : List (AddressRow (Fixed 32)) → List ℕ → List (BlockRow (Fixed 32)) → ℕ
+victimPlace rows (k ∷ free) used = 0
+victimPlace rows [] used = orFirst (indexWhere (λ u. not (known comparing (u .fingerprint) rows)) used) (length used)
 
 -- the slot of the block row at a place, 0 where there is none
 abbrev pub slotIn : List ℕ → ℕ → ℕ → ℕ

@@ -16,12 +16,12 @@ use Rattle.tables.specs.Index.{code, placeIn}
 use Rattle.tables.specs.declared.Found.{Found}
 use Rattle.tables.specs.declared.Found.the-variants.{At, Nothing}
 use Rattle.paper.specs.KeyedLaws.{All, by-test}
-use Rattle.paper.specs.Cache.{AddressRow, BlockRow, Box, slotOf, blockOf, blockRow}
-use Rattle.paper.specs.Engine.{Fixed, engine}
+use Rattle.paper.specs.Cache.{Numbers, AddressRow, BlockRow, Box, slotOf, blockOf, blockRow}
+use Rattle.paper.specs.Engine.{Fixed, labelled, comparing}
 use Rattle.paper.specs.Lent.{join}
 use Rattle.paper.specs.Parts.{length-join, join-set}
 use Rattle.paper.specs.Layout.{Addrs, Blocks, Parts}
-use Rattle.parts.specs.Rep.{Rep, Copied, copiedRow, noRow}
+use Rattle.parts.specs.Rep.{Rep, Copied, copiedRow, noRow, engine}
 use Rattle.parts.specs.Asked.{slotIn}
 use Rattle.paper.specs.Index.{indexWhere, slotOf-yes, slotOf-no}
 use Rattle.parts.specs.MoveLaws.{row-is, slot-is, address-is, address-below, dirty-is, cleaned-row}
@@ -59,9 +59,10 @@ pub copy-is : (B d P : ℕ) (flash disk : List ℕ) (fl di : List (Fixed B)) →
 copy-is B d P flash disk fl di hf hd k a z kb ab =
     ap (λ (x : List ℕ). splice (a * B) x disk) (part-block B d flash fl hf k z kb) ∙ put-block-is B P disk di hd a ab (getD fl k z)
 
-pub slotOf-below : (B d : ℕ) (f : Fixed 32) (used : List (BlockRow (Fixed 32))) → 0 < d → All (λ u. u .slot < d) used → slotOf (engine B) f used < d
-slotOf-below B d f [] h q = h
-slotOf-below B d f (u ∷ us) h q = by-test (engine B .same f (u .fingerprint)) (λ e. rw e (q .0)) (λ e. rw e (slotOf-below B d f us h (q .1)))
+pub slotOf-below : (N : Numbers) (d : ℕ) (f : Fixed 32) (used : List (BlockRow (Fixed 32))) → 0 < d → All (λ u. u .slot < d) used
+    → slotOf (labelled N) f used < d
+slotOf-below N d f [] h q = h
+slotOf-below N d f (u ∷ us) h q = by-test (labelled N .same f (u .fingerprint)) (λ e. rw e (q .0)) (λ e. rw e (slotOf-below N d f us h (q .1)))
 
 module _ (b : BoxRecord) (disk flash addrs blocks : List ℕ) (s : Box (Fixed 32) (Fixed (b .size))) (h : Rep b disk flash addrs blocks s)
     (chosen : Fixed 32 → Bool) (i : ℕ) (l : i < b .held) where
@@ -78,7 +79,7 @@ module _ (b : BoxRecord) (disk flash addrs blocks : List ℕ) (s : Box (Fixed 32
       rw d (λ j. record { count = 0; disk = h .disk-is .is j; addrs = h .rows-are .is j })
 
   pub row-copied : (isDirty (rowAt addrs i) && chosen (getD (s .rows) i noRow .fingerprint)) ≡ true → (a k : ℕ) → a ≡ readAddress (rowAt addrs i) .address
-      → k ≡ slotOf (engine (b .size)) (getD (s .rows) i noRow .fingerprint) (s .used) → k < b .slots
+      → k ≡ slotOf (engine b) (getD (s .rows) i noRow .fingerprint) (s .used) → k < b .slots
       → _≡_ {A = Copied} (record { count = 1; disk = splice (a * b .size) (part (k * b .size) (b .size) flash) disk; addrs = rowCleaned i addrs })
       (copiedRow b chosen s i)
   unfolding copiedRow
@@ -86,11 +87,11 @@ module _ (b : BoxRecord) (disk flash addrs blocks : List ℕ) (s : Box (Fixed 32
       let d : (getD (s .rows) i noRow .dirty && chosen (getD (s .rows) i noRow .fingerprint)) ≡ true
       = ap (λ (x : Bool). x && chosen (getD (s .rows) i noRow .fingerprint))
       (sym (dirty-is (b .blocks) (b .rows) (b .held) addrs (s .rows) (h .rows-are) i l noRow)) ∙ e in
-      let z = engine (b .size) .blank in
+      let z = engine b .blank in
       let aa : a ≡ getD (s .rows) i noRow .address = ea ∙ address-is (b .blocks) (b .rows) (b .held) addrs (s .rows) (h .rows-are) i l noRow in
       let ab : a < b .blocks = rw aa (address-below (b .blocks) (b .rows) (b .held) addrs (s .rows) (h .rows-are) i l noRow) in
       let c : splice (a * b .size) (part (k * b .size) (b .size) flash) disk
-      ≡ join (set (s .disk) (getD (s .rows) i noRow .address) (blockOf (engine (b .size)) (getD (s .rows) i noRow .fingerprint) (s .used) (s .flash)))
+      ≡ join (set (s .disk) (getD (s .rows) i noRow .address) (blockOf (engine b) (getD (s .rows) i noRow .fingerprint) (s .used) (s .flash)))
       = copy-is (b .size) (b .slots) (b .blocks) flash disk (s .flash) (s .disk) (h .flash-is) (h .disk-is) k a z kb ab
       ∙ ap₂ {C = List ℕ} (λ x y. join (set (s .disk) x (getD (s .flash) y z))) aa ek in
       let r = cleaned-row (b .blocks) (b .rows) (b .held) addrs (s .rows) (h .rows-are) i l noRow in
@@ -103,37 +104,37 @@ unfolding copiedRow
 copied-chosen b chosen s i e = rw e refl
 
 -- the slot of a fingerprint, by its place
-module _ (B d : ℕ) (t : List ℕ) (free : List ℕ) (used : List (BlockRow (Fixed 32))) (f : Fixed 32) (h : Blocks d t free used) (j : ℕ)
-    (e : j ≡ length free + indexWhere (λ u. engine 0 .same f (u .fingerprint)) used) where
-  pub slot-none : d ≤ j → 0 ≡ slotOf (engine B) f used
-  slot-none b = sym (slotOf-no (engine B) f used (omega (arith, h .count, e)))
+module _ (N : Numbers) (d : ℕ) (t : List ℕ) (free : List ℕ) (used : List (BlockRow (Fixed 32))) (f : Fixed 32) (h : Blocks d t free used) (j : ℕ)
+    (e : j ≡ length free + indexWhere (λ u. comparing .same f (u .fingerprint)) used) where
+  pub slot-none : d ≤ j → 0 ≡ slotOf (labelled N) f used
+  slot-none b = sym (slotOf-no (labelled N) f used (omega (arith, h .count, e)))
 
-  pub slot-some : j < d → (r : ℕ) → r ≡ readBlock (rowAt t j) .slot → r ≡ slotOf (engine B) f used
+  pub slot-some : j < d → (r : ℕ) → r ≡ readBlock (rowAt t j) .slot → r ≡ slotOf (labelled N) f used
   slot-some b r er =
-      let k : ℕ = indexWhere (λ (u : BlockRow (Fixed 32)). engine B .same f (u .fingerprint)) used in
+      let k : ℕ = indexWhere (λ (u : BlockRow (Fixed 32)). labelled N .same f (u .fingerprint)) used in
       let kb : k < length used = omega (arith, h .count, e) in
       let z : BlockRow (Fixed 32) = blockRow f 0 in
-      er ∙ ap (λ (x : ℕ). readBlock (rowAt t x) .slot) e ∙ slot-is d t free used h k kb z ∙ sym (slotOf-yes (engine B) f used z kb)
+      er ∙ ap (λ (x : ℕ). readBlock (rowAt t x) .slot) e ∙ slot-is d t free used h k kb z ∙ sym (slotOf-yes (labelled N) f used z kb)
 
-  pub slot-placed : slotIn t d j ≡ slotOf (engine B) f used
+  pub slot-placed : slotIn t d j ≡ slotOf (labelled N) f used
   slot-placed = by-test (ltb j d) (λ y. rw y (slot-some (ltb-true j d y) (readBlock (rowAt t j) .slot) refl)) (λ y. rw y (slot-none (ltb-false j d y)))
 
 -- the same by the place of a row's block row, or 256
-slot-coded : (B d : ℕ) (t free : List ℕ) (used : List (BlockRow (Fixed 32))) (g : List ℕ) (q : Fixed 32) → Blocks d t free used → d ≤ 256 → q .0 ≡ g
+slot-coded : (N : Numbers) (d : ℕ) (t free : List ℕ) (used : List (BlockRow (Fixed 32))) (g : List ℕ) (q : Fixed 32) → Blocks d t free used → d ≤ 256 → q .0 ≡ g
     → (f : Found) → findFrom (caches g) 0 (rows d t) ≡ f
-    → slotIn t d (code f) ≡ slotOf (engine B) q used
-slot-coded B d t free used g q h b e (At i) x = slot-placed B d t free used q h i (block-index d t free used h g q e (At i) x)
-slot-coded B d t free used g q h b e Nothing x = rw (le-ltb 256 d b) (slot-none B d t free used q h d (block-index d t free used h g q e Nothing x)
+    → slotIn t d (code f) ≡ slotOf (labelled N) q used
+slot-coded N d t free used g q h b e (At i) x = slot-placed N d t free used q h i (block-index d t free used h g q e (At i) x)
+slot-coded N d t free used g q h b e Nothing x = rw (le-ltb 256 d b) (slot-none N d t free used q h d (block-index d t free used h g q e Nothing x)
     (omega arith))
 
-pub slot-of-row : (B P m n d : ℕ) (addrs blocks : List ℕ) (l : List (AddressRow (Fixed 32))) (free : List ℕ) (used : List (BlockRow (Fixed 32)))
+pub slot-of-row : (N : Numbers) (P m n d : ℕ) (addrs blocks : List ℕ) (l : List (AddressRow (Fixed 32))) (free : List ℕ) (used : List (BlockRow (Fixed 32)))
     → Addrs P m n addrs l → Blocks d blocks free used → d ≤ 256
-    → (i : ℕ) → i < n → slotIn blocks d (placeIn (rows d blocks) (rowAt addrs i)) ≡ slotOf (engine B) (getD l i noRow .fingerprint) used
+    → (i : ℕ) → i < n → slotIn blocks d (placeIn (rows d blocks) (rowAt addrs i)) ≡ slotOf (labelled N) (getD l i noRow .fingerprint) used
 unfolding placeIn
-slot-of-row B P m n d addrs blocks l free used h k b i li =
+slot-of-row N P m n d addrs blocks l free used h k b i li =
     let r : AddressRow (Fixed 32) = getD l i noRow in
     ap (λ t. slotIn blocks d (placeIn (rows d blocks) t)) (row-is P m n addrs l h i li noRow)
-    ∙ slot-coded B d blocks free used (readAddress (addrBytes r) .fingerprint) (r .fingerprint) k b (sym (fp-of r))
+    ∙ slot-coded N d blocks free used (readAddress (addrBytes r) .fingerprint) (r .fingerprint) k b (sym (fp-of r))
     (findFrom (caches (readAddress (addrBytes r) .fingerprint)) 0 (rows d blocks)) refl
 
 -- a row's block and its place on the disk are there
@@ -161,9 +162,10 @@ right-no false y e = refl
 -- fingerprint_is
 pub row-fp : (b : BoxRecord) (disk flash addrs blocks : List ℕ) (s : Box (Fixed 32) (Fixed (b .size))) → Rep b disk flash addrs blocks s → (i : ℕ)
     → i < b .held → (g : List ℕ) (v : Fixed 32) → v .0 ≡ g
-    → hasFingerprint g (rowAt addrs i) ≡ engine (b .size) .same v (getD (s .rows) i noRow .fingerprint)
+    → hasFingerprint g (rowAt addrs i) ≡ engine b .same v (getD (s .rows) i noRow .fingerprint)
 row-fp b disk flash addrs blocks s h i l g v e = ap (hasFingerprint g) (row-is (b .blocks) (b .rows) (b .held) addrs (s .rows) (h .rows-are) i l noRow)
     ∙ has-fp g v e (getD (s .rows) i noRow)
 
-pub same-slot : (B : ℕ) (v f : Fixed 32) (used : List (BlockRow (Fixed 32))) → engine B .same v f ≡ true → slotOf (engine B) v used ≡ slotOf (engine B) f used
-same-slot B v f used e = ap (λ (x : Fixed 32). slotOf (engine B) x used) (engine B .same→≡ v f e)
+pub same-slot : (N : Numbers) (v f : Fixed 32) (used : List (BlockRow (Fixed 32))) → labelled N .same v f ≡ true
+    → slotOf (labelled N) v used ≡ slotOf (labelled N) f used
+same-slot N v f used e = ap (λ (x : Fixed 32). slotOf (labelled N) x used) (labelled N .same→≡ v f e)

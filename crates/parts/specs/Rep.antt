@@ -6,15 +6,18 @@ use Prim.Native.Nat.{ℕ, _≤_}
 use lib.ListN.{length, getD, set, take, drop}
 use Rattle.tables.specs.Rows.{tableBytes}
 use Rattle.parts.specs.declared.BoxRecord.{BoxRecord}
-use Rattle.paper.specs.Cache.{Numbers, AddressRow, Box, newest, slotOf, blockOf, copied, copies, cleaned}
-use Rattle.paper.specs.Engine.{Fixed, fit}
+use Rattle.paper.specs.Cache.{Numbers, Hashing, AddressRow, Box, newest, slotOf, blockOf, copied, copies, cleaned}
+use Rattle.paper.specs.Engine.{Fixed, fit, labelled}
 use Rattle.paper.specs.Lent.{join}
 use Rattle.paper.specs.Layout.{Addrs, Blocks, Parts, addressesOf}
-use Rattle.paper.specs.Engine.{engine}
 
--- the four numbers of a box record
+-- the numbers and the label of a box record
 abbrev pub numbersOf : BoxRecord → Numbers
-numbersOf b = record { B = b .size; P = b .blocks; m = b .rows; d = b .slots }
+numbersOf b = record { B = b .size; P = b .blocks; m = b .rows; d = b .slots; label = b .label }
+
+-- the blocks and fingerprints of its box
+abbrev pub engine : (b : BoxRecord) → Hashing (Fixed 32) (Fixed (b .size))
+engine b = labelled (numbersOf b)
 
 -- the tables have the lengths of the box, and the rows held are in it
 abbrev pub Sized : BoxRecord → (addrs blocks : List ℕ) → Type 0
@@ -22,11 +25,11 @@ Sized b addrs blocks = (b .held ≤ b .rows) × (length addrs ≡ tableBytes (b 
 
 -- a box record with another number of rows held
 abbrev pub withHeld : BoxRecord → ℕ → BoxRecord
-withHeld b n = record { size = b .size; blocks = b .blocks; rows = b .rows; slots = b .slots; held = n }
+withHeld b n = record { size = b .size; blocks = b .blocks; rows = b .rows; slots = b .slots; held = n; label = b .label }
 
 -- the record of a box that holds none
-abbrev pub emptyBox : (size blocks rows slots : ℕ) → BoxRecord
-emptyBox size blocks rows slots = record { size = size; blocks = blocks; rows = rows; slots = slots; held = 0 }
+abbrev pub emptyBox : (size blocks rows slots : ℕ) → (label : List ℕ) → BoxRecord
+emptyBox size blocks rows slots label = record { size = size; blocks = blocks; rows = rows; slots = slots; held = 0; label = label }
 
 pub record Rep (b : BoxRecord) (disk flash addrs blocks : List ℕ) (s : Box (Fixed 32) (Fixed (b .size))) : Type 0 where
   pub rows-are : Addrs (b .blocks) (b .rows) (b .held) addrs (s .rows)
@@ -35,13 +38,13 @@ pub record Rep (b : BoxRecord) (disk flash addrs blocks : List ℕ) (s : Box (Fi
   pub disk-is : Parts (b .size) (b .blocks) disk (s .disk)
 
 -- they are those of some box
-abbrev pub Lent : (b : BoxRecord) → List ℕ → List ℕ → List ℕ → List ℕ → Type 0
-Lent b disk flash addrs blocks = (s : Box (Fixed 32) (Fixed (b .size))) × Rep b disk flash addrs blocks s
+abbrev pub LentBox : (b : BoxRecord) → List ℕ → List ℕ → List ℕ → List ℕ → Type 0
+LentBox b disk flash addrs blocks = (s : Box (Fixed 32) (Fixed (b .size))) × Rep b disk flash addrs blocks s
 
 -- .. of some box in which the block of the fingerprint g is in slot k
 abbrev pub LentWith : (b : BoxRecord) → List ℕ → List ℕ → List ℕ → List ℕ → List ℕ → ℕ → Type 0
 LentWith b disk flash addrs blocks g k = (s : Box (Fixed 32) (Fixed (b .size))) × (v : Fixed 32) × Rep b disk flash addrs blocks s × (v .0 ≡ g)
-    × (slotOf (engine (b .size)) v (s .used) ≡ k)
+    × (slotOf (engine b) v (s .used) ≡ k)
 
 -- a row that stands for none
 abbrev pub noRow : AddressRow (Fixed 32)
@@ -64,7 +67,7 @@ module _ (b : BoxRecord) (chosen : Fixed 32 → Bool) (s : Box (Fixed 32) (Fixed
       cond (getD (s .rows) i noRow .dirty && chosen (getD (s .rows) i noRow .fingerprint))
       (record {
         count = 1;
-        disk = join (set (s .disk) (getD (s .rows) i noRow .address) (blockOf (engine (b .size)) (getD (s .rows) i noRow .fingerprint) (s .used) (s .flash)));
+        disk = join (set (s .disk) (getD (s .rows) i noRow .address) (blockOf (engine b) (getD (s .rows) i noRow .fingerprint) (s .used) (s .flash)));
         addrs = addressesOf (b .rows) (set (s .rows) i (clean (getD (s .rows) i noRow)));
       })
       (record { count = 0; disk = join (s .disk); addrs = addressesOf (b .rows) (s .rows) })
@@ -73,16 +76,16 @@ module _ (b : BoxRecord) (chosen : Fixed 32 → Bool) (s : Box (Fixed 32) (Fixed
   unfoldable pub partBox : ℕ → Box (Fixed 32) (Fixed (b .size))
   partBox i =
       record {
-        rows = cleaned (engine (b .size)) chosen (take i (s .rows)) ++ drop i (s .rows);
+        rows = cleaned (engine b) chosen (take i (s .rows)) ++ drop i (s .rows);
         free = s .free;
         used = s .used;
         flash = s .flash;
-        disk = copied (engine (b .size)) chosen (take i (s .rows)) (s .used) (s .flash) (s .disk);
+        disk = copied (engine b) chosen (take i (s .rows)) (s .used) (s .flash) (s .disk);
       }
 
   unfoldable pub copiedRows : ℕ → Copied
   copiedRows i = record {
-    count = copies (engine (b .size)) chosen (take i (s .rows));
+    count = copies (engine b) chosen (take i (s .rows));
     disk = join (partBox i .disk);
     addrs = addressesOf (b .rows) (partBox i .rows);
   }

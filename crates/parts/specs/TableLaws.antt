@@ -19,7 +19,7 @@ use Rattle.table_laws.specs.Written.{address-address, address-print, block-prin
 use Rattle.paper.specs.Keyed.{has}
 use Rattle.paper.specs.KeyedLaws.{All, by-test, eqb→≡, eqb-self, eqb-swap}
 use Rattle.paper.specs.Cache.{AddressRow, BlockRow, known, cached}
-use Rattle.paper.specs.Engine.{Fixed, engine}
+use Rattle.paper.specs.Engine.{Fixed, comparing}
 use Rattle.paper.specs.Lent.{heldRow, usedRow}
 use Rattle.paper.specs.Index.{indexWhere, index-none, index-map}
 use Rattle.paper.specs.LentLaws.{held-wide, table-wide, table-length, tableRows}
@@ -87,7 +87,7 @@ has-addr a P hp r h = ap (λ (k : ℕ). eqb k a) (address-address (heldRow r) (o
 pub fp-of : (r : AddressRow (Fixed 32)) → readAddress (addrBytes r) .fingerprint ≡ r .fingerprint .0
 fp-of r = address-print (heldRow r) (r .fingerprint .1)
 
-pub has-fp : (g : List ℕ) (f : Fixed 32) → f .0 ≡ g → (r : AddressRow (Fixed 32)) → hasFingerprint g (addrBytes r) ≡ engine 0 .same f (r .fingerprint)
+pub has-fp : (g : List ℕ) (f : Fixed 32) → f .0 ≡ g → (r : AddressRow (Fixed 32)) → hasFingerprint g (addrBytes r) ≡ comparing .same f (r .fingerprint)
 has-fp g f e r = ap (λ (x : List ℕ). same x g) (fp-of r) ∙ same-is (r .fingerprint .0) g ∙ ap (λ (x : List ℕ). same x (r .fingerprint .0)) (sym e)
 
 pub fp-used : (u : BlockRow (Fixed 32)) → readBlock (usedBytes u) .fingerprint ≡ u .fingerprint .0
@@ -99,7 +99,7 @@ flag-used u = block-used (usedRow u) (u .fingerprint .1)
 pub flag-free : (k : ℕ) → readBlock (freeBytes k) .used ≡ 0
 flag-free k = block-used (freeRow k) (length-zeros 32)
 
-has-used : (g : List ℕ) (f : Fixed 32) → f .0 ≡ g → (u : BlockRow (Fixed 32)) → caches g (usedBytes u) ≡ engine 0 .same f (u .fingerprint)
+has-used : (g : List ℕ) (f : Fixed 32) → f .0 ≡ g → (u : BlockRow (Fixed 32)) → caches g (usedBytes u) ≡ comparing .same f (u .fingerprint)
 has-used g f e u =
     ap (λ (k : ℕ). eqb k 1 && same (readBlock (usedBytes u) .fingerprint) g) (flag-used u)
     ∙ ap (λ (x : List ℕ). same x g) (fp-used u) ∙ same-is (u .fingerprint .0) g ∙ ap (λ (x : List ℕ). same x (u .fingerprint .0)) (sym e)
@@ -119,8 +119,8 @@ found-has same key k p f e j [] = refl
 found-has same key k p f e j (x ∷ xs) = rw (e x) (by-test (same k (key x)) (λ y. rw y refl) (λ y. rw y (found-has same key k p f e (suc j) xs)))
 
 pub used-has : (g : List ℕ) (q : Fixed 32) → q .0 ≡ g → (j : ℕ) (l : List (BlockRow (Fixed 32)))
-    → isAt (findFrom (caches g) j (map usedBytes l)) ≡ cached (engine 0) q l
-used-has g q eq j l = found-has (engine 0 .same) (λ u. u .fingerprint) q (caches g) usedBytes (has-used g q eq) j l
+    → isAt (findFrom (caches g) j (map usedBytes l)) ≡ cached (comparing) q l
+used-has g q eq j l = found-has (comparing .same) (λ u. u .fingerprint) q (caches g) usedBytes (has-used g q eq) j l
 
 none-free : (g : List ℕ) (l : List ℕ) → All (λ x. caches g x ≡ false) (map freeBytes l)
 none-free g [] = tt
@@ -141,20 +141,20 @@ addr-index P m n t l h a f e =
 
 pub block-index : (d : ℕ) (t : List ℕ) (free : List ℕ) (used : List (BlockRow (Fixed 32))) → Blocks d t free used → (g : List ℕ) (q : Fixed 32) → q .0 ≡ g
     → (f : Found) → findFrom (caches g) 0 (rows d t) ≡ f
-    → placed f d ≡ length free + indexWhere (λ u. engine 0 .same q (u .fingerprint)) used
+    → placed f d ≡ length free + indexWhere (λ u. comparing .same q (u .fingerprint)) used
 block-index d t free used h g q eq f e =
     ap (λ (y : Found). placed y d) (sym e ∙ ap (findFrom (caches g) 0) (rows-blocks d t free used h))
     ∙ ap (placed (findFrom (caches g) 0 (map freeBytes free ++ map usedBytes used))) (sym (length-blocks free used ∙ h .count))
     ∙ placed-first (caches g) (map freeBytes free ++ map usedBytes used)
     ∙ index-none (caches g) (map freeBytes free) (map usedBytes used) (none-free g free)
-    ∙ ap₂ _+_ (length-map free freeBytes) (index-map usedBytes (caches g) (λ u. engine 0 .same q (u .fingerprint)) (λ r. Unit {0})
+    ∙ ap₂ _+_ (length-map free freeBytes) (index-map usedBytes (caches g) (λ u. comparing .same q (u .fingerprint)) (λ r. Unit {0})
     (λ r u. has-used g q eq r) used (all-any used))
 
 pub fp-known : (P m n : ℕ) (t : List ℕ) (l : List (AddressRow (Fixed 32))) → Addrs P m n t l → (g : List ℕ) (q : Fixed 32) → q .0 ≡ g → (f : Found)
-    → findFrom (hasFingerprint g) 0 (rows n t) ≡ f → isAt f ≡ known (engine 0) q l
+    → findFrom (hasFingerprint g) 0 (rows n t) ≡ f → isAt f ≡ known (comparing) q l
 fp-known P m n t l h g q eq f e =
     ap isAt (sym e ∙ ap (findFrom (hasFingerprint g) 0) (rows-addrs P m n t l h))
-    ∙ found-has (engine 0 .same) (λ r. r .fingerprint) q (hasFingerprint g) addrBytes (has-fp g q eq) 0 l
+    ∙ found-has (comparing .same) (λ r. r .fingerprint) q (hasFingerprint g) addrBytes (has-fp g q eq) 0 l
 
 -- the rows xs in front do not pass
 found-past : {A : Type 0} (p : A → Bool) (xs ys : List A) (b : Bool) → All (λ x. p x ≡ false) xs → ((i : ℕ) → isAt (findFrom p i ys) ≡ b) → (j : ℕ)
@@ -164,7 +164,7 @@ found-past p [] ys b q f j = f j
 found-past p (x ∷ xs) ys b q f j = rw (q .0) (found-past p xs ys b (q .1) f (suc j))
 
 pub fp-cached : (d : ℕ) (t : List ℕ) (free : List ℕ) (used : List (BlockRow (Fixed 32))) → Blocks d t free used → (g : List ℕ) (q : Fixed 32) → q .0 ≡ g
-    → isAt (findFrom (caches g) 0 (rows d t)) ≡ cached (engine 0) q used
+    → isAt (findFrom (caches g) 0 (rows d t)) ≡ cached (comparing) q used
 fp-cached d t free used h g q eq =
     ap (λ (l : List (List ℕ)). isAt (findFrom (caches g) 0 l)) (rows-blocks d t free used h)
-    ∙ found-past (caches g) (map freeBytes free) (map usedBytes used) (cached (engine 0) q used) (none-free g free) (λ i. used-has g q eq i used) 0
+    ∙ found-past (caches g) (map freeBytes free) (map usedBytes used) (cached (comparing) q used) (none-free g free) (λ i. used-has g q eq i used) 0

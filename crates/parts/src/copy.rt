@@ -9,8 +9,8 @@ ghost use mathlib.Core.Bool.{true};
 ghost use Prim.Native.Nat.{_<_, _≤_};
 ghost use lib.ListN.{length, getD};
 ghost use Rattle.paper.specs.Cache.{Box, slotOf, reach};
-ghost use Rattle.paper.specs.Engine.{Fixed, engine};
-ghost use Rattle.parts.specs.Rep.{Sized, Rep, Lent, LentWith, noRow, copiedRow, copiedRows};
+ghost use Rattle.paper.specs.Engine.{Fixed};
+ghost use Rattle.parts.specs.Rep.{Sized, Rep, LentBox, LentWith, noRow, copiedRow, copiedRows, engine};
 ghost use Rattle.parts.specs.Asked.{slotIn};
 ghost use Rattle.tables.specs.Index.{Indexed};
 ghost use Rattle.tables.specs.Rows.{tableBytes};
@@ -37,10 +37,10 @@ pub(crate) fn copy_row(
     slot: FlashSlot,
 ) -> usize
     requires { ⌜ (i < b .held) × (slot .0 < b .slots) × (b .held ≤ b .rows) × (length (now addrs) ≡ tableBytes (b .rows)) ⌝ }
-    requires { ⌜ Lent b (now disk) (now flash) (now addrs) (now blocks) ⌝ }
+    requires { ⌜ LentBox b (now disk) (now flash) (now addrs) (now blocks) ⌝ }
     ensures { λ r. ⌜ r ≤ 1 ⌝ }
     ensures { λ r. ⌜ ((s : Box (Fixed 32) (Fixed (b .size))) → Rep b (now (disk .entry)) (now (flash .entry)) (now (addrs .entry)) (now (blocks .entry)) s
-        → slotOf (engine (b .size)) (getD (s .rows) i noRow .fingerprint) (s .used) ≡ slot .0
+        → slotOf (engine b) (getD (s .rows) i noRow .fingerprint) (s .used) ≡ slot .0
         → record { count = r; disk = now (disk .exit); addrs = now (addrs .exit) } ≡ copiedRow b (λ f. true) s i) ⌝ }
 {
     if !row::is_dirty(addrs, i) {
@@ -63,7 +63,7 @@ pub fn flush_row(
     heads: &[u16],
 ) -> usize
     requires { ⌜ (i < b .held) × (0 < b .slots) × (b .slots ≤ 256) × Sized b (now addrs) (now blocks) ⌝ }
-    requires { ⌜ Lent b (now disk) (now flash) (now addrs) (now blocks) ⌝ }
+    requires { ⌜ LentBox b (now disk) (now flash) (now addrs) (now blocks) ⌝ }
     requires { ⌜ Indexed (b .slots) (now blocks) (now heads) ⌝ }
     ensures { λ r. ⌜ r ≤ 1 ⌝ }
     ensures { λ r. ⌜ ((s : Box (Fixed 32) (Fixed (b .size))) → Rep b (now (disk .entry)) (now (flash .entry)) (now (addrs .entry)) (now (blocks .entry)) s
@@ -92,11 +92,11 @@ pub(crate) fn clean_row(
     slot: FlashSlot,
 ) -> usize
     requires { ⌜ (i < b .held) × (slot .0 < b .slots) × (length (now g) ≡ 32) × (b .held ≤ b .rows) × (length (now addrs) ≡ tableBytes (b .rows)) ⌝ }
-    requires { ⌜ Lent b (now disk) (now flash) (now addrs) (now blocks) ⌝ }
+    requires { ⌜ LentBox b (now disk) (now flash) (now addrs) (now blocks) ⌝ }
     ensures { λ r. ⌜ r ≤ 1 ⌝ }
     ensures { λ r. ⌜ ((s : Box (Fixed 32) (Fixed (b .size))) → Rep b (now (disk .entry)) (now (flash .entry)) (now (addrs .entry)) (now (blocks .entry)) s
-        → (v : Fixed 32) → v .0 ≡ now (g .entry) → slotOf (engine (b .size)) v (s .used) ≡ slot .0
-        → record { count = r; disk = now (disk .exit); addrs = now (addrs .exit) } ≡ copiedRow b (engine (b .size) .same v) s i) ⌝ }
+        → (v : Fixed 32) → v .0 ≡ now (g .entry) → slotOf (engine b) v (s .used) ≡ slot .0
+        → record { count = r; disk = now (disk .exit); addrs = now (addrs .exit) } ≡ copiedRow b (engine b .same v) s i) ⌝ }
 {
     if !row::is_dirty(addrs, i) {
         return 0;
@@ -118,11 +118,11 @@ pub fn flush_rows(
     heads: &[u16],
 ) -> usize
     requires { ⌜ (0 < b .slots) × (b .slots ≤ 256) × Sized b (now addrs) (now blocks) ⌝ }
-    requires { ⌜ Lent b (now disk) (now flash) (now addrs) (now blocks) ⌝ }
+    requires { ⌜ LentBox b (now disk) (now flash) (now addrs) (now blocks) ⌝ }
     requires { ⌜ Indexed (b .slots) (now blocks) (now heads) ⌝ }
     ensures { λ r. ⌜ r ≤ b .held ⌝ }
     ensures { λ r. ⌜ ((s : Box (Fixed 32) (Fixed (b .size))) → Rep b (now (disk .entry)) (now (flash .entry)) (now (addrs .entry)) (now (blocks .entry)) s
-        → record { count = r; disk = now (disk .exit); addrs = now (addrs .exit) } ≡ copiedRows b (λ f. true) s (reach (engine (b .size)) k (s .rows))) ⌝ }
+        → record { count = r; disk = now (disk .exit); addrs = now (addrs .exit) } ≡ copiedRows b (λ f. true) s (reach (engine b) k (s .rows))) ⌝ }
 {
     let mut count = 0;
     let mut i = 0;
@@ -150,8 +150,8 @@ pub fn clean_rows(
     requires { ⌜ LentWith b (now disk) (now flash) (now addrs) (now blocks) (now g) (slot .0) ⌝ }
     ensures { λ r. ⌜ r ≤ b .held ⌝ }
     ensures { λ r. ⌜ ((s : Box (Fixed 32) (Fixed (b .size))) → Rep b (now (disk .entry)) (now (flash .entry)) (now (addrs .entry)) (now (blocks .entry)) s
-        → (v : Fixed 32) → v .0 ≡ now (g .entry) → slotOf (engine (b .size)) v (s .used) ≡ slot .0
-        → record { count = r; disk = now (disk .exit); addrs = now (addrs .exit) } ≡ copiedRows b (engine (b .size) .same v) s (b .held)) ⌝ }
+        → (v : Fixed 32) → v .0 ≡ now (g .entry) → slotOf (engine b) v (s .used) ≡ slot .0
+        → record { count = r; disk = now (disk .exit); addrs = now (addrs .exit) } ≡ copiedRows b (engine b .same v) s (b .held)) ⌝ }
 {
     let mut count = 0;
     let mut i = 0;

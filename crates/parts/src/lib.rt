@@ -5,13 +5,14 @@ pub mod rows;
 ghost use mathlib.Core.Path.{_≡_};
 ghost use Rattle.parts.specs.Rep.{withHeld, emptyBox};
 
-// The box record: the block size B, the disk's blocks P, the most addresses held m, the cached blocks d, and the addresses held n.
+// The box record: the block size B, the disk's blocks P, the most addresses held m, the cached blocks d, the addresses held n, and the office label.
 pub struct BoxRecord {
     pub size: usize,
     pub blocks: usize,
     pub rows: usize,
     pub slots: usize,
     pub held: usize,
+    pub label: [u8; 64],
 }
 
 // The record with another number of addresses held.
@@ -23,9 +24,15 @@ pub fn with_held(b: BoxRecord, n: usize) -> BoxRecord
     c
 }
 
-// The record of a box of these numbers that holds no address.
-pub fn empty_box(size: usize, blocks: usize, rows: usize, slots: usize) -> BoxRecord
-    ensures { λ r. ⌜ r ≡ emptyBox size blocks rows slots ⌝ }
+// The record of a box of these numbers and this label that holds no address.
+pub fn empty_box(
+    size: usize,
+    blocks: usize,
+    rows: usize,
+    slots: usize,
+    label: [u8; 64],
+) -> BoxRecord
+    ensures { λ r. ⌜ r ≡ emptyBox size blocks rows slots label ⌝ }
 {
     BoxRecord {
         size: size,
@@ -33,5 +40,6 @@ pub fn empty_box(size: usize, blocks: usize, rows: usize, slots: usize) -> BoxRe
         rows: rows,
         slots: slots,
         held: 0,
+        label: label,
     }
 }

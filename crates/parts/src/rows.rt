@@ -11,20 +11,22 @@ ghost use Prim.Native.Nat.{ℕ, _+_, _<_, _≤_};
 ghost use lib.ListN.{length, take, getD};
 ghost use lib.Dec.{eqb, ltb};
 ghost use Rattle.tables.specs.Rows.{rowAt, rows, tableBytes};
-ghost use Rattle.tables.specs.Find.{every, isDirty};
-ghost use Rattle.tables.specs.Index.{Indexed, unique};
-ghost use Rattle.paper.specs.Cache.{AddressRow, BlockRow, known, someUncached};
-ghost use Rattle.paper.specs.Engine.{Fixed, engine};
+ghost use Rattle.tables.specs.Find.{findFrom, every, all, hasAddress, hasFingerprint, caches, isDirty, isUsed};
+ghost use Rattle.tables.specs.Index.{Indexed, unique, cachedIn, unknownIn};
+ghost use Rattle.paper.specs.Cache.{Numbers, AddressRow, BlockRow, known, someUncached};
+ghost use Rattle.paper.specs.Engine.{Fixed, labelled, comparing};
 ghost use Rattle.paper.specs.Lent.{bit};
 ghost use Rattle.parts.specs.Rep.{Sized, noRow};
 ghost use Rattle.paper.specs.Index.{indexWhere};
 ghost use Rattle.paper.specs.Layout.{Addrs, Blocks};
-ghost use Rattle.parts.specs.Asked.{victimPlace, full};
+ghost use Rattle.parts.specs.Asked.{orFirst, victimPlace, full};
+ghost use Rattle.parts.specs.TableLaws.{placed, isAt};
 ghost use Rattle.tables.specs.Records.{readAddress};
 
 // The index of the row of `a` among `n` held rows.
 pub fn row_of(t: &[u8], n: usize, a: SourceAddress) -> usize
     requires { ⌜ tableBytes n ≤ length (now t) ⌝ }
+    ensures { λ r. ⌜ r ≡ placed (findFrom (hasAddress (a .0)) 0 (rows n (now (t .entry)))) n ⌝ }
     ensures { λ r. ⌜ ((P m : ℕ) (rows : List (AddressRow (Fixed 32))) → Addrs P m n (now (t .entry)) rows → r
         ≡ indexWhere (λ x. eqb (a .0) (x .address)) rows) ⌝ }
 {
@@ -37,8 +39,9 @@ pub fn row_of(t: &[u8], n: usize, a: SourceAddress) -> usize
 // Whether one of `n` held rows has the fingerprint `g`.
 pub fn knows(t: &[u8], n: usize, g: &[u8]) -> bool
     requires { ⌜ (tableBytes n ≤ length (now t)) × (length (now g) ≡ 32) ⌝ }
+    ensures { λ r. ⌜ r ≡ isAt (findFrom (hasFingerprint (now (g .entry))) 0 (rows n (now (t .entry)))) ⌝ }
     ensures { λ r. ⌜ ((P m : ℕ) (rows : List (AddressRow (Fixed 32))) (f : Fixed 32) → Addrs P m n (now (t .entry)) rows → f .0 ≡ now (g .entry) → r
-        ≡ known (engine 0) f rows) ⌝ }
+        ≡ known (comparing) f rows) ⌝ }
 {
     match find::find_fingerprint(t, n, g) {
         Found::At(_) => true,
@@ -49,8 +52,9 @@ pub fn knows(t: &[u8], n: usize, g: &[u8]) -> bool
 // The place of the used row of `g` among `d` block rows.
 pub fn place_of(t: &[u8], d: usize, g: &[u8]) -> usize
     requires { ⌜ (tableBytes d ≤ length (now t)) × (length (now g) ≡ 32) ⌝ }
+    ensures { λ r. ⌜ r ≡ placed (findFrom (caches (now (g .entry))) 0 (rows d (now (t .entry)))) d ⌝ }
     ensures { λ r. ⌜ ((free : List ℕ) (used : List (BlockRow (Fixed 32))) (f : Fixed 32) → Blocks d (now (t .entry)) free used → f .0 ≡ now (g .entry) → r
-        ≡ length free + indexWhere (λ u. engine 0 .same f (u .fingerprint)) used) ⌝ }
+        ≡ length free + indexWhere (λ u. comparing .same f (u .fingerprint)) used) ⌝ }
 {
     match find::find_cached(t, d, g) {
         Found::At(i) => i,
@@ -62,8 +66,9 @@ pub fn place_of(t: &[u8], d: usize, g: &[u8]) -> usize
 pub fn uncached(addrs: &[u8], k: usize, blocks: &[u8], d: usize, heads: &[u16]) -> bool
     requires { ⌜ (tableBytes k ≤ length (now addrs)) × (length (now blocks) ≡ tableBytes d) × (d ≤ 256) ⌝ }
     requires { ⌜ Indexed d (now blocks) (now heads) ⌝ }
-    ensures { λ r. ⌜ ((B P m n : ℕ) (rows : List (AddressRow (Fixed 32))) (free : List ℕ) (used : List (BlockRow (Fixed 32)))
-        → Addrs P m n (now (addrs .entry)) rows → Blocks d (now (blocks .entry)) free used → k ≤ n → r ≡ someUncached (engine B) (take k rows) used) ⌝ }
+    ensures { λ r. ⌜ r ≡ not (all (cachedIn (rows d (now (blocks .entry)))) (rows k (now (addrs .entry)))) ⌝ }
+    ensures { λ r. ⌜ ((N : Numbers) (P m n : ℕ) (rows : List (AddressRow (Fixed 32))) (free : List ℕ) (used : List (BlockRow (Fixed 32)))
+        → Addrs P m n (now (addrs .entry)) rows → Blocks d (now (blocks .entry)) free used → k ≤ n → r ≡ someUncached (labelled N) (take k rows) used) ⌝ }
 {
     !checks::known::all_cached(addrs, k, blocks, d, heads)
 }
@@ -73,8 +78,9 @@ pub(crate) fn unknown_place(addrs: &[u8], n: usize, blocks: &[u8], d: usize, hea
     requires { ⌜ (length (now blocks) ≡ tableBytes d) × (d ≤ 256) × (tableBytes n ≤ length (now addrs)) ⌝ }
     requires { ⌜ every unique (rows d (now blocks)) ≡ true ⌝ }
     requires { ⌜ Indexed d (now blocks) (now heads) ⌝ }
-    ensures { λ r. ⌜ ((B P m : ℕ) (rows : List (AddressRow (Fixed 32))) (used : List (BlockRow (Fixed 32))) → Addrs P m n (now (addrs .entry)) rows
-        → Blocks d (now (blocks .entry)) [] used → r ≡ indexWhere (λ u. not (known (engine B) (u .fingerprint) rows)) used) ⌝ }
+    ensures { λ r. ⌜ r ≡ placed (findFrom (unknownIn (rows n (now (addrs .entry)))) 0 (rows d (now (blocks .entry)))) d ⌝ }
+    ensures { λ r. ⌜ ((P m : ℕ) (rows : List (AddressRow (Fixed 32))) (used : List (BlockRow (Fixed 32))) → Addrs P m n (now (addrs .entry)) rows
+        → Blocks d (now (blocks .entry)) [] used → r ≡ indexWhere (λ u. not (known comparing (u .fingerprint) rows)) used) ⌝ }
 {
     match checks::known::oldest_unknown(addrs, n, blocks, d, heads) {
         Found::At(j) => j,
@@ -88,8 +94,10 @@ pub fn victim(addrs: &[u8], n: usize, blocks: &[u8], d: usize, heads: &[u16]) ->
     requires { ⌜ every unique (rows d (now blocks)) ≡ true ⌝ }
     requires { ⌜ (full (now blocks) ≡ true → Indexed d (now blocks) (now heads)) ⌝ }
     ensures { λ r. ⌜ r < d ⌝ }
-    ensures { λ r. ⌜ ((B P m : ℕ) (rows : List (AddressRow (Fixed 32))) (free : List ℕ) (used : List (BlockRow (Fixed 32)))
-        → Addrs P m n (now (addrs .entry)) rows → Blocks d (now (blocks .entry)) free used → r ≡ victimPlace B rows free used) ⌝ }
+    ensures { λ r. ⌜ r ≡ cond (isUsed (rowAt (now (blocks .entry)) 0)) (orFirst (placed (findFrom (unknownIn (rows n (now (addrs .entry)))) 0
+        (rows d (now (blocks .entry)))) d) d) 0 ⌝ }
+    ensures { λ r. ⌜ ((P m : ℕ) (rows : List (AddressRow (Fixed 32))) (free : List ℕ) (used : List (BlockRow (Fixed 32)))
+        → Addrs P m n (now (addrs .entry)) rows → Blocks d (now (blocks .entry)) free used → r ≡ victimPlace rows free used) ⌝ }
 {
     if !row::is_used(blocks, 0) {
         return 0;
@@ -125,9 +133,11 @@ pub fn dirty_at(t: &[u8], i: usize) -> u8
 // The place of the block row of row `i`'s fingerprint, the count of block rows where there is no row `i` or it is not cached.
 pub fn place_of_row(b: BoxRecord, i: usize, addrs: &[u8], blocks: &[u8]) -> usize
     requires { ⌜ Sized b (now addrs) (now blocks) ⌝ }
+    ensures { λ r. ⌜ r ≡ cond (ltb i (b .held)) (placed (findFrom (caches (readAddress (rowAt (now (addrs .entry)) i) .fingerprint)) 0
+        (rows (b .slots) (now (blocks .entry)))) (b .slots)) (b .slots) ⌝ }
     ensures { λ r. ⌜ ((P m : ℕ) (rows : List (AddressRow (Fixed 32))) (free : List ℕ) (used : List (BlockRow (Fixed 32)))
         → Addrs P m (b .held) (now (addrs .entry)) rows → Blocks (b .slots) (now (blocks .entry)) free used
-        → r ≡ cond (ltb i (b .held)) (length free + indexWhere (λ u. engine 0 .same (getD rows i noRow .fingerprint) (u .fingerprint)) used) (b .slots)) ⌝ }
+        → r ≡ cond (ltb i (b .held)) (length free + indexWhere (λ u. comparing .same (getD rows i noRow .fingerprint) (u .fingerprint)) used) (b .slots)) ⌝ }
 {
     if i < b.held {
         return place_of(blocks, b.slots, row::address_fingerprint(addrs, i));

@@ -13,7 +13,7 @@ use Rattle.counters.specs.Added.{added}
 use Rattle.paper.specs.KeyedLaws.{or-false-right}
 use Rattle.paper.specs.Cache.{Numbers, AddressRow, Box, Call, Outcome, Word, hit, miss, sameBlock, newBlock, Counters, counted, oneIf, isRead, isHit}
 use Rattle.paper.specs.Cache.{answer, cached, serve, readAs, rowWithBlock, writeThrough, writeBack, writeInvalidate}
-use Rattle.paper.specs.Engine.{Fixed, fit, engine}
+use Rattle.paper.specs.Engine.{Fixed, fit, labelled}
 use Rattle.paper.specs.Lent.{Lent, Ask, calling, refusal, callOf, boxIn, lentOf, served, answered, blockAfter, partAfter, wrongBuffers, wrongBlock}
 use Rattle.paper.specs.Lent.{lentBlock, outside, addressOf, counts, over}
 use Rattle.paper.specs.RowBytes.{Bytes}
@@ -24,12 +24,12 @@ use Rattle.paper.specs.Layout.{addressesOf, blocksOf, passes-addrs, passes-bloc
 use Rattle.parts.specs.declared.BoxRecord.{BoxRecord}
 use Rattle.policy.specs.declared.Word as CodeWord
 use Rattle.policy.specs.declared.Answer.the-variants.{Refused, Answered}
-use Rattle.parts.specs.Rep.{numbersOf, Sized, Rep, withHeld}
+use Rattle.parts.specs.Rep.{numbersOf, Sized, Rep, withHeld, engine}
 use Rattle.step.specs.Steps.{Out4, out4, Sure}
 use Rattle.serve.specs.declared.Served as CodeServed
 use Rattle.serve.specs.declared.Write.{Write}
 use Rattle.serve.specs.declared.Write.the-variants.{Through, Back, Invalidate}
-use Rattle.serve.specs.Calls.{Access, LentSound, Leaves, left, leaves, writing, isYes, returned}
+use Rattle.serve.specs.Calls.{Access, LentSound, Leaves, left, leaves, writing, isYes, returnedOr}
 use Rattle.refusals.specs.Given.{countersOf, lent}
 use Rattle.policy.specs.Contract.{wordOf, Told, told, called, askOf}
 
@@ -172,22 +172,22 @@ or-new false = refl
 
 module _ (N : Numbers) (s : Box (Fixed 32) (Fixed (N .B))) (a : ℕ) where
   -- a read's word is hit or miss
-  pub read-says : (serve (engine (N .B)) N s (Call.read a)) .word ≡ cond (isYes ((serve (engine (N .B)) N s (Call.read a)) .word)) hit miss
+  pub read-says : (serve (labelled N) N s (Call.read a)) .word ≡ cond (isYes ((serve (labelled N) N s (Call.read a)) .word)) hit miss
   unfolding serve readAs answer
-  read-says = go (getD (s .disk) a (engine (N .B) .blank)) (rowWithBlock (engine (N .B)) s a)
+  read-says = go (getD (s .disk) a (labelled N .blank)) (rowWithBlock (labelled N) s a)
     where
       go : (x : Fixed (N .B)) (o : Option (AddressRow (Fixed 32)))
-          → (readAs (engine (N .B)) (N .m) s a x o) .word ≡ cond (isYes ((readAs (engine (N .B)) (N .m) s a x o) .word)) hit miss
+          → (readAs (labelled N) (N .m) s a x o) .word ≡ cond (isYes ((readAs (labelled N) (N .m) s a x o) .word)) hit miss
       go x (some r) = refl
       go x none = refl
 
   -- a write's word is same or new
   pub write-says : (kind : Write) (x : Fixed (N .B))
-      → (serve (engine (N .B)) N s (writing kind a x)) .word ≡ cond (isYes ((serve (engine (N .B)) N s (writing kind a x)) .word)) sameBlock newBlock
+      → (serve (labelled N) N s (writing kind a x)) .word ≡ cond (isYes ((serve (labelled N) N s (writing kind a x)) .word)) sameBlock newBlock
   unfolding serve writeThrough writeBack writeInvalidate answer
-  write-says Through x = or-new (cached (engine (N .B)) (engine (N .B) .hash x) (s .used))
-  write-says Back x = or-new (cached (engine (N .B)) (engine (N .B) .hash x) (s .used))
-  write-says Invalidate x = or-new (cached (engine (N .B)) (engine (N .B) .hash x) (s .used))
+  write-says Through x = or-new (cached (labelled N) (labelled N .hash x) (s .used))
+  write-says Back x = or-new (cached (labelled N) (labelled N .hash x) (s .used))
+  write-says Invalidate x = or-new (cached (labelled N) (labelled N .hash x) (s .used))
 
 -- a word that is one of two, from what the code says of it
 pub said-is : (w u v : Word) (said : Bool) → w ≡ cond (isYes w) u v → said ≡ isYes w → cond said u v ≡ w
@@ -207,7 +207,7 @@ no-hit w e = go (isYes w) e
     go false e = sym (ap (λ u. oneIf (isHit u)) e)
 
 -- the lent block after a read
-pub read-block : {B : ℕ} (a : ℕ) (l : List ℕ) (o : Option (Fixed B)) → some (returned o l) ≡ blockAfter (Ask.read a l) o
+pub read-block : {B : ℕ} (a : ℕ) (l : List ℕ) (o : Option (Fixed B)) → some (returnedOr o l) ≡ blockAfter (Ask.read a l) o
 read-block a l (some x) = refl
 read-block a l none = refl
 
@@ -222,7 +222,7 @@ module _ (b : BoxRecord) (own : List ℕ) (o : Outcome (Fixed 32) (Fixed (b .siz
   unfolding leaves
   yes-of = ap (λ y. y .yes) x
 
-  pub block-of : block ≡ returned (o .block) own
+  pub block-of : block ≡ returnedOr (o .block) own
   unfolding leaves
   block-of = ap (λ y. y .block) x
 
@@ -252,7 +252,7 @@ asks-write Invalidate B a l =
 module _ (b : BoxRecord) (disk flash addrs blocks : List ℕ) (c : Code.Counters) (kind : Write) (a : ℕ) (l : List ℕ)
     (e : refusal (numbersOf b) (lent b disk flash addrs blocks (countersOf c)) (calling (askOf kind a l)) ≡ 0) where
   pub written : (w : CodeWord.Word) (r : CodeServed.Served) (disk′ flash′ addrs′ blocks′ : List ℕ)
-      → left r disk′ flash′ addrs′ blocks′ l ≡ leaves b l (serve (engine (b .size)) (numbersOf b)
+      → left r disk′ flash′ addrs′ blocks′ l ≡ leaves b l (serve (engine b) (numbersOf b)
       (boxIn (numbersOf b) (lent b disk flash addrs blocks (countersOf c))) (writing kind a (fit (b .size) l)))
       → wordOf w ≡ cond (r .yes) sameBlock newBlock
       → told (record {
@@ -267,7 +267,7 @@ module _ (b : BoxRecord) (disk flash addrs blocks : List ℕ) (c : Code.Counters
       let o = outcome (numbersOf b) (lent b disk flash addrs blocks k) q in
       let f = asks-write kind (b .size) a l in
       let on : Call (Fixed (b .size)) → Outcome (Fixed 32) (Fixed (b .size))
-      = serve (engine (b .size)) (numbersOf b) (boxIn (numbersOf b) (lent b disk flash addrs blocks k)) in
+      = serve (engine b) (numbersOf b) (boxIn (numbersOf b) (lent b disk flash addrs blocks k)) in
       let says : o .word ≡ cond (isYes (o .word)) sameBlock newBlock
       = subst (λ (z : Call (Fixed (b .size))). (on z) .word ≡ cond (isYes ((on z) .word)) sameBlock newBlock) (sym (f .call))
       (write-says (numbersOf b) (boxIn (numbersOf b) (lent b disk flash addrs blocks k)) a kind (fit (b .size) l)) in

@@ -14,7 +14,7 @@ use Rattle.counters.specs.Added.{added}
 use Rattle.parts.specs.declared.BoxRecord.{BoxRecord}
 use Rattle.paper.specs.KeyedLaws.{All}
 use Rattle.paper.specs.Cache.{Numbers, Counters}
-use Rattle.paper.specs.Engine.{Fixed, engine}
+use Rattle.paper.specs.Engine.{Fixed}
 use Rattle.paper.specs.Lent.{Lent, over, boxIn, lentOf}
 use Rattle.paper.specs.RowBytes.{Bytes}
 use Rattle.paper.specs.LentLaws.{passes-sound}
@@ -23,7 +23,7 @@ use Rattle.paper.specs.Layout.{addressesOf, blocksOf}
 use Rattle.paper.specs.Batch.{start, batch}
 use Rattle.paper.specs.BatchLent.{batchRefusal, batched, servedBatch, callBatch}
 use Rattle.paper.specs.BatchLentLaws.{Finds, batch-finds, batch-served}
-use Rattle.parts.specs.Rep.{numbersOf, withHeld}
+use Rattle.parts.specs.Rep.{numbersOf, withHeld, engine}
 use Rattle.serve.specs.Calls.{LentSound}
 use Rattle.refusals.specs.Given.{countersOf, lent}
 use Rattle.turns.specs.declared.Sums.{Sums}
@@ -79,7 +79,7 @@ pub finish : (b : BoxRecord) (disk flash addresses blocks : List ℕ) (c : Code.
     → batchRefusal (numbersOf b) (lent b disk flash addresses blocks (countersOf c)) l buffer ≡ 0
     → (s : Sums) (disk′ flash′ addresses′ blocks′ buffer′ : List ℕ) → length buffer′ ≡ length buffer
     → Turned b l (countersOf c)
-    (batch (engine (b .size)) (numbersOf b) (start (boxIn (numbersOf b) (lent b disk flash addresses blocks (countersOf c))) (countersOf c)) l)
+    (batch (engine b) (numbersOf b) (start (boxIn (numbersOf b) (lent b disk flash addresses blocks (countersOf c))) (countersOf c)) l)
     s disk′ flash′ addresses′ blocks′ buffer′
     → toldMany (record {
       answer = Batched (s .hits) (s .flashed) (s .primary) (s .fetches);

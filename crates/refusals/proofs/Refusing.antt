@@ -33,10 +33,16 @@ pub elem-last : (s x : ℕ) → eqb s x ≡ elem s (x ∷ [])
 unfolding elem
 elem-last s x = by-test (eqb s x) (λ e. rw e refl) (λ e. rw e refl)
 
--- the two ways to say refusal 2 of the four buffers
-pub wrong-is : (b : BoxRecord) (disk flash addresses blocks : List ℕ) (k : Counters) → wrongLengths b (length disk) (length flash) (length addresses) (length blocks) ≡ wrongBuffers (numbersOf b) (lent b disk flash addresses blocks k)
+-- the two ways to say refusal 2 of the four buffers: a record's label has its length
+pub wrong-is : (b : BoxRecord) (disk flash addresses blocks : List ℕ) (k : Counters) → length (b .label) ≡ 64
+    → wrongLengths b (length disk) (length flash) (length addresses) (length blocks) ≡ wrongBuffers (numbersOf b) (lent b disk flash addresses blocks k)
 unfolding wrongLengths wrongBuffers
-wrong-is b disk flash addresses blocks k = refl
+wrong-is b disk flash addresses blocks k l =
+    rw (eq-eqb (length (b .label)) 64 l) (or-none (wrongLengths b (length disk) (length flash) (length addresses) (length blocks)))
+  where
+    or-none : (x : Bool) → x ≡ (x || false)
+    or-none true = refl
+    or-none false = refl
 
 -- a number that an opening gets, a call gets too
 pub refused-first : (N : Numbers) (t : Lent) (q : Ask) → (refusal N t opening ≡ 0 → ⊥) → refusal N t opening ≡ refusal N t (calling q)

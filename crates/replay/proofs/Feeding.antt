@@ -15,7 +15,7 @@ use Rattle.refusals.specs.Given.{countersOf}
 use Rattle.print.specs.Put.{Put}
 use Rattle.print.specs.Texts.{countersText}
 use Rattle.session.specs.Bytewise.{State, quiet, keep, firstLine, laterLine, endLine, lastLine, atEnd}
-use Rattle.session.specs.Memory.{Buffers, Held, Memory, After, over, stateIn, stored}
+use Rattle.session.specs.Memory.{Buffers, Held, Memory, FedMemory, over, stateIn, stored}
 use Rattle.session.specs.declared.Session.{Session}
 use Rattle.print.specs.PutLaws.{splice-next}
 use Rattle.session.specs.BufferLaws.{splice-first, over-same}
@@ -30,7 +30,7 @@ kept-is : (M : Memory) (k : ℕ) (l line : List ℕ) → k ≡ length l → line
     ≡ stored M (quiet (record { stage = M .session .stage; kept = l; number = M .session .number; numbers = (stateIn M) .numbers; lent = (stateIn M) .lent }))
 unfolding stored stateIn splice
 kept-is M k l line e i =
-    let made : ℕ → List ℕ → Buffers → After = λ k n B. record { memory = record { session = keeping (M .session) k; line = n; buffers = B; out = M .out }; filled = 0 } in
+    let made : ℕ → List ℕ → Buffers → FedMemory = λ k n B. record { memory = record { session = keeping (M .session) k; line = n; buffers = B; out = M .out }; filled = 0 } in
     let b = M .session .box_record in
     let B = M .buffers in
     ap₂ (λ k n. made k n B) e i ∙ ap (λ (h : Held). made (length l) (splice 0 l (M .line)) (h .buffers)) (over-same b (countersOf (M .session .counters)) (B .disk) (B .flash) (B .addresses) (B .blocks))
@@ -87,16 +87,16 @@ last-some s n m = rw (ne-eqb (s .stage) 0 n, ne-eqb (length (s .kept)) 0 m) refl
 abbrev pub tailOf : Session → List ℕ
 tailOf s = cond (eqb (s .stage) 1) (countersText (countersOf (s .counters))) []
 
-pub end-is : (M : Memory) (f : After) (s : Session) (n : ℕ) (out : List ℕ) → f ≡ stored M (lastLine (stateIn M)) → s ≡ f .memory .session → Put (f .filled) (tailOf (f .memory .session)) (f .memory .out) n out
+pub end-is : (M : Memory) (f : FedMemory) (s : Session) (n : ℕ) (out : List ℕ) → f ≡ stored M (lastLine (stateIn M)) → s ≡ f .memory .session → Put (f .filled) (tailOf (f .memory .session)) (f .memory .out) n out
     → record { memory = record { session = s; line = f .memory .line; buffers = f .memory .buffers; out = out }; filled = n } ≡ stored M (atEnd (stateIn M))
 unfolding stored atEnd
 end-is M f s n out e i p =
     let o = lastLine (stateIn M) in
     let g = stored M o in
     let tail = cond (eqb (o .state .stage) 1) (countersText (o .state .lent .counters)) [] in
-    let q : Put (length (o .text)) tail (splice 0 (o .text) (M .out)) n out = subst (λ (h : After). Put (h .filled) (tailOf (h .memory .session)) (h .memory .out) n out) e p in
-    ap {B = After} (λ x. record { memory = record { session = x; line = f .memory .line; buffers = f .memory .buffers; out = out }; filled = n }) i
-    ∙ ap {B = After} (λ (h : After). record { memory = record { session = h .memory .session; line = h .memory .line; buffers = h .memory .buffers; out = out }; filled = n }) e
-    ∙ ap₂ {C = After} (λ u v. record { memory = record { session = g .memory .session; line = g .memory .line; buffers = g .memory .buffers; out = u }; filled = v })
+    let q : Put (length (o .text)) tail (splice 0 (o .text) (M .out)) n out = subst (λ (h : FedMemory). Put (h .filled) (tailOf (h .memory .session)) (h .memory .out) n out) e p in
+    ap {B = FedMemory} (λ x. record { memory = record { session = x; line = f .memory .line; buffers = f .memory .buffers; out = out }; filled = n }) i
+    ∙ ap {B = FedMemory} (λ (h : FedMemory). record { memory = record { session = h .memory .session; line = h .memory .line; buffers = h .memory .buffers; out = out }; filled = n }) e
+    ∙ ap₂ {C = FedMemory} (λ u v. record { memory = record { session = g .memory .session; line = g .memory .line; buffers = g .memory .buffers; out = u }; filled = v })
     (q .1 ∙ ap (λ k. splice k tail (splice 0 (o .text) (M .out))) (sym (zero-add (length (o .text)))) ∙ splice-next 0 (o .text) tail (M .out) (omega arith))
     (q .0 ∙ sym (length-append (o .text) tail))

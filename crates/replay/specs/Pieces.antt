@@ -7,11 +7,11 @@ use lib.ListN.{take}
 use Rattle.answers.specs.Replay.{replay}
 use Rattle.session.specs.Bytewise.{rest}
 use Rattle.replay.specs.BytewiseLaws.{rest-replays}
-use Rattle.session.specs.Memory.{Memory, After, fits, stateIn, fed, ended}
+use Rattle.session.specs.Memory.{Memory, FedMemory, fits, stateIn, fed, ended}
 use Rattle.session.specs.MemoryLaws.{fed-state, fed-fits, fed-text, ended-text}
 
 -- the text that a byte, or the end, puts into the output
-abbrev pub textOf : After → List ℕ
+abbrev pub textOf : FedMemory → List ℕ
 textOf a = take (a .filled) (a .memory .out)
 
 -- all that is printed for the bytes that follow

@@ -9,7 +9,7 @@ ghost use mathlib.Core.Bool.{cond};
 ghost use mathlib.Core.List.{List, []};
 ghost use Prim.Native.Nat.{ℕ, _≤_};
 ghost use lib.Dec.{eqb};
-ghost use lib.ListN.{length};
+ghost use lib.ListN.{length, replicate};
 ghost use Rattle.parts.specs.Rep.{emptyBox};
 ghost use Rattle.refusals.specs.Given.{countersOf};
 ghost use Rattle.print.specs.Put.{Put};
@@ -23,11 +23,11 @@ pub fn begin() -> Session
       stage = 0;
       kept = 0;
       number = 0;
-      box_record = emptyBox 0 0 0 0;
+      box_record = emptyBox 0 0 0 0 (replicate 64 0);
       counters = (record { reads = 0; hits = 0; flash = 0; primary = 0 });
     } ⌝ }
 {
-    let b = parts::empty_box(0, 0, 0, 0);
+    let b = parts::empty_box(0, 0, 0, 0, [0u8; 64]);
     Session {
         stage: 0,
         kept: 0,

@@ -5,13 +5,13 @@ use Prim.Native.Nat.{ℕ, _≤_}
 use native.Mathlib.Omega.{arith}
 use lib.ListN.{length, take, length-take}
 use Rattle.paper.specs.KeyedLaws.{by-test}
-use Rattle.session.specs.Memory.{Memory, After, fits, stored, fed, ended}
+use Rattle.session.specs.Memory.{Memory, FedMemory, fits, stored, fed, ended}
 use Rattle.session.specs.MemoryLaws.{fed-text, ended-text}
 
 in-it : (t o : List ℕ) (n : ℕ) → take n o ≡ t → n ≡ length t → n ≤ length o
 in-it t o n e f = omega (arith, ap length e, length-take n o, f)
 
-abbrev pub Within : After → Type 0
+abbrev pub Within : FedMemory → Type 0
 Within a = a .filled ≤ length (a .memory .out)
 
 pub fed-within : (x : ℕ) (M : Memory) → Within (fed x M)

@@ -6,7 +6,7 @@ use Prim.Native.Nat.{ℕ, zero, suc, _-_, _^_, _≤_}
 use lib.Dec.{ltb, leb}
 use lib.ListN.{length, take, getD}
 use Rattle.answers.specs.Replay.{replay}
-use Rattle.session.specs.Memory.{Memory, After, fed, ended}
+use Rattle.session.specs.Memory.{Memory, FedMemory, fed, ended}
 use Rattle.replay.specs.Pieces.{textOf}
 use Rattle.replay_cli.specs.Chunks.{fedFirst}
 
@@ -54,6 +54,6 @@ abbrev pub Ran : ℕ → Memory → Memory → Type 0
 Ran size M N = (reads : List Reading) × Made size M reads × Stopped M reads × (N ≡ after M reads)
 
 -- what the end leaves after such reads, and that their texts and the end's are the replay of the bytes read
-abbrev pub Replayed : ℕ → Memory → After → Type 0
+abbrev pub Replayed : ℕ → Memory → FedMemory → Type 0
 Replayed size M a =
     (reads : List Reading) × Made size M reads × Stopped M reads × (a ≡ ended (after M reads)) × (handed M reads ++ textOf a ≡ replay (input reads))

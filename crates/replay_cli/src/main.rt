@@ -9,9 +9,10 @@ ghost use mathlib.Core.Bool.{_&&_};
 ghost use Prim.Native.Nat.{_≤_};
 ghost use lib.Dec.{ltb, leb};
 ghost use lib.ListN.{length, take};
+ghost use Rattle.io.specs.Counts.{Counts};
 ghost use Rattle.session.specs.Memory.{memory, fed, ended, afterOf};
 ghost use Rattle.replay.specs.Pieces.{Ready};
-ghost use Rattle.replay_cli.specs.Chunks.{first, fedFirst};
+ghost use Rattle.replay_cli.specs.Chunks.{first, fedFirst, waiting};
 ghost use Rattle.replay_cli.specs.Reads.{Ran, Replayed};
 
 // The first bytes of the output.
@@ -22,27 +23,45 @@ fn text(out: &[u8], filled: usize) -> &[u8]
     &out[0..filled]
 }
 
-// One byte of the input. Its text is written.
-fn step(
-    x: u8,
-    s: Session,
-    line: &mut [u8],
-    disk: &mut [u8],
-    flash: &mut [u8],
-    addresses: &mut [u8],
-    blocks: &mut [u8],
-    out: &mut [u8],
-) -> Fed
-    ensures { λ r. ⌜ afterOf r (now (line .exit)) (now (disk .exit)) (now (flash .exit)) (now (addresses .exit)) (now (blocks .exit)) (now (out .exit))
-        ≡ fed x
-        (memory s (now (line .entry)) (now (disk .entry)) (now (flash .entry)) (now (addresses .entry)) (now (blocks .entry)) (now (out .entry))) ⌝ }
-{
-    let f = feed::feed(x, s, line, disk, flash, addresses, blocks, out);
-    io::write_all(1, text(out, f.filled));
-    f
+// Writes a text, and says so where it cannot be written.
+fn put(text: &[u8]) {
+    if !io::write_all(1, text) {
+        os::fail(b"replay: the output cannot be written");
+    }
 }
 
-// The bytes of a chunk of the input.
+// Reads once, as many bytes as are there, and says so where the input cannot be read; that counts as its end.
+fn take(chunk: &mut [u8]) -> usize
+    ensures { λ r. ⌜ Counts r (now (chunk .exit)) ⌝ }
+{
+    let got = libc::read(0, chunk);
+    if got < 0 {
+        os::fail(b"replay: the list cannot be read");
+    }
+    io::count(got, chunk)
+}
+
+// Puts a text behind the `n` bytes that wait in the page. Where it has no room there, these are written first; a text longer than the page is written at once.
+// How many bytes wait then.
+fn collect(page: &mut [u8], n: usize, text: &[u8]) -> usize
+    requires { ⌜ n ≤ length (now page) ⌝ }
+    ensures { λ r. ⌜ r ≤ length (now (page .exit)) ⌝ }
+    ensures { λ r. ⌜ take r (now (page .exit)) ≡ waiting (length (now (page .entry))) (take n (now (page .entry))) (now (text .entry)) ⌝ }
+{
+    if text.len() <= page.len() - n {
+        block::put(text, page, n);
+        return n + text.len();
+    }
+    put(&page[0..n]);
+    if text.len() <= page.len() {
+        block::put(text, page, 0);
+        return text.len();
+    }
+    put(text);
+    0
+}
+
+// The bytes of a chunk of the input. Their texts are written in pages.
 fn run(
     chunk: &[u8],
     s: Session,
@@ -57,14 +76,18 @@ fn run(
         ≡ fedFirst (now (chunk .entry)) (length (now (chunk .entry)))
         (memory s (now (line .entry)) (now (disk .entry)) (now (flash .entry)) (now (addresses .entry)) (now (blocks .entry)) (now (out .entry))) ⌝ }
 {
+    let mut page = io::large_buffer();
+    let mut n = 0;
     let mut t = s;
     let mut i = 0;
     while i < chunk.len() {
         let x = chunk[i];
         i += 1;
-        let f = step(x, t, line, disk, flash, addresses, blocks, out);
+        let f = feed::feed(x, t, line, disk, flash, addresses, blocks, out);
+        n = collect(&mut page, n, text(out, f.filled));
         t = f.session;
     }
+    put(&page[0..n]);
     t
 }
 
@@ -91,7 +114,7 @@ fn turn(
         ≡ fedFirst (now (chunk .exit)) (r .count)
         (memory s (now (line .entry)) (now (disk .entry)) (now (flash .entry)) (now (addresses .entry)) (now (blocks .entry)) (now (out .entry))) ⌝ }
 {
-    let n = io::read_full(0, chunk);
+    let n = take(chunk);
     let t = run(&chunk[0..n], s, line, disk, flash, addresses, blocks, out);
     Taken {
         count: n,
@@ -124,7 +147,7 @@ fn last(
         (memory s (now (line .entry)) (now (disk .entry)) (now (flash .entry)) (now (addresses .entry)) (now (blocks .entry)) (now (out .entry))) ⌝ }
 {
     let f = feed::finish(s, line, disk, flash, addresses, blocks, out);
-    io::write_all(1, text(out, f.filled));
+    put(text(out, f.filled));
     f
 }
 

@@ -11,13 +11,12 @@ use Rattle.serve.specs.declared.Served.{Served}
 use Rattle.serve.specs.declared.Write.{Write}
 use Rattle.serve.specs.declared.Write.the-variants.{Through, Back, Invalidate}
 use Rattle.paper.specs.Cache.{Box, Call, Outcome, Word, serve, hit, miss, sameBlock, newBlock, fromCache, fromDisk, done}
-use Rattle.paper.specs.Engine.{Fixed}
-use Rattle.paper.specs.Engine.{engine}
+use Rattle.paper.specs.Engine.{Fixed, comparing}
 use Prim.Native.Nat.{_+_, _<_, _≤_}
 use lib.Dec.{eqb}
 use lib.ListN.{getD}
 use Rattle.paper.specs.Index.{indexWhere}
-use Rattle.parts.specs.Rep.{numbersOf, Sized, Rep, noRow}
+use Rattle.parts.specs.Rep.{numbersOf, Sized, Rep, noRow, engine}
 use Rattle.step.specs.Steps.{Out4, out4, Sure}
 
 -- the first of an answer's two words: hit, same, cache
@@ -30,9 +29,9 @@ isYes fromCache = true
 isYes fromDisk = false
 isYes done = true
 
-abbrev pub returned : {B : ℕ} → Option (Fixed B) → List ℕ → List ℕ
-returned none lent = lent
-returned (some x) lent = x .0
+abbrev pub returnedOr : {B : ℕ} → Option (Fixed B) → List ℕ → List ℕ
+returnedOr none lent = lent
+returnedOr (some x) lent = x .0
 
 -- what a read or a write needs of the box: room, a block of its size, an address on its disk, tables of its lengths, and a size that is one of the seven
 abbrev pub Access : BoxRecord → (a : ℕ) → (block addrs blocks : List ℕ) → Type 0
@@ -78,18 +77,18 @@ leaves b lent o = record {
   yes = isYes (o .word);
   held = length (o .box .rows);
   left = out4 b (record { box = o .box; flashWrites = o .flashWrites; primaryWrites = o .primaryWrites });
-  block = returned (o .block) lent;
+  block = returnedOr (o .block) lent;
 }
 
 -- a write leaves the bytes of the paper's write, of every sound box that the bytes before it are of
 abbrev pub Wrote : Write → (b : BoxRecord) → (a : ℕ) → (disk flash addrs blocks block : List ℕ) → Leaves → Type 0
 Wrote kind b a disk flash addrs blocks block l =
     (s : Box (Fixed 32) (Fixed (b .size))) (x : Fixed (b .size)) → Rep b disk flash addrs blocks s → Sure b s → x .0 ≡ block
-    → l ≡ leaves b block (serve (engine (b .size)) (numbersOf b) s (writing kind a x))
+    → l ≡ leaves b block (serve (engine b) (numbersOf b) s (writing kind a x))
 
 -- a is held in row i, and its fingerprint has the block row at j
 pub record HitAt (b : BoxRecord) (s : Box (Fixed 32) (Fixed (b .size))) (a i j : ℕ) : Type 0 where
   pub row : i ≡ indexWhere (λ x. eqb a (x .address)) (s .rows)
   pub is-held : i < b .held
-  pub place : j ≡ length (s .free) + indexWhere (λ u. engine 0 .same (getD (s .rows) i noRow .fingerprint) (u .fingerprint)) (s .used)
+  pub place : j ≡ length (s .free) + indexWhere (λ u. comparing .same (getD (s .rows) i noRow .fingerprint) (u .fingerprint)) (s .used)
   pub is-cached : j < b .slots

@@ -16,14 +16,14 @@ use Rattle.paper.specs.KeyedLaws.{All, by-test, eqb→≡}
 use Rattle.paper.specs.Cache.{AddressRow, BlockRow, Box, Stepped, newest, blockRow, held, known, cached, slotOf, withoutAddress}
 use Rattle.paper.specs.Cache.{withoutBlock, rowOf, step1, step3, step4, step}
 use Rattle.paper.specs.Sound.{sound-step1}
-use Rattle.paper.specs.Engine.{Fixed, engine}
+use Rattle.paper.specs.Engine.{Fixed, comparing}
 use Rattle.paper.specs.Lent.{bit}
 use Rattle.paper.specs.Index.{indexWhere, index-holds, has-yes, find-yes, without-yes, slotOf-yes}
 use Rattle.paper.specs.Layout.{Addrs, addressesOf, blocksOf}
-use Rattle.parts.specs.Rep.{numbersOf, Rep, noRow}
+use Rattle.parts.specs.Rep.{numbersOf, Rep, noRow, engine}
 use Rattle.parts.specs.Asked.{noBlock}
 use Rattle.parts.specs.MoveLaws.{removed, pushed, renewed}
-use Rattle.step.specs.Steps.{After, after, out4, asks, Sure}
+use Rattle.step.specs.Steps.{StepLeft, after, out4, asks, Sure}
 use Rattle.serve.specs.Calls.{HitAt}
 
 has-last : {K R : Type 0} (same : K → K → Bool) (key : R → K) (k : K) (l : List R) (r : R) → same k (key r) ≡ true → has same key k (l ++ (r ∷ [])) ≡ true
@@ -50,15 +50,15 @@ module _ (b : BoxRecord) (disk flash addrs blocks : List ℕ) (s : Box (Fixed 32
   rest : withoutAddress a (s .rows) ≡ removeAt (s .rows) i
   rest = without-yes eqb (λ (r : AddressRow (Fixed 32)). r .address) a eqb→≡ (s .rows) (sd .addresses) row-below ∙ ap (removeAt (s .rows)) (sym (q .row))
 
-  block-below : indexWhere (λ (u : BlockRow (Fixed 32)). engine 0 .same g (u .fingerprint)) (s .used) < length (s .used)
+  block-below : indexWhere (λ (u : BlockRow (Fixed 32)). comparing .same g (u .fingerprint)) (s .used) < length (s .used)
   block-below = omega (arith, q .place, q .is-cached, h .blocks-are .count)
 
-  is-cached : cached (engine (b .size)) g (s .used) ≡ true
-  is-cached = has-yes (engine 0 .same) (λ (u : BlockRow (Fixed 32)). u .fingerprint) g (s .used) block-below
+  is-cached : cached (engine b) g (s .used) ≡ true
+  is-cached = has-yes (comparing .same) (λ (u : BlockRow (Fixed 32)). u .fingerprint) g (s .used) block-below
 
-  is-known : known (engine (b .size)) g (withoutAddress a (s .rows) ++ (newest a g w ∷ [])) ≡ true
-  is-known = has-last (engine (b .size) .same) (λ (r : AddressRow (Fixed 32)). r .fingerprint) g (withoutAddress a (s .rows)) (newest a g w)
-      (engine (b .size) .same-refl g)
+  is-known : known (engine b) g (withoutAddress a (s .rows) ++ (newest a g w ∷ [])) ≡ true
+  is-known = has-last (engine b .same) (λ (r : AddressRow (Fixed 32)). r .fingerprint) g (withoutAddress a (s .rows)) (newest a g w)
+      (engine b .same-refl g)
 
   abbrev stepped : Stepped (Fixed 32) (Fixed (b .size))
   stepped =
@@ -66,7 +66,7 @@ module _ (b : BoxRecord) (disk flash addrs blocks : List ℕ) (s : Box (Fixed 32
         box = record {
           rows = withoutAddress a (s .rows) ++ (newest a g w ∷ []);
           free = s .free;
-          used = withoutBlock (engine (b .size)) g (s .used) ++ (blockRow g (slotOf (engine (b .size)) g (s .used)) ∷ []);
+          used = withoutBlock (engine b) g (s .used) ++ (blockRow g (slotOf (engine b) g (s .used)) ∷ []);
           flash = s .flash;
           disk = s .disk;
         };
@@ -74,11 +74,11 @@ module _ (b : BoxRecord) (disk flash addrs blocks : List ℕ) (s : Box (Fixed 32
         primaryWrites = 0;
       }
 
-  pub hit-stepped : step (engine (b .size)) (b .rows) s (asks a g x w) ≡ stepped
+  pub hit-stepped : step (engine b) (b .rows) s (asks a g x w) ≡ stepped
   unfolding step step1 step3 step4
   hit-stepped = rw (is-held, own-row, is-cached, is-known, is-cached) refl
 
-  rows-left : step1 (engine (b .size)) (b .rows) s a .rows ≡ removeAt (s .rows) i
+  rows-left : step1 (engine b) (b .rows) s a .rows ≡ removeAt (s .rows) i
   unfolding step1
   rows-left = rw is-held rest
 
@@ -88,20 +88,20 @@ module _ (b : BoxRecord) (disk flash addrs blocks : List ℕ) (s : Box (Fixed 32
       record {
         count = n ∙ ap (λ (k : ℕ). k - 1) (h .rows-are .count);
         few = omega (arith, h .rows-are .few);
-        below = subst (All (λ (r : AddressRow (Fixed 32)). r .address < b .blocks)) rows-left (sound-step1 (engine (b .size)) (numbersOf b) s a sd m1 .below);
+        below = subst (All (λ (r : AddressRow (Fixed 32)). r .address < b .blocks)) rows-left (sound-step1 (engine b) (numbersOf b) s a sd m1 .below);
         small = h .rows-are .small;
         is = refl;
       }
 
   pub hit-step : (addrs′ blocks′ : List ℕ) → addrs′ ≡ rowAdded (b .held - 1) (addressBytes (addressRow a (g .0) (bit w))) (rowOut (b .held) i addrs)
       → blocks′ ≡ rowNewest (b .slots) j blocks
-      → _≡_ {A = After} (record {
+      → _≡_ {A = StepLeft} (record {
         held = b .held;
         left = (record { flashed = 0; primary = 0; disk = disk; flash = flash; addrs = addrs′; blocks = blocks′ });
-      }) (after b (step (engine (b .size)) (b .rows) s (asks a g x w)))
+      }) (after b (step (engine b) (b .rows) s (asks a g x w)))
   unfolding after out4
   hit-step addrs′ blocks′ ea eb =
-      let k : ℕ = indexWhere (λ (u : BlockRow (Fixed 32)). engine 0 .same g (u .fingerprint)) (s .used) in
+      let k : ℕ = indexWhere (λ (u : BlockRow (Fixed 32)). comparing .same g (u .fingerprint)) (s .used) in
       let e1 : addrs′ ≡ addressesOf (b .rows) (withoutAddress a (s .rows) ++ (newest a g w ∷ []))
       = ea ∙ ap (rowAdded (b .held - 1) (addressBytes (addressRow a (g .0) (bit w))))
       (removed (b .blocks) (b .rows) (b .held) addrs (s .rows) (h .rows-are) i (q .is-held) noRow)
@@ -109,20 +109,20 @@ module _ (b : BoxRecord) (disk flash addrs blocks : List ℕ) (s : Box (Fixed 32
       (omega (arith, q .is-held, h .rows-are .few)) a g w
       ∙ ap (λ (l : List (AddressRow (Fixed 32))). addressesOf (b .rows) (l ++ (newest a g w ∷ []))) (sym rest) in
       let fe : getD (s .used) k noBlock .fingerprint ≡ g
-      = sym (engine 0 .same→≡ g (getD (s .used) k noBlock .fingerprint)
-      (index-holds (λ (u : BlockRow (Fixed 32)). engine 0 .same g (u .fingerprint)) (s .used) noBlock block-below)) in
-      let se : getD (s .used) k noBlock .slot ≡ slotOf (engine (b .size)) g (s .used) = sym (slotOf-yes (engine (b .size)) g (s .used) noBlock block-below) in
-      let ue : getD (s .used) k noBlock ≡ blockRow g (slotOf (engine (b .size)) g (s .used)) = λ n. record { fingerprint = fe n; slot = se n } in
-      let wo : withoutBlock (engine (b .size)) g (s .used) ≡ removeAt (s .used) k
-      = without-yes (engine 0 .same) (λ (u : BlockRow (Fixed 32)). u .fingerprint) g (engine 0 .same→≡) (s .used) (sd .fingerprints) block-below in
-      let e2 : blocks′ ≡ blocksOf (s .free) (withoutBlock (engine (b .size)) g (s .used) ++ (blockRow g (slotOf (engine (b .size)) g (s .used)) ∷ []))
+      = sym (comparing .same→≡ g (getD (s .used) k noBlock .fingerprint)
+      (index-holds (λ (u : BlockRow (Fixed 32)). comparing .same g (u .fingerprint)) (s .used) noBlock block-below)) in
+      let se : getD (s .used) k noBlock .slot ≡ slotOf (engine b) g (s .used) = sym (slotOf-yes (engine b) g (s .used) noBlock block-below) in
+      let ue : getD (s .used) k noBlock ≡ blockRow g (slotOf (engine b) g (s .used)) = λ n. record { fingerprint = fe n; slot = se n } in
+      let wo : withoutBlock (engine b) g (s .used) ≡ removeAt (s .used) k
+      = without-yes (comparing .same) (λ (u : BlockRow (Fixed 32)). u .fingerprint) g (comparing .same→≡) (s .used) (sd .fingerprints) block-below in
+      let e2 : blocks′ ≡ blocksOf (s .free) (withoutBlock (engine b) g (s .used) ++ (blockRow g (slotOf (engine b) g (s .used)) ∷ []))
       = eb ∙ ap (λ (n : ℕ). rowNewest (b .slots) n blocks) (q .place) ∙ renewed (b .slots) blocks (s .free) (s .used) (h .blocks-are) k block-below noBlock
       ∙ ap₂ {C = List ℕ} (λ u v. blocksOf (s .free) (u ++ (v ∷ []))) (sym wo) ue in
       let n : length (removeAt (s .rows) i) ≡ length (s .rows) - 1 = less-one (s .rows) i (omega (arith, q .is-held, h .rows-are .count)) in
       let m : length (withoutAddress a (s .rows) ++ (newest a g w ∷ [])) ≡ length (removeAt (s .rows) i) + 1
       = length-append (withoutAddress a (s .rows)) (newest a g w ∷ []) ∙ ap (λ (l : List (AddressRow (Fixed 32))). length l + 1) rest in
       let e0 : b .held ≡ length (withoutAddress a (s .rows) ++ (newest a g w ∷ [])) = omega (arith, n, m, q .is-held, h .rows-are .count) in
-      _∙_ {A = After}
+      _∙_ {A = StepLeft}
       (λ t. record {
         held = e0 t;
         left = (record { flashed = 0; primary = 0; disk = h .disk-is .is t; flash = h .flash-is .is t; addrs = e1 t; blocks = e2 t });

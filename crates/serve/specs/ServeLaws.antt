@@ -11,66 +11,66 @@ use borrow.Author.Tests.{ltb-true, ltb-false}
 use Rattle.block.specs.Blocks.{splice}
 use Rattle.parts.specs.declared.BoxRecord.{BoxRecord}
 use Rattle.paper.specs.KeyedLaws.{by-test}
-use Rattle.paper.specs.Cache.{AddressRow, BlockRow, Box, Call, Word, sameBlock, newBlock, Stepped, answer, cached, serve, writeBack, writeThrough}
+use Rattle.paper.specs.Cache.{Numbers, AddressRow, BlockRow, Box, Call, Word, sameBlock, newBlock, Stepped, answer, cached, serve, writeBack, writeThrough}
 use Rattle.paper.specs.Cache.{writeInvalidate, flushed, reach, partly, dirtied, onDisk, withoutAddress, dropped, step, hit, miss, readAs, rowWithBlock}
 use Rattle.paper.specs.Cache.{rowOf, ifCached, blockOf}
 use Rattle.paper.specs.Partly.{length-partly}
-use Rattle.paper.specs.Engine.{Fixed, engine}
+use Rattle.paper.specs.Engine.{Fixed, labelled, comparing}
 use Rattle.paper.specs.Lent.{bit}
 use Rattle.paper.specs.Index.{indexWhere, has-yes, has-no, find-yes, find-no}
-use Rattle.parts.specs.Rep.{numbersOf, noRow, Rep, Copied, copiedRows, partBox}
+use Rattle.parts.specs.Rep.{numbersOf, noRow, Rep, Copied, copiedRows, partBox, engine}
 use Rattle.paper.specs.Layout.{Addrs, Blocks, addressesOf}
 use Rattle.tables.specs.Rows.{rowAt}
 use Rattle.tables.specs.Find.{isDirty, hasFingerprint}
 use Rattle.parts.specs.MoveLaws.{row-is, dirty-is}
 use Rattle.parts.specs.TableLaws.{has-fp}
-use Rattle.step.specs.Steps.{out4, After, after, asks, blockBytes}
-use Rattle.serve.specs.Calls.{isYes, returned, Leaves, leaves, HitAt}
+use Rattle.step.specs.Steps.{out4, StepLeft, after, asks, blockBytes}
+use Rattle.serve.specs.Calls.{isYes, returnedOr, Leaves, leaves, HitAt}
 use Rattle.parts.specs.CopyLaws.{put-block-is}
 
 -- "same" where the fingerprint has a place
-pub yes-is : (B d : ℕ) (t : List ℕ) (free : List ℕ) (used : List (BlockRow (Fixed 32))) → Blocks d t free used → (f : Fixed 32) (j : ℕ)
-    → j ≡ length free + indexWhere (λ u. engine 0 .same f (u .fingerprint)) used
-    → ltb j d ≡ isYes (cond (cached (engine B) f used) sameBlock newBlock)
-yes-is B d t free used h f j e =
+pub yes-is : (N : Numbers) (d : ℕ) (t : List ℕ) (free : List ℕ) (used : List (BlockRow (Fixed 32))) → Blocks d t free used → (f : Fixed 32) (j : ℕ)
+    → j ≡ length free + indexWhere (λ u. comparing .same f (u .fingerprint)) used
+    → ltb j d ≡ isYes (cond (cached (labelled N) f used) sameBlock newBlock)
+yes-is N d t free used h f j e =
     by-test (ltb j d)
-    (λ y. let l = ltb-true j d y in let c : cached (engine B) f used
-    ≡ true = has-yes (engine 0 .same) (λ (u : BlockRow (Fixed 32)). u .fingerprint) f used (omega (arith, e, l, h .count)) in y ∙ rw c refl)
-    (λ y. let l = ltb-false j d y in let c : cached (engine B) f used
-    ≡ false = has-no (engine 0 .same) (λ (u : BlockRow (Fixed 32)). u .fingerprint) f used (omega (arith, e, l, h .count)) in y ∙ rw c refl)
+    (λ y. let l = ltb-true j d y in let c : cached (labelled N) f used
+    ≡ true = has-yes (comparing .same) (λ (u : BlockRow (Fixed 32)). u .fingerprint) f used (omega (arith, e, l, h .count)) in y ∙ rw c refl)
+    (λ y. let l = ltb-false j d y in let c : cached (labelled N) f used
+    ≡ false = has-no (comparing .same) (λ (u : BlockRow (Fixed 32)). u .fingerprint) f used (omega (arith, e, l, h .count)) in y ∙ rw c refl)
 
 pub answer-is : (b : BoxRecord) (lent : List ℕ) (w : Word) (o : Option (Fixed (b .size))) (more : ℕ) (t : Stepped (Fixed 32) (Fixed (b .size))) (yes : Bool)
     (held flashed p q : ℕ) (disk flash addrs blocks block : List ℕ)
-    → _≡_ {A = After} (record {
+    → _≡_ {A = StepLeft} (record {
       held = held;
       left = (record { flashed = flashed; primary = p; disk = disk; flash = flash; addrs = addrs; blocks = blocks });
-    }) (after b t) → yes ≡ isYes w → q ≡ more + p → block ≡ returned o lent
+    }) (after b t) → yes ≡ isYes w → q ≡ more + p → block ≡ returnedOr o lent
     → _≡_ {A = Leaves} (record {
       yes = yes;
       held = held;
       left = (record { flashed = flashed; primary = q; disk = disk; flash = flash; addrs = addrs; blocks = blocks });
       block = block;
-    }) (leaves b lent (answer (engine (b .size)) w o more t))
+    }) (leaves b lent (answer (engine b) w o more t))
 unfolding leaves answer after out4
 answer-is b lent w o more t y0 held flashed p q disk flash addrs blocks block e ey eq eb =
     λ j. record {
       yes = ey j;
-      held = ap (λ (y : After). y .held) e j;
+      held = ap (λ (y : StepLeft). y .held) e j;
       left = (record {
-        flashed = ap (λ (y : After). y .left .flashed) e j;
-        primary = (eq ∙ ap (λ (y : After). more + y .left .primary) e) j;
-        disk = ap (λ (y : After). y .left .disk) e j;
-        flash = ap (λ (y : After). y .left .flash) e j;
-        addrs = ap (λ (y : After). y .left .addrs) e j;
-        blocks = ap (λ (y : After). y .left .blocks) e j;
+        flashed = ap (λ (y : StepLeft). y .left .flashed) e j;
+        primary = (eq ∙ ap (λ (y : StepLeft). more + y .left .primary) e) j;
+        disk = ap (λ (y : StepLeft). y .left .disk) e j;
+        flash = ap (λ (y : StepLeft). y .left .flash) e j;
+        addrs = ap (λ (y : StepLeft). y .left .addrs) e j;
+        blocks = ap (λ (y : StepLeft). y .left .blocks) e j;
       });
       block = eb j;
     }
 
 -- the dirty value of a write back: no such row, a dirty row, the same fingerprint, another
-module _ (B P m n : ℕ) (t : List ℕ) (l : List (AddressRow (Fixed 32))) (h : Addrs P m n t l) (a i : ℕ) (ei : i ≡ indexWhere (λ x. eqb a (x .address)) l)
-    (f : Fixed 32) (g : List ℕ) (ef : f .0 ≡ g) where
-  pub value-none : n ≤ i → 1 ≡ bit (dirtied (engine B) f (rowOf a l))
+module _ (N : Numbers) (P m n : ℕ) (t : List ℕ) (l : List (AddressRow (Fixed 32))) (h : Addrs P m n t l) (a i : ℕ)
+    (ei : i ≡ indexWhere (λ x. eqb a (x .address)) l) (f : Fixed 32) (g : List ℕ) (ef : f .0 ≡ g) where
+  pub value-none : n ≤ i → 1 ≡ bit (dirtied (labelled N) f (rowOf a l))
   value-none k =
       let e : rowOf a l ≡ none = find-no eqb (λ (x : AddressRow (Fixed 32)). x .address) a l (omega (arith, ei, k, h .count)) in
       rw e refl
@@ -79,33 +79,33 @@ module _ (B P m n : ℕ) (t : List ℕ) (l : List (AddressRow (Fixed 32))) (h : 
   row-here k =
       find-yes eqb (λ (x : AddressRow (Fixed 32)). x .address) a l noRow (omega (arith, ei, k, h .count)) ∙ ap (λ (j : ℕ). some (getD l j noRow)) (sym ei)
 
-  pub value-dirty : i < n → isDirty (rowAt t i) ≡ true → 1 ≡ bit (dirtied (engine B) f (rowOf a l))
+  pub value-dirty : i < n → isDirty (rowAt t i) ≡ true → 1 ≡ bit (dirtied (labelled N) f (rowOf a l))
   value-dirty k d = rw (row-here k, sym (dirty-is P m n t l h i k noRow) ∙ d) refl
 
-  pub value-clean : i < n → isDirty (rowAt t i) ≡ false → (y : Bool) → hasFingerprint g (rowAt t i) ≡ y → bit (not y) ≡ bit (dirtied (engine B) f (rowOf a l))
+  pub value-clean : i < n → isDirty (rowAt t i) ≡ false → (y : Bool) → hasFingerprint g (rowAt t i) ≡ y → bit (not y) ≡ bit (dirtied (labelled N) f (rowOf a l))
   value-clean k d y e =
-      let z : engine B .same f (getD l i noRow .fingerprint) ≡ y
+      let z : labelled N .same f (getD l i noRow .fingerprint) ≡ y
       = sym (has-fp g f ef (getD l i noRow)) ∙ ap (hasFingerprint g) (sym (row-is P m n t l h i k noRow)) ∙ e in
       rw (row-here k, sym (dirty-is P m n t l h i k noRow) ∙ d, z) refl
 
 pub back-is : (b : BoxRecord) (lent : List ℕ) (s : Box (Fixed 32) (Fixed (b .size))) (a : ℕ) (x : Fixed (b .size))
-    → leaves b lent (answer (engine (b .size)) (cond (cached (engine (b .size)) (engine (b .size) .hash x) (s .used)) sameBlock newBlock) none 0
-    (step (engine (b .size)) (b .rows) s (asks a (engine (b .size) .hash x) x (dirtied (engine (b .size)) (engine (b .size) .hash x) (rowOf a (s .rows))))))
-    ≡ leaves b lent (serve (engine (b .size)) (numbersOf b) s (Call.back a x))
+    → leaves b lent (answer (engine b) (cond (cached (engine b) (engine b .hash x) (s .used)) sameBlock newBlock) none 0
+    (step (engine b) (b .rows) s (asks a (engine b .hash x) x (dirtied (engine b) (engine b .hash x) (rowOf a (s .rows))))))
+    ≡ leaves b lent (serve (engine b) (numbersOf b) s (Call.back a x))
 unfolding serve writeBack
 back-is b lent s a x = refl
 
 pub through-is : (b : BoxRecord) (lent : List ℕ) (s : Box (Fixed 32) (Fixed (b .size))) (a : ℕ) (x : Fixed (b .size))
-    → leaves b lent (answer (engine (b .size)) (cond (cached (engine (b .size)) (engine (b .size) .hash x) (s .used)) sameBlock newBlock) none 1
-    (step (engine (b .size)) (b .rows) (onDisk (engine (b .size)) s a x) (asks a (engine (b .size) .hash x) x false)))
-    ≡ leaves b lent (serve (engine (b .size)) (numbersOf b) s (Call.through a x))
+    → leaves b lent (answer (engine b) (cond (cached (engine b) (engine b .hash x) (s .used)) sameBlock newBlock) none 1
+    (step (engine b) (b .rows) (onDisk (engine b) s a x) (asks a (engine b .hash x) x false)))
+    ≡ leaves b lent (serve (engine b) (numbersOf b) s (Call.through a x))
 unfolding serve writeThrough
 through-is b lent s a x = refl
 
 -- the disk with the block on it
 pub rep-onDisk : (b : BoxRecord) (disk flash addrs blocks : List ℕ) (s : Box (Fixed 32) (Fixed (b .size))) → Rep b disk flash addrs blocks s → (a : ℕ)
     → a < b .blocks → (x : Fixed (b .size)) (disk′ : List ℕ) → disk′ ≡ splice (a * b .size) (x .0) disk
-    → Rep b disk′ flash addrs blocks (onDisk (engine (b .size)) s a x)
+    → Rep b disk′ flash addrs blocks (onDisk (engine b) s a x)
 rep-onDisk b disk flash addrs blocks s h a l x disk′ e =
     record {
       rows-are = h .rows-are;
@@ -120,7 +120,7 @@ rep-onDisk b disk flash addrs blocks s h a l x disk′ e =
 -- a flush of at most k rows
 pub flush-is : (b : BoxRecord) (k : ℕ) (lent disk flash addrs blocks : List ℕ) (s : Box (Fixed 32) (Fixed (b .size))) → Rep b disk flash addrs blocks s
     → (count : ℕ) (disk′ addrs′ : List ℕ)
-    → _≡_ {A = Copied} (record { count = count; disk = disk′; addrs = addrs′ }) (copiedRows b (λ f. true) s (reach (engine (b .size)) k (s .rows)))
+    → _≡_ {A = Copied} (record { count = count; disk = disk′; addrs = addrs′ }) (copiedRows b (λ f. true) s (reach (engine b) k (s .rows)))
     → _≡_ {A = Leaves}
     (record {
       yes = true;
@@ -128,11 +128,11 @@ pub flush-is : (b : BoxRecord) (k : ℕ) (lent disk flash addrs blocks : List �
       left = (record { flashed = 0; primary = count; disk = disk′; flash = flash; addrs = addrs′; blocks = blocks });
       block = lent;
     })
-    (leaves b lent (serve (engine (b .size)) (numbersOf b) s (Call.flush k)))
+    (leaves b lent (serve (engine b) (numbersOf b) s (Call.flush k)))
 unfolding leaves serve flushed out4 copiedRows partBox
 flush-is b k lent disk flash addrs blocks s h count disk′ addrs′ e =
-    let i = reach (engine (b .size)) k (s .rows) in
-    let n : b .held ≡ length (partly (engine (b .size)) i (s .rows)) = sym (h .rows-are .count) ∙ sym (length-partly (engine (b .size)) i (s .rows)) in
+    let i = reach (engine b) k (s .rows) in
+    let n : b .held ≡ length (partly (engine b) i (s .rows)) = sym (h .rows-are .count) ∙ sym (length-partly (engine b) i (s .rows)) in
     λ j. record {
       yes = true;
       held = n j;
@@ -143,15 +143,15 @@ flush-is b k lent disk flash addrs blocks s h count disk′ addrs′ e =
 -- invalidate
 pub invalidate-is : (b : BoxRecord) (lent disk flash addrs blocks : List ℕ) (s : Box (Fixed 32) (Fixed (b .size))) → Rep b disk flash addrs blocks s
     → (a : ℕ) → a < b .blocks → (x : Fixed (b .size)) (yes : Bool) (held : ℕ) (disk′ addrs′ blocks′ : List ℕ)
-    → yes ≡ isYes (cond (cached (engine (b .size)) (engine (b .size) .hash x) (s .used)) sameBlock newBlock) → disk′ ≡ splice (a * b .size) (x .0) disk
+    → yes ≡ isYes (cond (cached (engine b) (engine b .hash x) (s .used)) sameBlock newBlock) → disk′ ≡ splice (a * b .size) (x .0) disk
     → (held ≡ length (withoutAddress a (s .rows))) × (addrs′ ≡ addressesOf (b .rows) (withoutAddress a (s .rows))) ×
-    (blocks′ ≡ blockBytes (dropped (engine (b .size)) (withoutAddress a (s .rows)) (record { free = s .free; used = s .used }) (rowOf a (s .rows))))
+    (blocks′ ≡ blockBytes (dropped (engine b) (withoutAddress a (s .rows)) (record { free = s .free; used = s .used }) (rowOf a (s .rows))))
     → _≡_ {A = Leaves} (record {
       yes = yes;
       held = held;
       left = (record { flashed = 0; primary = 1; disk = disk′; flash = flash; addrs = addrs′; blocks = blocks′ });
       block = lent;
-    }) (leaves b lent (serve (engine (b .size)) (numbersOf b) s (Call.invalidate a x)))
+    }) (leaves b lent (serve (engine b) (numbersOf b) s (Call.invalidate a x)))
 unfolding leaves serve writeInvalidate out4
 invalidate-is b lent disk flash addrs blocks s h a l x y0 n disk′ addrs′ blocks′ ey ed q =
     let d = rep-onDisk b disk flash addrs blocks s h a l x disk′ ed in
@@ -165,41 +165,41 @@ invalidate-is b lent disk flash addrs blocks s h a l x y0 n disk′ addrs′ blo
 -- ---- read
 -- a read that takes x where it misses
 pub taken-is : (b : BoxRecord) (lent : List ℕ) (s : Box (Fixed 32) (Fixed (b .size))) (a : ℕ) (x : Fixed (b .size))
-    → leaves b lent (answer (engine (b .size)) miss (some x) 0 (step (engine (b .size)) (b .rows) s (asks a (engine (b .size) .hash x) x false)))
-    ≡ leaves b lent (readAs (engine (b .size)) (b .rows) s a x none)
+    → leaves b lent (answer (engine b) miss (some x) 0 (step (engine b) (b .rows) s (asks a (engine b .hash x) x false)))
+    ≡ leaves b lent (readAs (engine b) (b .rows) s a x none)
 unfolding readAs
 taken-is b lent s a x = refl
 
 module _ (b : BoxRecord) (disk flash addrs blocks : List ℕ) (s : Box (Fixed 32) (Fixed (b .size))) (h : Rep b disk flash addrs blocks s) (a : ℕ) where
-  pub hit-row : (i j : ℕ) → HitAt b s a i j → rowWithBlock (engine (b .size)) s a ≡ some (getD (s .rows) i noRow)
+  pub hit-row : (i j : ℕ) → HitAt b s a i j → rowWithBlock (engine b) s a ≡ some (getD (s .rows) i noRow)
   unfolding ifCached
   hit-row i j q =
       let lt : indexWhere (λ (x : AddressRow (Fixed 32)). eqb a (x .address)) (s .rows) < length (s .rows)
       = omega (arith, q .row, q .is-held, h .rows-are .count) in
       let f : rowOf a (s .rows) ≡ some (getD (s .rows) i noRow) = find-yes eqb (λ (x : AddressRow (Fixed 32)). x .address) a (s .rows) noRow lt
       ∙ ap (λ (k : ℕ). some (getD (s .rows) k noRow)) (sym (q .row)) in
-      let c : cached (engine (b .size)) (getD (s .rows) i noRow .fingerprint) (s .used) ≡ true
-      = has-yes (engine 0 .same) (λ (u : BlockRow (Fixed 32)). u .fingerprint) (getD (s .rows) i noRow .fingerprint) (s .used)
+      let c : cached (engine b) (getD (s .rows) i noRow .fingerprint) (s .used) ≡ true
+      = has-yes (comparing .same) (λ (u : BlockRow (Fixed 32)). u .fingerprint) (getD (s .rows) i noRow .fingerprint) (s .used)
       (omega (arith, q .place, q .is-cached, h .blocks-are .count)) in
       rw (f, c) refl
 
   pub hit-is : (lent : List ℕ) (y : Fixed (b .size)) (i j : ℕ) → HitAt b s a i j
-      → leaves b lent (answer (engine (b .size)) hit (some (blockOf (engine (b .size)) (getD (s .rows) i noRow .fingerprint) (s .used) (s .flash))) 0
-      (step (engine (b .size)) (b .rows) s (asks a (getD (s .rows) i noRow .fingerprint)
-      (blockOf (engine (b .size)) (getD (s .rows) i noRow .fingerprint) (s .used) (s .flash)) (getD (s .rows) i noRow .dirty))))
-      ≡ leaves b lent (readAs (engine (b .size)) (b .rows) s a y (rowWithBlock (engine (b .size)) s a))
+      → leaves b lent (answer (engine b) hit (some (blockOf (engine b) (getD (s .rows) i noRow .fingerprint) (s .used) (s .flash))) 0
+      (step (engine b) (b .rows) s (asks a (getD (s .rows) i noRow .fingerprint)
+      (blockOf (engine b) (getD (s .rows) i noRow .fingerprint) (s .used) (s .flash)) (getD (s .rows) i noRow .dirty))))
+      ≡ leaves b lent (readAs (engine b) (b .rows) s a y (rowWithBlock (engine b) s a))
   unfolding readAs
   hit-is lent y i j q = rw (hit-row i j q) refl
 
-  pub miss-is : (lent : List ℕ) → rowWithBlock (engine (b .size)) s a ≡ none
-      → leaves b lent (readAs (engine (b .size)) (b .rows) s a (getD (s .disk) a (engine (b .size) .blank)) none)
-      ≡ leaves b lent (serve (engine (b .size)) (numbersOf b) s (Call.read a))
+  pub miss-is : (lent : List ℕ) → rowWithBlock (engine b) s a ≡ none
+      → leaves b lent (readAs (engine b) (b .rows) s a (getD (s .disk) a (engine b .blank)) none)
+      ≡ leaves b lent (serve (engine b) (numbersOf b) s (Call.read a))
   unfolding serve
   miss-is lent q = rw q refl
 
   -- what the two searches of a read say
   pub found-hit : (i j : ℕ) → i ≡ indexWhere (λ x. eqb a (x .address)) (s .rows)
-      → j ≡ cond (ltb i (b .held)) (length (s .free) + indexWhere (λ u. engine 0 .same (getD (s .rows) i noRow .fingerprint) (u .fingerprint)) (s .used))
+      → j ≡ cond (ltb i (b .held)) (length (s .free) + indexWhere (λ u. comparing .same (getD (s .rows) i noRow .fingerprint) (u .fingerprint)) (s .used))
       (b .slots) → j < b .slots → HitAt b s a i j
   found-hit i j ei ej l =
       by-test (ltb i (b .held))
@@ -207,20 +207,20 @@ module _ (b : BoxRecord) (disk flash addrs blocks : List ℕ) (s : Box (Fixed 32
       (λ y. absurd (let e : j ≡ b .slots = rw y at ej in omega (arith, e, l)))
 
   pub found-miss : (i j : ℕ) → i ≡ indexWhere (λ x. eqb a (x .address)) (s .rows)
-      → j ≡ cond (ltb i (b .held)) (length (s .free) + indexWhere (λ u. engine 0 .same (getD (s .rows) i noRow .fingerprint) (u .fingerprint)) (s .used))
-      (b .slots) → b .slots ≤ j → rowWithBlock (engine (b .size)) s a ≡ none
+      → j ≡ cond (ltb i (b .held)) (length (s .free) + indexWhere (λ u. comparing .same (getD (s .rows) i noRow .fingerprint) (u .fingerprint)) (s .used))
+      (b .slots) → b .slots ≤ j → rowWithBlock (engine b) s a ≡ none
   unfolding ifCached
   found-miss i j ei ej l =
       by-test (ltb i (b .held))
       (λ y.
       let ih = ltb-true i (b .held) y in
       let lt : indexWhere (λ (x : AddressRow (Fixed 32)). eqb a (x .address)) (s .rows) < length (s .rows) = omega (arith, ei, ih, h .rows-are .count) in
-      let e : j ≡ length (s .free) + indexWhere (λ (u : BlockRow (Fixed 32)). engine 0 .same (getD (s .rows) i noRow .fingerprint) (u .fingerprint))
+      let e : j ≡ length (s .free) + indexWhere (λ (u : BlockRow (Fixed 32)). comparing .same (getD (s .rows) i noRow .fingerprint) (u .fingerprint))
       (s .used) = rw y at ej in
       let f : rowOf a (s .rows) ≡ some (getD (s .rows) i noRow) = find-yes eqb (λ (x : AddressRow (Fixed 32)). x .address) a (s .rows) noRow lt
       ∙ ap (λ (k : ℕ). some (getD (s .rows) k noRow)) (sym ei) in
-      let c : cached (engine (b .size)) (getD (s .rows) i noRow .fingerprint) (s .used) ≡ false
-      = has-no (engine 0 .same) (λ (u : BlockRow (Fixed 32)). u .fingerprint) (getD (s .rows) i noRow .fingerprint) (s .used)
+      let c : cached (engine b) (getD (s .rows) i noRow .fingerprint) (s .used) ≡ false
+      = has-no (comparing .same) (λ (u : BlockRow (Fixed 32)). u .fingerprint) (getD (s .rows) i noRow .fingerprint) (s .used)
       (omega (arith, e, l, h .blocks-are .count)) in
       rw (f, c) refl)
       (λ y.

@@ -12,12 +12,13 @@ ghost use mathlib.Core.List.{List};
 ghost use Prim.Native.Nat.{ℕ, _+_, _*_, _<_, _≤_};
 ghost use lib.ListN.{length, getD};
 ghost use mathlib.Core.Option.{Option};
-ghost use Rattle.paper.specs.Cache.{AddressRow, Box, Call, serve, rowOf, rowWithBlock, readAs, dirtied};
-ghost use Rattle.paper.specs.Engine.{Fixed, engine};
+ghost use Rattle.hash.specs.LastChunk.{Size};
+ghost use Rattle.paper.specs.Cache.{Numbers, AddressRow, Box, Call, serve, rowOf, rowWithBlock, readAs, dirtied};
+ghost use Rattle.paper.specs.Engine.{Fixed, labelled};
 ghost use Rattle.paper.specs.Layout.{Addrs};
 ghost use Rattle.paper.specs.Lent.{bit};
 ghost use Rattle.tables.specs.Rows.{tableBytes};
-ghost use Rattle.parts.specs.Rep.{numbersOf, Sized, Rep, Lent};
+ghost use Rattle.parts.specs.Rep.{numbersOf, Sized, Rep, LentBox, engine};
 ghost use Rattle.tables.specs.Index.{Indexed};
 ghost use Rattle.step.specs.Steps.{Sure};
 ghost use Rattle.serve.specs.declared.Write.the-variants.{Through, Back, Invalidate};
@@ -38,11 +39,20 @@ pub enum Write {
     Invalidate,
 }
 
+// The fingerprint of a block of the box, under its label.
+fn fingerprint_of(b: BoxRecord, block: &[u8]) -> [u8; 32]
+    requires { ⌜ Size (length (now block)) ⌝ }
+    ensures { λ r. ⌜ ((x : Fixed (b .size)) → x .0 ≡ now (block .entry) → engine b .hash x .0 ≡ r) ⌝ }
+{
+    let label = b.label;
+    fingerprint::labelled_sha256(label, block)
+}
+
 // The dirty value of a write back of the fingerprint `g` to `a`: 0 where `a` is held, clean, with `g`.
 fn dirty_value(b: BoxRecord, a: SourceAddress, addrs: &[u8], g: &[u8]) -> u8
     requires { ⌜ (b .held ≤ b .rows) × (length (now addrs) ≡ tableBytes (b .rows)) × (length (now g) ≡ 32) ⌝ }
-    ensures { λ r. ⌜ ((B : ℕ) (l : List (AddressRow (Fixed 32))) (f : Fixed 32)
-        → Addrs (b .blocks) (b .rows) (b .held) (now (addrs .entry)) l → f .0 ≡ now (g .entry) → r ≡ bit (dirtied (engine B) f (rowOf (a .0) l))) ⌝ }
+    ensures { λ r. ⌜ ((N : Numbers) (l : List (AddressRow (Fixed 32))) (f : Fixed 32)
+        → Addrs (b .blocks) (b .rows) (b .held) (now (addrs .entry)) l → f .0 ≡ now (g .entry) → r ≡ bit (dirtied (labelled N) f (rowOf (a .0) l))) ⌝ }
 {
     let i = rows::row_of(addrs, b.held, a);
     if b.held <= i {
@@ -75,7 +85,7 @@ fn serve_back(
     ensures { λ r. ⌜ Wrote Back b (a .0) (now (disk .entry)) (now (flash .entry)) (now (addrs .entry)) (now (blocks .entry)) (now (block .entry))
         (left r (now (disk .exit)) (now (flash .exit)) (now (addrs .exit)) (now (blocks .exit)) (now (block .entry))) ⌝ }
 {
-    let g = fingerprint::block_sha256(block);
+    let g = fingerprint_of(b, block);
     let j = rows::place_of(blocks, b.slots, &g);
     let w = dirty_value(b, a, addrs, &g);
     let d = steps::step(b, a, w, disk, flash, addrs, blocks, &g, block, heads);
@@ -98,13 +108,13 @@ pub fn serve_flush(
     heads: &[u16],
 ) -> Served
     requires { ⌜ (0 < b .slots) × (b .slots ≤ 256) × Sized b (now addrs) (now blocks) ⌝ }
-    requires { ⌜ Lent b (now disk) (now flash) (now addrs) (now blocks) ⌝ }
+    requires { ⌜ LentBox b (now disk) (now flash) (now addrs) (now blocks) ⌝ }
     requires { ⌜ Indexed (b .slots) (now blocks) (now heads) ⌝ }
     ensures { λ r. ⌜ (r .flashed ≤ 1) × (r .primary ≤ 2 + b .rows) ⌝ }
     ensures { λ r. ⌜ ((s : Box (Fixed 32) (Fixed (b .size))) (lent : List ℕ)
         → Rep b (now (disk .entry)) (now (flash .entry)) (now (addrs .entry)) (now (blocks .entry)) s
         → left r (now (disk .exit)) (now (flash .entry)) (now (addrs .exit)) (now (blocks .entry)) lent
-        ≡ leaves b lent (serve (engine (b .size)) (numbersOf b) s (Call.flush k))) ⌝ }
+        ≡ leaves b lent (serve (engine b) (numbersOf b) s (Call.flush k))) ⌝ }
 {
     let count = copy::flush_rows(b, k, disk, flash, addrs, blocks, heads);
     Served {
@@ -133,7 +143,7 @@ fn serve_through(
     ensures { λ r. ⌜ Wrote Through b (a .0) (now (disk .entry)) (now (flash .entry)) (now (addrs .entry)) (now (blocks .entry)) (now (block .entry))
         (left r (now (disk .exit)) (now (flash .exit)) (now (addrs .exit)) (now (blocks .exit)) (now (block .entry))) ⌝ }
 {
-    let g = fingerprint::block_sha256(block);
+    let g = fingerprint_of(b, block);
     let j = rows::place_of(blocks, b.slots, &g);
     block::put_address(block, disk, a, b.size);
     let d = steps::step(b, a, 0, disk, flash, addrs, blocks, &g, block, heads);
@@ -160,7 +170,7 @@ fn serve_invalidate(
     ensures { λ r. ⌜ ((flash : List ℕ) → Wrote Invalidate b (a .0) (now (disk .entry)) flash (now (addrs .entry)) (now (blocks .entry)) (now (block .entry))
         (left r (now (disk .exit)) flash (now (addrs .exit)) (now (blocks .exit)) (now (block .entry)))) ⌝ }
 {
-    let g = fingerprint::block_sha256(block);
+    let g = fingerprint_of(b, block);
     let j = rows::place_of(blocks, b.slots, &g);
     let i = rows::row_of(addrs, b.held, a);
     block::put_address(block, disk, a, b.size);
@@ -216,7 +226,7 @@ pub fn read_hit(
     ensures { λ r. ⌜ ((disk : List ℕ) (s : Box (Fixed 32) (Fixed (b .size))) (x : Fixed (b .size)) (lent : List ℕ)
         → Rep b disk (now (flash .entry)) (now (addrs .entry)) (now (blocks .entry)) s → Sure b s → HitAt b s (a .0) i j
         → left r disk (now (flash .entry)) (now (addrs .exit)) (now (blocks .exit)) (now (block .exit))
-        ≡ leaves b lent (readAs (engine (b .size)) (b .rows) s (a .0) x (rowWithBlock (engine (b .size)) s (a .0)))) ⌝ }
+        ≡ leaves b lent (readAs (engine b) (b .rows) s (a .0) x (rowWithBlock (engine b) s (a .0)))) ⌝ }
 {
     let g = rows::fp_at(addrs, i);
     let dirty = rows::dirty_at(addrs, i);
@@ -249,9 +259,9 @@ pub fn read_taken(
     ensures { λ r. ⌜ ((s : Box (Fixed 32) (Fixed (b .size))) (x : Fixed (b .size)) (lent : List ℕ)
         → Rep b (now (disk .entry)) (now (flash .entry)) (now (addrs .entry)) (now (blocks .entry)) s → Sure b s → x .0 ≡ now (block .entry)
         → left r (now (disk .exit)) (now (flash .exit)) (now (addrs .exit)) (now (blocks .exit)) (now (block .entry))
-        ≡ leaves b lent (readAs (engine (b .size)) (b .rows) s (a .0) x Option.none)) ⌝ }
+        ≡ leaves b lent (readAs (engine b) (b .rows) s (a .0) x Option.none)) ⌝ }
 {
-    let g = fingerprint::block_sha256(block);
+    let g = fingerprint_of(b, block);
     let d = steps::step(b, a, 0, disk, flash, addrs, blocks, &g, block, heads);
     Served {
         yes: false,
@@ -279,7 +289,7 @@ pub fn read_miss(
     ensures { λ r. ⌜ ((s : Box (Fixed 32) (Fixed (b .size))) (lent : List ℕ)
         → Rep b (now (disk .entry)) (now (flash .entry)) (now (addrs .entry)) (now (blocks .entry)) s → Sure b s
         → left r (now (disk .exit)) (now (flash .exit)) (now (addrs .exit)) (now (blocks .exit)) (now (block .exit))
-        ≡ leaves b lent (readAs (engine (b .size)) (b .rows) s (a .0) (getD (s .disk) (a .0) (engine (b .size) .blank)) Option.none)) ⌝ }
+        ≡ leaves b lent (readAs (engine b) (b .rows) s (a .0) (getD (s .disk) (a .0) (engine b .blank)) Option.none)) ⌝ }
 {
     block::copy_all(block::at_address(disk, a, b.size), block);
     read_taken(b, a, disk, flash, addrs, blocks, block, heads)
@@ -303,7 +313,7 @@ pub fn serve_read(
     ensures { λ r. ⌜ ((s : Box (Fixed 32) (Fixed (b .size))) (lent : List ℕ)
         → Rep b (now (disk .entry)) (now (flash .entry)) (now (addrs .entry)) (now (blocks .entry)) s → Sure b s
         → left r (now (disk .exit)) (now (flash .exit)) (now (addrs .exit)) (now (blocks .exit)) (now (block .exit))
-        ≡ leaves b lent (serve (engine (b .size)) (numbersOf b) s (Call.read (a .0)))) ⌝ }
+        ≡ leaves b lent (serve (engine b) (numbersOf b) s (Call.read (a .0)))) ⌝ }
 {
     let i = rows::row_of(addrs, b.held, a);
     let j = rows::place_of_row(b, i, addrs, blocks);

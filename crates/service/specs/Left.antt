@@ -11,12 +11,12 @@ use Rattle.block.specs.Blocks.{part}
 use Rattle.paper.specs.Lent.{Lent, Ask, Answer, refused, answered, After, lentBlock, call}
 use Rattle.paper.specs.BatchLent.{BatchAfter, callBatch}
 use Rattle.parts.specs.declared.BoxRecord.{BoxRecord}
-use Rattle.parts.specs.Rep.{numbersOf}
+use Rattle.parts.specs.Rep.{numbersOf, emptyBox}
 use Rattle.refusals.specs.Given.{countersOf, lent}
 use Rattle.open.specs.Contract.{Opened, opens}
 use Rattle.look.specs.Look.{whereIs}
-use Rattle.fields.specs.Fields.{get8, recordIn, countersIn, wordNumber, fitting}
-use Rattle.fields.specs.Noted.{numberOf, stateAfter, answerAfter, manyNumberOf, manyStateAfter, manyAnswerAfter, opening, LeftLook, placeIn}
+use Rattle.fields.specs.Fields.{get8, recordIn, countersIn, wordNumber, fitting, stateBytes}
+use Rattle.fields.specs.Noted.{answerNumber, stateAfter, answerAfter, manyNumberOf, manyStateAfter, manyAnswerAfter, stateOpened, LeftLook, notedPlace}
 
 -- what is lent, of the state's bytes and the four buffers
 abbrev pub lentIn : (state disk flash addresses blocks : List ℕ) → Lent
@@ -43,7 +43,7 @@ leaving number state disk flash addresses blocks block answer =
 unfoldable pub toldIn : (state answer : List ℕ) → After → Left
 toldIn s l x =
     record {
-      number = numberOf (x .answer);
+      number = answerNumber (x .answer);
       state = stateAfter (x .answer) (x .lent .n) (x .lent .counters) s;
       disk = x .lent .disk;
       flash = x .lent .flash;
@@ -53,7 +53,7 @@ toldIn s l x =
       answer = answerAfter (x .answer) l;
     }
 
--- A state that isn't 72 bytes or an answer that isn't 24: 2, and nothing is changed.
+-- A state or an answer of another length: 2, and nothing is changed.
 unfoldable pub leaves : Ask → (state disk flash addresses blocks answer : List ℕ) → Left
 leaves q s disk flash addresses blocks l =
     cond (fitting 24 s l)
@@ -86,7 +86,7 @@ toldManyIn s l x =
       answer = manyAnswerAfter (x .answer) l;
     }
 
--- A state that isn't 72 bytes or an answer that isn't 32: 2, and nothing is changed.
+-- A state or an answer of another length: 2, and nothing is changed.
 unfoldable pub leavesMany : (asked buffer state disk flash addresses blocks answer : List ℕ) → LeftMany
 leavesMany q f s disk flash addresses blocks l =
     cond (fitting 32 s l)
@@ -101,23 +101,23 @@ pub record LeftOpen : Type 0 where
   pub addresses : List ℕ
   pub blocks : List ℕ
 
--- the box record that an opening is given: n is not read
-abbrev pub freshRecord : List ℕ → BoxRecord
-freshRecord s = record { size = get8 s 0; blocks = get8 s 8; rows = get8 s 16; slots = get8 s 24; held = 0 }
+-- the box record that an opening is given, the label beside the state: n and the state's own label are not read
+abbrev pub freshRecord : (label state : List ℕ) → BoxRecord
+freshRecord label s = emptyBox (get8 s 0) (get8 s 8) (get8 s 16) (get8 s 24) label
 
 unfoldable pub openedIn : List ℕ → Opened → LeftOpen
 openedIn s x =
     record {
       number = x .number;
-      state = opening (x .number) (x .lent .n) (x .lent .counters) s;
+      state = stateOpened (x .number) (x .lent .n) (x .lent .counters) (x .numbers .label) s;
       addresses = x .lent .addresses;
       blocks = x .lent .blocks;
     }
 
-unfoldable pub leavesOpen : (state disk flash addresses blocks : List ℕ) → LeftOpen
-leavesOpen s disk flash addresses blocks =
-    cond (eqb (length s) 72)
-    (openedIn s (opens (freshRecord s) disk flash addresses blocks (countersOf (countersIn s))))
+unfoldable pub leavesOpen : (label state disk flash addresses blocks : List ℕ) → LeftOpen
+leavesOpen label s disk flash addresses blocks =
+    cond (eqb (length s) stateBytes)
+    (openedIn s (opens (freshRecord label s) disk flash addresses blocks (countersOf (countersIn s))))
     (record { number = 2; state = s; addresses = addresses; blocks = blocks })
 
 -- ---- look
@@ -125,7 +125,7 @@ leavesOpen s disk flash addresses blocks =
 unfoldable pub leavesLook : ℕ → (state disk flash addresses blocks answer : List ℕ) → LeftLook
 leavesLook a s disk flash addresses blocks l =
     cond (fitting 24 s l)
-    (placeIn (recordIn s .size) a l (whereIs (numbersOf (recordIn s)) (lentIn s disk flash addresses blocks) a))
+    (notedPlace (recordIn s .size) a l (whereIs (numbersOf (recordIn s)) (lentIn s disk flash addresses blocks) a))
     (record { number = 2; answer = l })
 
 -- the part that an answer shows: of the flash where the word is 5, else of the disk
@@ -138,6 +138,6 @@ wordIn (answered w f p) = wordNumber w
 
 -- A look's number, word and part are the paper's.
 pub record Shows (number : ℕ) (answer : List ℕ) (t : Lent) (x : After) : Type 0 where
-  pub number-is : number ≡ numberOf (x .answer)
+  pub number-is : number ≡ answerNumber (x .answer)
   pub word-is : number ≡ 0 → get8 answer 0 ≡ wordIn (x .answer)
   pub part-is : number ≡ 0 → shown (t .flash) (t .disk) answer ≡ x .part

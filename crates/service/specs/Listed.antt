@@ -10,15 +10,15 @@ use lib.ListN.{length}
 use borrow.Author.Tests.{eq-eqb}
 use Rattle.paper.specs.KeyedLaws.{by-test}
 use Rattle.paper.specs.Cache.{Numbers}
-use Rattle.paper.specs.Lent.{Lent, Ask, opening, refusal, lentBlock, call, opened, fresh}
-use Rattle.paper.specs.RefusalLaws.{opened-is}
+use Rattle.paper.specs.Lent.{Lent, Ask, opening, refusal, lentBlock, call, opened, fresh, withLabel}
+use Rattle.paper.specs.RefusalLaws.{opened-is, label-carried}
 use Rattle.paper.specs.BatchLent.{Asking, one, many, callBatch}
 use Rattle.paper.specs.CallLaws.{In64}
 use Rattle.paper.specs.Demand3.{next, Demand3}
 use Rattle.paper.specs.Demand3Laws.{demand-3, Written, opened-written, next-written, next-64, look-stays}
 use Rattle.parts.specs.Rep.{numbersOf}
 use Rattle.refusals.specs.Given.{countersOf, lent}
-use Rattle.fields.specs.Fields.{recordIn, countersIn, fitting}
+use Rattle.fields.specs.Fields.{recordIn, countersIn, fitting, stateBytes}
 use Rattle.fields.specs.Noted.{LeftLook}
 use Rattle.service.specs.Left.{lentIn, toldIn, Left, leaves, LeftMany, toldManyIn, leavesMany, freshRecord, openedIn, leavesOpen, leavesLook, Shows}
 use Rattle.service.specs.Carried.{Carries, carried-64, carried-many, carried-open}
@@ -157,16 +157,16 @@ module _ (N : Numbers) where
   returns : (t : Lent) (y : Kept) (q : Ask) (l : List ℕ) → CarriesIn y N t → Returns N t y q l
   unfolding leaves fitting
   returns t y q l k =
-      rw (eq-eqb (length (y .state)) 72 (k .long)) (by-test (eqb (length l) 24) (λ z. rw (z, k .numbers, k .lent) refl) (λ z. rw z refl))
+      rw (eq-eqb (length (y .state)) stateBytes (k .long)) (by-test (eqb (length l) 24) (λ z. rw (z, k .numbers, k .lent) refl) (λ z. rw z refl))
 
   -- an answer of its length fits, one of another length does not
-  fit-is : (n : ℕ) (y : Kept) (l : List ℕ) → length (y .state) ≡ 72 → eqb (length l) n ≡ true → fitting n (y .state) l ≡ true
+  fit-is : (n : ℕ) (y : Kept) (l : List ℕ) → length (y .state) ≡ stateBytes → eqb (length l) n ≡ true → fitting n (y .state) l ≡ true
   unfolding fitting
-  fit-is n y l e z = rw (eq-eqb (length (y .state)) 72 e, z) refl
+  fit-is n y l e z = rw (eq-eqb (length (y .state)) stateBytes e, z) refl
 
-  unfit-is : (n : ℕ) (y : Kept) (l : List ℕ) → length (y .state) ≡ 72 → eqb (length l) n ≡ false → fitting n (y .state) l ≡ false
+  unfit-is : (n : ℕ) (y : Kept) (l : List ℕ) → length (y .state) ≡ stateBytes → eqb (length l) n ≡ false → fitting n (y .state) l ≡ false
   unfolding fitting
-  unfit-is n y l e z = rw (eq-eqb (length (y .state)) 72 e, z) refl
+  unfit-is n y l e z = rw (eq-eqb (length (y .state)) stateBytes e, z) refl
 
   -- what a call leaves then
   left-untold : (y : Kept) (q : Ask) (l : List ℕ) → fitting 24 (y .state) l ≡ false → leftBy y q l ≡ untold y q l
@@ -228,7 +228,7 @@ module _ (N : Numbers) where
   returns-many : (t : Lent) (y : Kept) (q f l : List ℕ) → CarriesIn y N t → ReturnsMany N t y q f l
   unfolding leavesMany fitting
   returns-many t y q f l k =
-      rw (eq-eqb (length (y .state)) 72 (k .long)) (by-test (eqb (length l) 32) (λ z. rw (z, k .numbers, k .lent) refl) (λ z. rw z refl))
+      rw (eq-eqb (length (y .state)) stateBytes (k .long)) (by-test (eqb (length l) 32) (λ z. rw (z, k .numbers, k .lent) refl) (λ z. rw z refl))
 
   carry-many : (t : Lent) (y : Kept) (q f l : List ℕ) → CarriesIn y N t → In64 (t .counters) → eqb (length l) 32 ≡ true
       → CarriesIn (keptMany (leftMany y q f l)) N (next N t (many q f))
@@ -266,23 +266,23 @@ module _ (N : Numbers) where
         (λ z. rw z (subst (λ (x : Kept). Follows N t x cs) (sym (stays-its t y c k z)) (follows t y cs k b w))),
   )
 
-module _ (s disk flash addresses blocks : List ℕ) (cs : List Made) (h : length s ≡ 72) where
-  -- the box's numbers, and what is lent to the opening
+module _ (label s disk flash addresses blocks : List ℕ) (cs : List Made) (h : length s ≡ stateBytes) where
+  -- the box's numbers and label, and what is lent to the opening
   abbrev pub numbers : Numbers
-  numbers = numbersOf (recordIn s)
+  numbers = numbersOf (freshRecord label s)
 
   abbrev pub given : Lent
-  given = lent (freshRecord s) disk flash addresses blocks (countersOf (countersIn s))
+  given = lent (freshRecord label s) disk flash addresses blocks (countersOf (countersIn s))
 
   -- what the opening leaves
   abbrev pub first : Kept
   first =
-      let z = leavesOpen s disk flash addresses blocks in
+      let z = leavesOpen label s disk flash addresses blocks in
       record { state = z .state; disk = disk; flash = flash; addresses = z .addresses; blocks = z .blocks }
 
-  opens : (leavesOpen s disk flash addresses blocks) .number ≡ 0 → refusal numbers given opening ≡ 0
+  opens : (leavesOpen label s disk flash addresses blocks) .number ≡ 0 → refusal numbers given opening ≡ 0
   unfolding leavesOpen openedIn
-  opens o = rw (eq-eqb (length s) 72 h) at o
+  opens o = rw (eq-eqb (length s) stateBytes h) at o
 
   fresh-64 : refusal numbers given opening ≡ 0 → In64 ((opened numbers given) .counters)
   unfolding fresh
@@ -291,10 +291,12 @@ module _ (s disk flash addresses blocks : List ℕ) (cs : List Made) (h : length
       (record { reads = omega arith; hits = omega arith; flashWrites = omega arith; primaryWrites = omega arith })
 
   -- The theorem. An opening returns 0; then any list of C calls.
-  pub service-demand-3 : (leavesOpen s disk flash addresses blocks) .number ≡ 0
+  pub service-demand-3 : (leavesOpen label s disk flash addresses blocks) .number ≡ 0
       → Follows numbers (opened numbers given) first cs × Demand3 numbers (opened numbers given) (asksOf cs)
   service-demand-3 o = (
-    follows numbers (opened numbers given) first cs (carried-open s disk flash addresses blocks h) (fresh-64 (opens o))
+    follows numbers (opened numbers given) first cs
+        (subst (λ (M : Numbers). CarriesIn first M (opened numbers given)) (ap (withLabel numbers) (label-carried numbers given (opens o)))
+        (carried-open label s disk flash addresses blocks h)) (fresh-64 (opens o))
         (opened-written numbers given (opens o)),
     demand-3 numbers given (asksOf cs) (opens o),
   )

@@ -281,19 +281,20 @@ pub extern "C" fn mindavehu_look(
     fields::write_place(answer, b.size, a, p)
 }
 
-// Opens a box of the numbers in `state`: the tables become fresh, n and the counters 0; disk and flash keep their bytes.
+// Opens a box of the numbers in `state` and the label `label`: the tables become fresh, n and the counters 0; disk and flash keep their bytes.
 #[no_mangle]
 pub extern "C" fn mindavehu_open(
     state: &mut [u8],
+    label: &[u8],
     disk: &[u8],
     flash: &[u8],
     addresses: &mut [u8],
     blocks: &mut [u8],
 ) -> u32
     ensures { λ r. ⌜ record { number = r; state = now (state .exit); addresses = now (addresses .exit); blocks = now (blocks .exit) }
-        ≡ leavesOpen (now (state .entry)) (now (disk .entry)) (now (flash .entry)) (now (addresses .entry)) (now (blocks .entry)) ⌝ }
+        ≡ leavesOpen (now (label .entry)) (now (state .entry)) (now (disk .entry)) (now (flash .entry)) (now (addresses .entry)) (now (blocks .entry)) ⌝ }
 {
-    if state.len() != 72 {
+    if state.len() != fields::STATE {
         return 2;
     }
     let b = fields::record_in(state);
@@ -303,6 +304,7 @@ pub extern "C" fn mindavehu_open(
         b.blocks,
         b.rows,
         b.slots,
+        label,
         disk,
         flash,
         addresses,

@@ -18,7 +18,7 @@ use Rattle.print.specs.Texts.{answerText}
 use Rattle.answers.specs.Replay.{boxRefusal, boxNumbers, started}
 use Rattle.session.specs.Bytewise.{State, firstLine}
 use Rattle.answers.specs.Done.{recordOf}
-use Rattle.session.specs.Memory.{Buffers, Held, held, over, Memory, After, codeCounters, stored}
+use Rattle.session.specs.Memory.{Buffers, Held, held, over, Memory, FedMemory, codeCounters, stored}
 
 pub line-done : (M : Memory) (stage number : ℕ) (x : BoxRecord) (k : Code.Counters) (N : Numbers) (t : Lent) (text : List ℕ) (B : Buffers) (out : List ℕ) (r : ℕ)
     → numbersOf x ≡ N → held (x .held) (countersOf k) B ≡ over t (M .buffers) → Put 0 text (M .out) r out
@@ -26,7 +26,7 @@ pub line-done : (M : Memory) (stage number : ℕ) (x : BoxRecord) (k : Code.Coun
     ≡ stored M (record { state = record { stage = stage; kept = []; number = number; numbers = N; lent = t }; text = text })
 unfolding stored over splice
 line-done M stage number x k N t text B out r n h p =
-    let made : Numbers → ℕ → Counters → Buffers → List ℕ → ℕ → After =
+    let made : Numbers → ℕ → Counters → Buffers → List ℕ → ℕ → FedMemory =
     λ N n q B o f. record { memory = record { session = record { stage = stage; kept = 0; number = number; box_record = recordOf N n; counters = codeCounters q }; line = M .line; buffers = B; out = o }; filled = f } in
     ap (λ y. made y (x .held) (countersOf k) B out r) n
     ∙ ap (λ (y : Held). made N (y .n) (y .counters) (y .buffers) out r) h

@@ -20,15 +20,15 @@ pub record State : Type 0 where
   pub numbers : Numbers
   pub lent : Lent
 
-pub record Printed : Type 0 where
+pub record Replied : Type 0 where
   pub state : State
   pub text : List ℕ
 
-abbrev pub quiet : State → Printed
+abbrev pub quiet : State → Replied
 quiet s = record { state = s; text = [] }
 
 -- line 1
-unfoldable pub firstLine : State → Command → Printed
+unfoldable pub firstLine : State → Command → Replied
 firstLine s c =
     cond (eqb (boxRefusal c) 0)
     (record { state = record { stage = 1; kept = []; number = 1; numbers = boxNumbers c; lent = started (boxNumbers c) }; text = [] })
@@ -38,7 +38,7 @@ firstLine s c =
     })
 
 -- a later line
-unfoldable pub laterLine : State → Command → Printed
+unfoldable pub laterLine : State → Command → Replied
 laterLine s c =
     let o = doing (s .numbers) (s .lent) (asked (s .numbers) c) in
     record {
@@ -47,7 +47,7 @@ laterLine s c =
     }
 
 -- the end of a line
-unfoldable pub endLine : State → Printed
+unfoldable pub endLine : State → Replied
 endLine s = cond (eqb (s .stage) 0) (firstLine s (parsed (s .kept))) (cond (eqb (s .stage) 1) (laterLine s (parsed (s .kept))) (quiet s))
 
 -- another byte of it
@@ -60,14 +60,14 @@ keep x s = record {
   lent = s .lent;
 }
 
-unfoldable pub byteIn : ℕ → State → Printed
+unfoldable pub byteIn : ℕ → State → Replied
 byteIn x s = cond (eqb x 10) (endLine s) (quiet (keep x s))
 
 -- the end of the input: the line that has begun, or line 1 if none has, and then the counters
-unfoldable pub lastLine : State → Printed
+unfoldable pub lastLine : State → Replied
 lastLine s = cond (eqb (s .stage) 0 || not (eqb (length (s .kept)) 0)) (endLine s) (quiet s)
 
-unfoldable pub atEnd : State → Printed
+unfoldable pub atEnd : State → Replied
 atEnd s = let o = lastLine s in record { state = o .state; text = o .text ++ cond (eqb (o .state .stage) 1) (countersText (o .state .lent .counters)) [] }
 
 -- all that is printed for the bytes that follow

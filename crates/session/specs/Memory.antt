@@ -13,7 +13,7 @@ use Rattle.refusals.specs.Given.{countersOf, lent}
 use Rattle.paper.specs.Cache.{Counters}
 use Rattle.paper.specs.Lent.{Lent}
 use Rattle.answers.specs.Done.{recordOf}
-use Rattle.session.specs.Bytewise.{State, Printed, byteIn, atEnd}
+use Rattle.session.specs.Bytewise.{State, Replied, byteIn, atEnd}
 use Rattle.session.specs.declared.Session.{Session}
 use Rattle.session.specs.declared.Fed.{Fed}
 use Rattle.tables.specs.Rows.{tableBytes}
@@ -109,11 +109,11 @@ sessionOf s = record {
 }
 
 -- what is printed, and the state after it, written over the buffers' first bytes
-pub record After : Type 0 where
+pub record FedMemory : Type 0 where
   pub memory : Memory
   pub filled : ℕ
 
-unfoldable pub stored : Memory → Printed → After
+unfoldable pub stored : Memory → Replied → FedMemory
 stored M o =
     record {
       memory = record {
@@ -126,12 +126,12 @@ stored M o =
     }
 
 -- a byte, and the end of the input; memory that doesn't fit is left as it is
-unfoldable pub fed : ℕ → Memory → After
+unfoldable pub fed : ℕ → Memory → FedMemory
 fed x M = cond (fits M) (stored M (byteIn x (stateIn M))) (record { memory = M; filled = 0 })
 
-unfoldable pub ended : Memory → After
+unfoldable pub ended : Memory → FedMemory
 ended M = cond (fits M) (stored M (atEnd (stateIn M))) (record { memory = M; filled = 0 })
 
 -- what a function of the code gives back, with the buffers then
-abbrev pub afterOf : Fed → (line disk flash addresses blocks out : List ℕ) → After
+abbrev pub afterOf : Fed → (line disk flash addresses blocks out : List ℕ) → FedMemory
 afterOf r line disk flash addresses blocks out = record { memory = memory (r .session) line disk flash addresses blocks out; filled = r .filled }

@@ -27,7 +27,7 @@ use Rattle.lines.specs.declared.Command.the-variants.{Box, Read, Look, Flush, T
 use Rattle.print.specs.Texts.{askText, wordText, countsText, answerText}
 use Rattle.answers.specs.Replay.{large, boxRefusal, boxNumbers, startDisk, started, asked, doing}
 use Rattle.print.specs.DecimalLaws.{decimal-length}
-use Rattle.session.specs.Bytewise.{State, Printed, firstLine, laterLine, endLine, keep, byteIn, atEnd}
+use Rattle.session.specs.Bytewise.{State, Replied, firstLine, laterLine, endLine, keep, byteIn, atEnd}
 use Rattle.answers.specs.Done.{recordOf}
 use Rattle.session.specs.Memory.{Memory, Sized, Holds, lengthsFit, numbersFit, fits, over, stateIn, stored, fed, ended}
 use Rattle.tables.specs.Rows.{tableBytes}
@@ -136,7 +136,7 @@ record Fitted (s : State) : Type 0 where
   holds : Holds (recordOf (s .numbers) (s .lent .n))
   lengths : Lengths (s .numbers) (s .lent)
 
-record Small (o : Printed) : Type 0 where
+record Small (o : Replied) : Type 0 where
   state : Fitted (o .state)
   text : length (o .text) ≤ 92
 
@@ -277,7 +277,7 @@ state-fitted M h =
       };
     }
 
-stored-back : (M : Memory) (o : Printed) → Fitted (o .state) → stateIn ((stored M o) .memory) ≡ o .state
+stored-back : (M : Memory) (o : Replied) → Fitted (o .state) → stateIn ((stored M o) .memory) ≡ o .state
 unfolding stateIn stored over
 stored-back M o h =
     let s = o .state in
@@ -292,7 +292,7 @@ stored-back M o h =
       take-splice (tableBytes (N .d)) (t .blocks) (M .buffers .blocks) (l .blocks),
     )
 
-stored-fits : (M : Memory) (o : Printed) → fits M ≡ true → Small o → fits ((stored M o) .memory) ≡ true
+stored-fits : (M : Memory) (o : Replied) → fits M ≡ true → Small o → fits ((stored M o) .memory) ≡ true
 unfolding stored over
 stored-fits M o h q =
     let g = fitting M h in
@@ -314,7 +314,7 @@ stored-fits M o h q =
       kept = f .kept;
     })
 
-stored-text : (M : Memory) (o : Printed) → take ((stored M o) .filled) ((stored M o) .memory .out) ≡ o .text
+stored-text : (M : Memory) (o : Replied) → take ((stored M o) .filled) ((stored M o) .memory .out) ≡ o .text
 unfolding stored
 stored-text M o = take-splice (length (o .text)) (o .text) (M .out) refl
 

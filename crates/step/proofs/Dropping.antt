@@ -11,8 +11,8 @@ use Rattle.tables.specs.Rows.{removeAt, rowAt}
 use Rattle.tables.specs.Operations.{rowFreed}
 use Rattle.tables.specs.OperationLaws.{length-removeAt}
 use Rattle.paper.specs.KeyedLaws.{Distinct, eqb→≡, all-without, without-absent}
-use Rattle.paper.specs.Cache.{AddressRow, BlockRow, withoutAddress, rowOf, known, cached, dropped, freed}
-use Rattle.paper.specs.Engine.{Fixed, engine}
+use Rattle.paper.specs.Cache.{Numbers, AddressRow, BlockRow, withoutAddress, rowOf, known, cached, dropped, freed}
+use Rattle.paper.specs.Engine.{Fixed, labelled, comparing}
 use Rattle.paper.specs.Index.{indexWhere, index-holds, has-yes, has-no, find-yes, find-no, without-yes, slotOf-yes}
 use Rattle.paper.specs.Layout.{Addrs, Blocks, addressesOf, blocksOf}
 use Rattle.parts.specs.Rep.{noRow}
@@ -23,47 +23,47 @@ use Rattle.parts.specs.CopyLaws.{right-no}
 use Rattle.tables.specs.Records.{readBlock}
 
 -- the block row of the fingerprint q, by its place
-module _ (B d : ℕ) (t : List ℕ) (free : List ℕ) (used : List (BlockRow (Fixed 32))) (h : Blocks d t free used) (place : ℕ) (q : Fixed 32) (e : place ≡ placeOf (some q) free used) where
-  pub not-there : d ≤ place → cached (engine B) q used ≡ false
-  not-there b = has-no (engine 0 .same) (λ (u : BlockRow (Fixed 32)). u .fingerprint) q used (omega (arith, e, h .count))
+module _ (N : Numbers) (d : ℕ) (t : List ℕ) (free : List ℕ) (used : List (BlockRow (Fixed 32))) (h : Blocks d t free used) (place : ℕ) (q : Fixed 32) (e : place ≡ placeOf (some q) free used) where
+  pub not-there : d ≤ place → cached (labelled N) q used ≡ false
+  not-there b = has-no (comparing .same) (λ (u : BlockRow (Fixed 32)). u .fingerprint) q used (omega (arith, e, h .count))
 
   module _ (b : place < d) where
-    below : indexWhere (λ (u : BlockRow (Fixed 32)). engine 0 .same q (u .fingerprint)) used < length used
+    below : indexWhere (λ (u : BlockRow (Fixed 32)). comparing .same q (u .fingerprint)) used < length used
     below = omega (arith, e, h .count)
 
-    pub there : cached (engine B) q used ≡ true
-    there = has-yes (engine 0 .same) (λ (u : BlockRow (Fixed 32)). u .fingerprint) q used below
+    pub there : cached (labelled N) q used ≡ true
+    there = has-yes (comparing .same) (λ (u : BlockRow (Fixed 32)). u .fingerprint) q used below
 
     -- a row has the fingerprint whose bytes are there
-    pub known-as : (l : List (AddressRow (Fixed 32))) (v : Bool) (g : List ℕ) → g ≡ readBlock (rowAt t place) .fingerprint → ((f : Fixed 32) → f .0 ≡ g → v ≡ known (engine 0) f l) → known (engine B) q l ≡ v
+    pub known-as : (l : List (AddressRow (Fixed 32))) (v : Bool) (g : List ℕ) → g ≡ readBlock (rowAt t place) .fingerprint → ((f : Fixed 32) → f .0 ≡ g → v ≡ known (comparing) f l) → known comparing q l ≡ v
     known-as l v g eg f =
-        let is : q ≡ getD used (indexWhere (λ (u : BlockRow (Fixed 32)). engine 0 .same q (u .fingerprint)) used) noBlock .fingerprint = engine 0 .same→≡ q (getD used (indexWhere (λ (u : BlockRow (Fixed 32)). engine 0 .same q (u .fingerprint)) used) noBlock .fingerprint) (index-holds (λ (u : BlockRow (Fixed 32)). engine 0 .same q (u .fingerprint)) used noBlock below) in
-        sym (f q (ap (λ (x : Fixed 32). x .0) is ∙ sym (eg ∙ ap (λ (x : ℕ). readBlock (rowAt t x) .fingerprint) e ∙ used-fp d t free used h (indexWhere (λ (u : BlockRow (Fixed 32)). engine 0 .same q (u .fingerprint)) used) below noBlock)))
+        let is : q ≡ getD used (indexWhere (λ (u : BlockRow (Fixed 32)). comparing .same q (u .fingerprint)) used) noBlock .fingerprint = comparing .same→≡ q (getD used (indexWhere (λ (u : BlockRow (Fixed 32)). comparing .same q (u .fingerprint)) used) noBlock .fingerprint) (index-holds (λ (u : BlockRow (Fixed 32)). comparing .same q (u .fingerprint)) used noBlock below) in
+        sym (f q (ap (λ (x : Fixed 32). x .0) is ∙ sym (eg ∙ ap (λ (x : ℕ). readBlock (rowAt t x) .fingerprint) e ∙ used-fp d t free used h (indexWhere (λ (u : BlockRow (Fixed 32)). comparing .same q (u .fingerprint)) used) below noBlock)))
 
     -- it is freed
-    pub freed-at : Distinct (engine 0 .same) (λ u. u .fingerprint) used → rowFreed d place t ≡ blockBytes (freed (engine B) q (record { free = free; used = used }))
+    pub freed-at : Distinct (comparing .same) (λ u. u .fingerprint) used → rowFreed d place t ≡ blockBytes (freed (labelled N) q (record { free = free; used = used }))
     unfolding freed
     freed-at ds =
-        let slot = slotOf-yes (engine B) q used noBlock below in
-        let rest = without-yes (engine 0 .same) (λ (u : BlockRow (Fixed 32)). u .fingerprint) q (engine 0 .same→≡) used ds below in
-        ap (λ (x : ℕ). rowFreed d x t) e ∙ fronted d t free used h (indexWhere (λ (u : BlockRow (Fixed 32)). engine 0 .same q (u .fingerprint)) used) below noBlock ∙ ap₂ {C = List ℕ} (λ x y. blocksOf (x ∷ free) y) (sym slot) (sym rest)
+        let slot = slotOf-yes (labelled N) q used noBlock below in
+        let rest = without-yes (comparing .same) (λ (u : BlockRow (Fixed 32)). u .fingerprint) q (comparing .same→≡) used ds below in
+        ap (λ (x : ℕ). rowFreed d x t) e ∙ fronted d t free used h (indexWhere (λ (u : BlockRow (Fixed 32)). comparing .same q (u .fingerprint)) used) below noBlock ∙ ap₂ {C = List ℕ} (λ x y. blocksOf (x ∷ free) y) (sym slot) (sym rest)
 
 -- write invalidate's block rows
-module _ (B d : ℕ) (t : List ℕ) (l : List (AddressRow (Fixed 32))) (free : List ℕ) (used : List (BlockRow (Fixed 32))) (h : Blocks d t free used) where
-  pub drop-none : (o : Option (AddressRow (Fixed 32))) → o ≡ none → t ≡ blockBytes (dropped (engine B) l (record { free = free; used = used }) o)
+module _ (N : Numbers) (d : ℕ) (t : List ℕ) (l : List (AddressRow (Fixed 32))) (free : List ℕ) (used : List (BlockRow (Fixed 32))) (h : Blocks d t free used) where
+  pub drop-none : (o : Option (AddressRow (Fixed 32))) → o ≡ none → t ≡ blockBytes (dropped (labelled N) l (record { free = free; used = used }) o)
   unfolding dropped
   drop-none o e = h .is ∙ rw e refl
 
   module _ (r : AddressRow (Fixed 32)) where
-    pub drop-out : cached (engine B) (r .fingerprint) used ≡ false → t ≡ blockBytes (dropped (engine B) l (record { free = free; used = used }) (some r))
+    pub drop-out : cached (labelled N) (r .fingerprint) used ≡ false → t ≡ blockBytes (dropped (labelled N) l (record { free = free; used = used }) (some r))
     unfolding dropped
-    drop-out c = rw (right-no (not (known (engine B) (r .fingerprint) l)) (cached (engine B) (r .fingerprint) used) c) (h .is)
+    drop-out c = rw (right-no (not (known comparing (r .fingerprint) l)) (cached (labelled N) (r .fingerprint) used) c) (h .is)
 
-    pub drop-known : known (engine B) (r .fingerprint) l ≡ true → t ≡ blockBytes (dropped (engine B) l (record { free = free; used = used }) (some r))
+    pub drop-known : known comparing (r .fingerprint) l ≡ true → t ≡ blockBytes (dropped (labelled N) l (record { free = free; used = used }) (some r))
     unfolding dropped
     drop-known y = rw y (h .is)
 
-    pub drop-freed : known (engine B) (r .fingerprint) l ≡ false → cached (engine B) (r .fingerprint) used ≡ true → (t′ : List ℕ) → t′ ≡ blockBytes (freed (engine B) (r .fingerprint) (record { free = free; used = used })) → t′ ≡ blockBytes (dropped (engine B) l (record { free = free; used = used }) (some r))
+    pub drop-freed : known comparing (r .fingerprint) l ≡ false → cached (labelled N) (r .fingerprint) used ≡ true → (t′ : List ℕ) → t′ ≡ blockBytes (freed (labelled N) (r .fingerprint) (record { free = free; used = used })) → t′ ≡ blockBytes (dropped (labelled N) l (record { free = free; used = used }) (some r))
     unfolding dropped
     drop-freed y c t′ e = rw (y, c) e
 

@@ -6,21 +6,20 @@ use mathlib.Core.Option.{Option, none, some}
 use Prim.Native.Nat.{ℕ, suc, _+_, _<_}
 use lib.ListN.{length, getD, take, drop}
 use Rattle.parts.specs.declared.BoxRecord.{BoxRecord}
-use Rattle.parts.specs.Rep.{numbersOf}
+use Rattle.parts.specs.Rep.{numbersOf, engine}
 use Rattle.paper.specs.KeyedLaws.{Distinct}
 use Rattle.paper.specs.Sound.{Sound}
 use Rattle.paper.specs.Cache.{Request, BlockRow, BlockRows, Box, RowOut, Taken, Stepped}
-use Rattle.paper.specs.Engine.{Fixed}
+use Rattle.paper.specs.Engine.{Fixed, comparing}
 use Rattle.paper.specs.Lent.{join}
 use Rattle.paper.specs.Index.{indexWhere}
 use Rattle.paper.specs.Layout.{addressesOf, blocksOf}
-use Rattle.paper.specs.Engine.{engine}
 use Rattle.parts.specs.Asked.{noBlock}
 
 -- the place of a fingerprint's used row, the count of rows where there is none
 abbrev pub placeOf : Option (Fixed 32) → List ℕ → List (BlockRow (Fixed 32)) → ℕ
 placeOf none free used = length free + length used
-placeOf (some q) free used = length free + indexWhere (λ u. engine 0 .same q (u .fingerprint)) used
+placeOf (some q) free used = length free + indexWhere (λ u. comparing .same q (u .fingerprint)) used
 
 -- what step 1 leaves and tells
 pub record Out1 : Type 0 where
@@ -79,11 +78,11 @@ out4 b t = record {
 }
 
 -- what a step leaves
-pub record After : Type 0 where
+pub record StepLeft : Type 0 where
   pub held : ℕ
   pub left : Out4
 
-unfoldable pub after : (b : BoxRecord) → Stepped (Fixed 32) (Fixed (b .size)) → After
+unfoldable pub after : (b : BoxRecord) → Stepped (Fixed 32) (Fixed (b .size)) → StepLeft
 after b t = record { held = length (t .box .rows); left = out4 b t }
 
 -- the request of a step
@@ -92,8 +91,8 @@ asks a f x w = record { address = a; fingerprint = f; block = x; dirty = w }
 
 -- no two used block rows have one fingerprint
 abbrev pub OnceEach : List (BlockRow (Fixed 32)) → Type 0
-OnceEach used = Distinct (engine 0 .same) (λ u. u .fingerprint) used
+OnceEach used = Distinct (comparing .same) (λ u. u .fingerprint) used
 
 -- lent bytes of a sound box
 abbrev pub Sure : (b : BoxRecord) → Box (Fixed 32) (Fixed (b .size)) → Type 0
-Sure b s = Sound (engine (b .size)) (numbersOf b) s
+Sure b s = Sound (engine b) (numbersOf b) s

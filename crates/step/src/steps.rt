@@ -20,11 +20,12 @@ ghost use Rattle.tables.specs.Operations.{rowOut, rowAdded, rowNewest};
 ghost use Rattle.tables.specs.Index.{Indexed};
 ghost use Rattle.paper.specs.KeyedLaws.{Distinct};
 ghost use Rattle.paper.specs.Index.{indexWhere};
-ghost use Rattle.paper.specs.Cache.{AddressRow, BlockRow, Box, blockRow, isLost, taken, stored, step1, step3, step4, step, dropped, rowOf, withoutAddress};
-ghost use Rattle.paper.specs.Engine.{Fixed, engine};
+ghost use Rattle.paper.specs.Cache.{Numbers, AddressRow, BlockRow, Box, blockRow, isLost, taken, stored, step1, step3, step4, step};
+ghost use Rattle.paper.specs.Cache.{dropped, rowOf, withoutAddress};
+ghost use Rattle.paper.specs.Engine.{Fixed, labelled};
 ghost use Rattle.paper.specs.Lent.{bit, join};
 ghost use Rattle.paper.specs.Layout.{Addrs, Blocks, Parts, addressesOf, blocksOf};
-ghost use Rattle.parts.specs.Rep.{Sized, Rep, Lent, copiedRows, noRow};
+ghost use Rattle.parts.specs.Rep.{Sized, Rep, LentBox, copiedRows, noRow, engine};
 ghost use Rattle.parts.specs.Asked.{full};
 ghost use Rattle.step.specs.Steps.{placeOf, out1, blockBytes, Picked, pickedTaken, out4, after, asks, OnceEach, Sure};
 
@@ -58,13 +59,13 @@ pub(crate) fn step1(
     heads: &[u16],
 ) -> Out
     requires { ⌜ (0 < b .rows) × (0 < b .slots) × (b .slots ≤ 256) × Sized b (now addrs) (now blocks) ⌝ }
-    requires { ⌜ Lent b (now disk) (now flash) (now addrs) (now blocks) ⌝ }
+    requires { ⌜ LentBox b (now disk) (now flash) (now addrs) (now blocks) ⌝ }
     requires { ⌜ Indexed (b .slots) (now blocks) (now heads) ⌝ }
     ensures { λ r. ⌜ (r .held < b .rows) × (r .primary ≤ 1) ⌝ }
     ensures { λ r. ⌜ ((s : Box (Fixed 32) (Fixed (b .size))) → Rep b (now (disk .entry)) (now (flash .entry)) (now (addrs .entry)) (now (blocks .entry)) s
         → Distinct eqb (λ x. x .address) (s .rows)
         → record { held = r .held; place = r .place; primary = r .primary; disk = now (disk .exit); addrs = now (addrs .exit) }
-        ≡ out1 b s (step1 (engine (b .size)) (b .rows) s (a .0))) ⌝ }
+        ≡ out1 b s (step1 (engine b) (b .rows) s (a .0))) ⌝ }
 {
     let i = rows::row_of(addrs, b.held, a);
     if i < b.held {
@@ -95,10 +96,10 @@ pub(crate) fn step1(
 pub(crate) fn step3(b: BoxRecord, place: usize, addrs: &[u8], blocks: &mut [u8], heads: &[u16])
     requires { ⌜ (0 < b .held) × (b .slots ≤ 256) × Sized b (now addrs) (now blocks) ⌝ }
     requires { ⌜ Indexed (b .slots) (now blocks) (now heads) ⌝ }
-    ensures { λ _. ⌜ ((B : ℕ) (l : List (AddressRow (Fixed 32))) (free : List ℕ) (used : List (BlockRow (Fixed 32))) (gone : Option (Fixed 32))
+    ensures { λ _. ⌜ ((N : Numbers) (l : List (AddressRow (Fixed 32))) (free : List ℕ) (used : List (BlockRow (Fixed 32))) (gone : Option (Fixed 32))
         → Addrs (b .blocks) (b .rows) (b .held) (now (addrs .entry)) l → Blocks (b .slots) (now (blocks .entry)) free used
         → OnceEach used → place ≡ placeOf gone free used → now (blocks .exit)
-        ≡ blockBytes (step3 (engine B) gone (take (b .held - 1) l) l (record { free = free; used = used }))) ⌝ }
+        ≡ blockBytes (step3 (labelled N) gone (take (b .held - 1) l) l (record { free = free; used = used }))) ⌝ }
     ensures { λ _. ⌜ (full (now (blocks .exit)) ≡ true → now (blocks .exit) ≡ now (blocks .entry)) ⌝ }
 {
     let d = b.slots;
@@ -130,7 +131,7 @@ pub(crate) fn lose(
     ensures { λ r. ⌜ ((s : Box (Fixed 32) (Fixed (b .size))) → Rep b (now (disk .entry)) (now (flash .entry)) (now (addrs .entry)) (now (blocks .entry)) s
         → OnceEach (s .used) → Picked (s .free) (s .used) t → slot .0 ≡ pickedTaken (s .free) (s .used) t .slot
         → record { count = r; disk = now (disk .exit); addrs = now (addrs .exit) }
-        ≡ copiedRows b (isLost (engine (b .size)) (pickedTaken (s .free) (s .used) t .lost)) s (b .held)) ⌝ }
+        ≡ copiedRows b (isLost (engine b) (pickedTaken (s .free) (s .used) t .lost)) s (b .held)) ⌝ }
 {
     if !row::is_used(blocks, t) {
         return 0;
@@ -182,7 +183,7 @@ pub(crate) fn store(
         → Rep b (now (disk .entry)) (now (flash .entry)) (now (addrs .entry)) (now (blocks .entry)) s
         → OnceEach (s .used) → f .0 ≡ now (g .entry) → x .0 ≡ now (block .entry)
         → record { flashed = 1; primary = r; disk = now (disk .exit); flash = now (flash .exit); addrs = now (addrs .exit); blocks = now (blocks .exit) }
-        ≡ out4 b (stored (engine (b .size)) (s .rows) (s .used) (s .flash) (s .disk) f x 0 (taken (engine (b .size)) (s .rows) (s .free) (s .used)))) ⌝ }
+        ≡ out4 b (stored (engine b) (s .rows) (s .used) (s .flash) (s .disk) f x 0 (taken (engine b) (s .rows) (s .free) (s .used)))) ⌝ }
 {
     let t = rows::victim(addrs, b.held, blocks, b.slots, heads);
     let slot = row::slot_at(blocks, t);
@@ -224,7 +225,7 @@ pub(crate) fn step4(
           addrs = now (addrs .exit);
           blocks = now (blocks .exit);
         }
-        ≡ out4 b (step4 (engine (b .size)) (s .rows) (record { free = s .free; used = s .used }) (s .flash) (s .disk) f x 0)) ⌝ }
+        ≡ out4 b (step4 (engine b) (s .rows) (record { free = s .free; used = s .used }) (s .flash) (s .disk) f x 0)) ⌝ }
 {
     let j = rows::place_of(blocks, b.slots, g);
     if j < b.slots {
@@ -281,7 +282,7 @@ pub fn step(
             blocks = now (blocks .exit);
           });
         }
-        ≡ after b (step (engine (b .size)) (b .rows) s (asks (a .0) f x w))) ⌝ }
+        ≡ after b (step (engine b) (b .rows) s (asks (a .0) f x w))) ⌝ }
 {
     let o = step1(b, a, disk, flash, addrs, blocks, heads);
     put::push_address(addrs, o.held, a, g, dirty);
@@ -321,10 +322,10 @@ pub fn renew(
 // Frees the block row at `place` where no held row has its fingerprint.
 pub(crate) fn free_unknown(b: BoxRecord, place: usize, addrs: &[u8], blocks: &mut [u8])
     requires { ⌜ Sized b (now addrs) (now blocks) ⌝ }
-    ensures { λ _. ⌜ ((B : ℕ) (l : List (AddressRow (Fixed 32))) (free : List ℕ) (used : List (BlockRow (Fixed 32))) (r : AddressRow (Fixed 32))
+    ensures { λ _. ⌜ ((N : Numbers) (l : List (AddressRow (Fixed 32))) (free : List ℕ) (used : List (BlockRow (Fixed 32))) (r : AddressRow (Fixed 32))
         → Addrs (b .blocks) (b .rows) (b .held) (now (addrs .entry)) l → Blocks (b .slots) (now (blocks .entry)) free used
         → OnceEach used → place ≡ placeOf (Option.some (r .fingerprint)) free used → now (blocks .exit)
-        ≡ blockBytes (dropped (engine B) l (record { free = free; used = used }) (Option.some r))) ⌝ }
+        ≡ blockBytes (dropped (labelled N) l (record { free = free; used = used }) (Option.some r))) ⌝ }
 {
     let d = b.slots;
     if d <= place {
@@ -339,11 +340,14 @@ pub(crate) fn free_unknown(b: BoxRecord, place: usize, addrs: &[u8], blocks: &mu
 // Takes row `i` out, if there is one, and frees its fingerprint's block row where no other row has it. The rows then held.
 pub fn drop_row(b: BoxRecord, i: usize, addrs: &mut [u8], blocks: &mut [u8]) -> usize
     requires { ⌜ Sized b (now addrs) (now blocks) ⌝ }
-    ensures { λ r. ⌜ ((B a : ℕ) (l : List (AddressRow (Fixed 32))) (free : List ℕ) (used : List (BlockRow (Fixed 32)))
+    requires { ⌜ ((a : ℕ) × (l : List (AddressRow (Fixed 32))) × (free : List ℕ) × (used : List (BlockRow (Fixed 32)))
+        × Addrs (b .blocks) (b .rows) (b .held) (now addrs) l × Blocks (b .slots) (now blocks) free used
+        × Distinct eqb (λ x. x .address) l × OnceEach used × (i ≡ indexWhere (λ x. eqb a (x .address)) l)) ⌝ }
+    ensures { λ r. ⌜ ((N : Numbers) (a : ℕ) (l : List (AddressRow (Fixed 32))) (free : List ℕ) (used : List (BlockRow (Fixed 32)))
         → Addrs (b .blocks) (b .rows) (b .held) (now (addrs .entry)) l → Blocks (b .slots) (now (blocks .entry)) free used
         → Distinct eqb (λ x. x .address) l → OnceEach used → i ≡ indexWhere (λ x. eqb a (x .address)) l
         → (r ≡ length (withoutAddress a l)) × (now (addrs .exit) ≡ addressesOf (b .rows) (withoutAddress a l))
-        × (now (blocks .exit) ≡ blockBytes (dropped (engine B) (withoutAddress a l) (record { free = free; used = used }) (rowOf a l)))) ⌝ }
+        × (now (blocks .exit) ≡ blockBytes (dropped (labelled N) (withoutAddress a l) (record { free = free; used = used }) (rowOf a l)))) ⌝ }
 {
     if b.held <= i {
         return b.held;

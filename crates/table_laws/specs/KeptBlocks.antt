@@ -22,7 +22,7 @@ use Rattle.tables.specs.OperationLaws.{map-removeAt, map-++, rows-whole, Wide, 
 use Rattle.tables.specs.OperationLaws.{tail-parts, flag-parts, le4-bytes4, free-length}
 use Rattle.table_laws.specs.KeptLists.{both, all-append, all-removeAt, all-mono, zeros-zero, absent-all, every-removeAt, every-snoc}
 use Rattle.table_laws.specs.KeptLists.{distinct-last, distinct-first, slots-distinct}
-use Rattle.tables.specs.Operations.{rowNewest, rowFreed, rowFilled, freed, filled}
+use Rattle.tables.specs.Operations.{rowNewest, rowFreed, rowFilled, freedRow, filled}
 
 -- a block row's test looks at the rows behind it only where the row is used
 swap-used : (a b c z u v : Bool) → (c ≡ true → u ≡ true → v ≡ true) → a && (b && cond c u z) ≡ true → a && (b && cond c v z) ≡ true
@@ -209,21 +209,21 @@ module _ (d : ℕ) (t : List ℕ) (i : ℕ) (h : i < d) (l : length t ≡ d * 40
 
   -- to_front
   pub kept-front : Blocks d (rowFreed d i t)
-  unfolding readBlock rowFreed freed
+  unfolding readBlock rowFreed freedRow
   kept-front =
       let r : List ℕ = rowAt t i in
       let z : zeros 4 ≡ 0 ∷ 0 ∷ 0 ∷ 0 ∷ [] = zeros-four in
       let lz : length (zeros 32) ≡ 32 = length-zeros 32 in
-      let w : rowSlot (freed r) ≡ rowSlot r = slot-parts (zeros 32) r (zeros 4) lz row-length in
-      let tl : tailOk (freed r) ≡ true = ap (λ (v : List ℕ). tailOk (zeros 32 ++ (take 4 (drop 32 r) ++ v))) z ∙ tail-parts (zeros 32) r 0 lz row-length in
-      let fl : getD (freed r) 36 0 ≡ 0 = ap (λ (v : List ℕ). getD (zeros 32 ++ (take 4 (drop 32 r) ++ v)) 36 0) z
+      let w : rowSlot (freedRow r) ≡ rowSlot r = slot-parts (zeros 32) r (zeros 4) lz row-length in
+      let tl : tailOk (freedRow r) ≡ true = ap (λ (v : List ℕ). tailOk (zeros 32 ++ (take 4 (drop 32 r) ++ v))) z ∙ tail-parts (zeros 32) r 0 lz row-length in
+      let fl : getD (freedRow r) 36 0 ≡ 0 = ap (λ (v : List ℕ). getD (zeros 32 ++ (take 4 (drop 32 r) ++ v)) 36 0) z
       ∙ flag-parts (zeros 32) r (0 ∷ 0 ∷ 0 ∷ []) 0 lz row-length in
-      let tk : readBlock (freed r) .fingerprint ≡ zeros 32 = take-at (zeros 32) (take 4 (drop 32 r) ++ zeros 4) 32 lz in
+      let tk : readBlock (freedRow r) .fingerprint ≡ zeros 32 = take-at (zeros 32) (take 4 (drop 32 r) ++ zeros 4) 32 lz in
       rw (rows-at d t i h)
-      (blocks-kept-first (freed r) (length-freed r row-length)
-      (both (ltb (rowSlot (freed r)) d) _ (ap (λ (k : ℕ). ltb k d) w ∙ slot-below)
-      (both (tailOk (freed r)) _ tl
-      (ap (λ (k : ℕ). cond (eqb k 1) (usedOk (freed r) (removeAt (rows d t) i)) (all isZero (readBlock (freed r) .fingerprint))) fl ∙ ap (all isZero) tk
+      (blocks-kept-first (freedRow r) (length-freed r row-length)
+      (both (ltb (rowSlot (freedRow r)) d) _ (ap (λ (k : ℕ). ltb k d) w ∙ slot-below)
+      (both (tailOk (freedRow r)) _ tl
+      (ap (λ (k : ℕ). cond (eqb k 1) (usedOk (freedRow r) (removeAt (rows d t) i)) (all isZero (readBlock (freedRow r) .fingerprint))) fl ∙ ap (all isZero) tk
       ∙ zeros-zero 32)))
       w)
 

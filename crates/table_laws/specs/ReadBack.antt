@@ -6,7 +6,7 @@ use native.Mathlib.Omega.{arith}
 use lib.ListN.{length, set, drop}
 use Rattle.tables.specs.Rows.{rows, zeros, rowAt, removeAt, rowBytes, tableBytes}
 use Rattle.tables.specs.Records.{AddressRow, BlockRow, blockRow, freeRow, addressBytes, readAddress, readBlock, heldRows, blockRows}
-use Rattle.tables.specs.Operations.{freed, filled, rowOut, rowAdded, rowCleaned, rowNewest, rowFreed, rowFilled}
+use Rattle.tables.specs.Operations.{freedRow, filled, rowOut, rowAdded, rowCleaned, rowNewest, rowFreed, rowFilled}
 use Rattle.tables.specs.RowLaws.{rows-at, length-part}
 use Rattle.tables.specs.ShiftLaws.{length-freed, length-filled}
 use Rattle.tables.specs.OperationLaws.{map-++, map-removeAt, map-set, rows-removed, rows-pushed, rows-set, addr-forth, address-clean, block-freed}
@@ -47,7 +47,7 @@ module _ (d : ℕ) (t : List ℕ) (i : ℕ) (h : i < d) (g : tableBytes d ≤ le
   unfolding rowFreed
   read-freed =
       rw (rows-at d t i h)
-      (blocks-first d t i h g (freed (rowAt t i)) (length-freed (rowAt t i) wide)
+      (blocks-first d t i h g (freedRow (rowAt t i)) (length-freed (rowAt t i) wide)
       ∙ ap (λ (x : BlockRow). x ∷ removeAt (blockRows d t) i) (block-freed (rowAt t i) wide))
 
   pub read-filled : (f : List ℕ) → length f ≡ 32 → blockRows d (rowFilled d i f t)

@@ -13,7 +13,7 @@ use Rattle.tables.specs.Rows.{rows, flat, zeros, rowAt, removeAt, rowBytes, tab
 use Rattle.tables.specs.Records.{AddressRow, BlockRow, addressRow, blockRow, freeRow, addressBytes, blockBytes, readAddress, readBlock, bytes4}
 use Rattle.tables.specs.Records.{addressTable, blockTable, slotsFrom, freshAddresses, freshBlocks}
 use Rattle.tables.specs.Find.{all, isUsed}
-use Rattle.tables.specs.Operations.{freed, filled, rowOut, rowAdded, rowCleaned, rowNewest, rowFreed, rowFilled}
+use Rattle.tables.specs.Operations.{freedRow, filled, rowOut, rowAdded, rowCleaned, rowNewest, rowFreed, rowFilled}
 use Rattle.tables.specs.Sound.{isZero, tailOk}
 use Rattle.tables.specs.Index.{rowOk}
 use Rattle.tables.specs.RowLaws.{rows-at, length-part}
@@ -199,8 +199,8 @@ slot-bytes : (r : BlockRow) → length (r .fingerprint) ≡ 32 → take 4 (drop 
 unfolding blockBytes
 slot-bytes r l = ap (take 4) (drop-at (r .fingerprint) (bytes4 (r .slot) ++ (r .used ∷ 0 ∷ 0 ∷ 0 ∷ [])) 32 l)
 
-freed-bytes : (r : BlockRow) → length (r .fingerprint) ≡ 32 → freed (blockBytes r) ≡ blockBytes (freeRow (r .slot))
-unfolding freed blockBytes
+freed-bytes : (r : BlockRow) → length (r .fingerprint) ≡ 32 → freedRow (blockBytes r) ≡ blockBytes (freeRow (r .slot))
+unfolding freedRow blockBytes
 freed-bytes r l = ap₂ {C = List ℕ} (λ x y. zeros 32 ++ (x ++ y)) (slot-bytes r l) zeros-four
 
 filled-bytes : (g : List ℕ) (r : BlockRow) → length (r .fingerprint) ≡ 32 → filled g (blockBytes r) ≡ blockBytes (blockRow g (r .slot) 1)
@@ -241,7 +241,7 @@ module _ (rs : List BlockRow) (w : Wide (map blockBytes rs)) (d : ℕ) (e : leng
       -- to_front
       pub blocks-freed : rowFreed d i (blockTable rs) ≡ blockTable (freeRow (getD rs i z .slot) ∷ removeAt rs i)
       unfolding rowFreed blockTable
-      blocks-freed = ap₂ {C = List ℕ} (λ x y. flat (x ∷ y)) (ap freed at ∙ freed-bytes (getD rs i z) l) rest
+      blocks-freed = ap₂ {C = List ℕ} (λ x y. flat (x ∷ y)) (ap freedRow at ∙ freed-bytes (getD rs i z) l) rest
 
       -- put_block
       pub blocks-filled : (g : List ℕ) → rowFilled d i g (blockTable rs) ≡ blockTable (removeAt rs i ++ (blockRow g (getD rs i z .slot) 1 ∷ []))
@@ -255,7 +255,7 @@ unfolding rowFreed flat
 front-free d i t l h =
     let r : List ℕ = getD (rows d t) i [] in
     let w : length r ≡ rowBytes = ap length (rows-at d t i h) ∙ length-part t (i * 40) 40 (omega arith) in
-    ap isUsed (take-at (freed r) (flat (removeAt (rows d t) i)) 40 (length-freed r w)) ∙ ap (λ (x : BlockRow). eqb (x .used) 1) (block-freed r w)
+    ap isUsed (take-at (freedRow r) (flat (removeAt (rows d t) i)) 40 (length-freed r w)) ∙ ap (λ (x : BlockRow). eqb (x .used) 1) (block-freed r w)
 
 -- ---- fresh tables
 

@@ -15,7 +15,7 @@ use Rattle.tables.specs.Sound.{tailOk, rowSlot}
 use Rattle.tables.specs.RecordLaws.{four}
 use Rattle.tables.specs.ShiftLaws.{length-zeros}
 use Rattle.tables.specs.RowLaws.{rows-length, flat-rows}
-use Rattle.tables.specs.Operations.{rowAdded, rowCleaned, freed, filled}
+use Rattle.tables.specs.Operations.{rowAdded, rowCleaned, freedRow, filled}
 
 -- every row has 40 bytes
 abbrev pub Wide : List (List ℕ) → Type 0
@@ -165,8 +165,8 @@ unfolding zeros
 zeros-4 = refl
 
 -- a freed and a filled block row
-pub block-freed : (r : List ℕ) → length r ≡ 40 → readBlock (freed r) ≡ freeRow (readBlock r .slot)
-unfolding freed
+pub block-freed : (r : List ℕ) → length r ≡ 40 → readBlock (freedRow r) ≡ freeRow (readBlock r .slot)
+unfolding freedRow
 block-freed r l = ap (λ (z : List ℕ). readBlock (zeros 32 ++ (take 4 (drop 32 r) ++ z))) zeros-4 ∙ block-parts (zeros 32) r (zeros 3) 0 (length-zeros 32) l
 
 pub block-filled : (g r : List ℕ) → length g ≡ 32 → length r ≡ 40 → readBlock (filled g r) ≡ blockRow g (readBlock r .slot) 1

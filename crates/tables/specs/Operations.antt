@@ -21,12 +21,12 @@ unfoldable pub rowNewest : (d i : ℕ) → List ℕ → List ℕ
 rowNewest d i t = flat (removeAt (rows d t) i ++ (getD (rows d t) i [] ∷ []))
 
 -- a block row freed: "Free rows (used 0, zero fingerprint)"; "A row freed later keeps its slot."
-unfoldable pub freed : List ℕ → List ℕ
-freed r = zeros 32 ++ (take 4 (drop 32 r) ++ zeros 4)
+unfoldable pub freedRow : List ℕ → List ℕ
+freedRow r = zeros 32 ++ (take 4 (drop 32 r) ++ zeros 4)
 
 -- "q's block row becomes free and moves to the front"
 unfoldable pub rowFreed : (d i : ℕ) → List ℕ → List ℕ
-rowFreed d i t = flat (freed (getD (rows d t) i []) ∷ removeAt (rows d t) i)
+rowFreed d i t = flat (freedRow (getD (rows d t) i []) ∷ removeAt (rows d t) i)
 
 -- a block row taken for the fingerprint g: used 1, the slot kept
 unfoldable pub filled : List ℕ → List ℕ → List ℕ

@@ -7,7 +7,7 @@ use lib.ListN.{length, getD, set, take, drop, length-append, length-drop, length
 use lib.Seq.{paste, take-paste, drop-paste, drop-drop, take-all, take-append-add, drop-at, drop-cons, length-take-le, set-at}
 use Rattle.tables.specs.Rows.{rows, flat, zeros, removeAt, rowAt}
 use Rattle.tables.specs.RowLaws.{flat-rows, flat-append, flat-removeAt, rows-at, length-part}
-use Rattle.tables.specs.Operations.{rowAdded, rowFreed, freed, filled}
+use Rattle.tables.specs.Operations.{rowAdded, rowFreed, freedRow, filled}
 
 pub length-zeros : (n : ℕ) → length (zeros n) ≡ n
 unfolding zeros
@@ -57,8 +57,8 @@ replaced-all t x d i g =
     rw (flat-append (removeAt (rows d t) i) (x ∷ []), drop-of-length-le t k)
 
 -- a row with its fingerprint and its last four bytes cleared
-pub cleared : (r : List ℕ) → length r ≡ 40 → paste (paste r 0 (zeros 32) 32) 36 (zeros 4) 4 ≡ freed r
-unfolding freed
+pub cleared : (r : List ℕ) → length r ≡ 40 → paste (paste r 0 (zeros 32) 32) 36 (zeros 4) 4 ≡ freedRow r
+unfolding freedRow
 cleared r l =
     let a : take 32 (zeros 32) ≡ zeros 32 = take-all 32 (zeros 32) (omega (arith, length-zeros 32)) in
     let b : take 4 (zeros 4) ≡ zeros 4 = take-all 4 (zeros 4) (omega (arith, length-zeros 4)) in
@@ -69,8 +69,8 @@ cleared r l =
     let m : drop 40 q ≡ [] = drop-of-length-le q k in
     rw (p, b, f, m, append-nil) (append-assoc (zeros 32) (take 4 (drop 32 r)) (zeros 4))
 
-pub length-freed : (r : List ℕ) → length r ≡ 40 → length (freed r) ≡ 40
-unfolding freed
+pub length-freed : (r : List ℕ) → length r ≡ 40 → length (freedRow r) ≡ 40
+unfolding freedRow
 length-freed r l =
     omega (
       arith,
@@ -84,14 +84,14 @@ length-freed r l =
 
 -- to_front
 pub fronted : (t : List ℕ) (d i : ℕ) → i < d → length t ≡ d * 40
-    → paste (paste t 40 (drop 0 t) (i * 40)) 0 (freed (rowAt t i)) 40 ≡ rowFreed d i t
+    → paste (paste t 40 (drop 0 t) (i * 40)) 0 (freedRow (rowAt t i)) 40 ≡ rowFreed d i t
 unfolding flat rowFreed
 fronted t d i h g =
     let r : length (rowAt t i) ≡ 40 = length-part t (i * 40) 40 (omega arith) in
-    let k : length (freed (rowAt t i)) ≤ 40 = omega (arith, length-freed (rowAt t i) r) in
+    let k : length (freedRow (rowAt t i)) ≤ 40 = omega (arith, length-freed (rowAt t i) r) in
     let m : length (drop (i * 40 + 40) t) ≤ d * 40 - 40 - i * 40 = simp length-drop (omega arith) in
-    moved-up t (freed (rowAt t i)) (i * 40) (omega arith)
-    ∙ rw (flat-removeAt d t i h, rows-at d t i h, take-all 40 (freed (rowAt t i)) k, take-all (d * 40 - 40 - i * 40) (drop (i * 40 + 40) t) m)
+    moved-up t (freedRow (rowAt t i)) (i * 40) (omega arith)
+    ∙ rw (flat-removeAt d t i h, rows-at d t i h, take-all 40 (freedRow (rowAt t i)) k, take-all (d * 40 - 40 - i * 40) (drop (i * 40 + 40) t) m)
 
 -- address_row: the address in front, then the fingerprint, then the dirty byte
 pub addr-made : (row w g : List ℕ) (x : ℕ) → length row ≡ 40 → length g ≡ 32 → take 4 row ≡ w → drop 37 row ≡ 0 ∷ 0 ∷ 0 ∷ []

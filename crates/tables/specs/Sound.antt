@@ -23,9 +23,9 @@ rowAddress r = readAddress r .address
 abbrev pub rowSlot : List ℕ → ℕ
 rowSlot r = readBlock r .slot
 
-abbrev pub numberOf : Number → List ℕ → ℕ
-numberOf Address r = rowAddress r
-numberOf Slot r = rowSlot r
+abbrev pub numberIn : Number → List ℕ → ℕ
+numberIn Address r = rowAddress r
+numberIn Slot r = rowSlot r
 
 -- the last four bytes of a row: a byte that is 0 or 1, and three zeros
 unfoldable pub tailOk : List ℕ → Bool

@@ -9,7 +9,7 @@ ghost use lib.Dec.{eqb};
 ghost use lib.ListN.{length};
 ghost use Rattle.tables.specs.Rows.{rows, rowAt, HasRows};
 ghost use Rattle.tables.specs.Bits.{bitAt};
-ghost use Rattle.tables.specs.Sound.{distinct, numberOf, rowAddress, rowSlot};
+ghost use Rattle.tables.specs.Sound.{distinct, numberIn, rowAddress, rowSlot};
 
 // Sets the bit of `x` in `seen`, where eight numbers have a byte. Whether it was clear.
 pub(crate) fn set_bit(seen: &mut [u8], x: usize) -> bool
@@ -31,9 +31,9 @@ pub(crate) fn set_bit(seen: &mut [u8], x: usize) -> bool
 // Whether the addresses, or the slots, of the first `n` rows are all different. `seen` has a bit, clear at first, for each number that can occur.
 pub(crate) fn numbers_distinct(t: &[u8], n: usize, which: Number, seen: &mut [u8]) -> bool
     requires { ⌜ HasRows (now t) n ⌝ }
-    requires { ⌜ ((k : ℕ) → k < n → numberOf which (rowAt (now t) k) < length (now seen) * 8) ⌝ }
+    requires { ⌜ ((k : ℕ) → k < n → numberIn which (rowAt (now t) k) < length (now seen) * 8) ⌝ }
     requires { ⌜ ((x : ℕ) → x < length (now seen) * 8 → bitAt (now seen) x ≡ 0) ⌝ }
-    ensures { λ r. ⌜ r ≡ distinct (map (numberOf which) (rows n (now (t .entry)))) ⌝ }
+    ensures { λ r. ⌜ r ≡ distinct (map (numberIn which) (rows n (now (t .entry)))) ⌝ }
     ensures { λ r. ⌜ length (now (seen .exit)) ≡ length (now (seen .entry)) ⌝ }
 {
     let mut k = n;

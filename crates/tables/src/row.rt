@@ -10,8 +10,8 @@ ghost use lib.ListN.{length, getD};
 ghost use Rattle.tables.specs.Rows.{rowAt, rowBytes, le4, le8, HasRow, IsPrint};
 ghost use Rattle.tables.specs.Find.{all, isDirty, isUsed};
 ghost use Rattle.tables.specs.Records.{readAddress, readBlock, addressBytes, addressRow, blockBytes, freeRow};
-ghost use Rattle.tables.specs.Operations.{filled, freed, rowCleaned};
-ghost use Rattle.tables.specs.Sound.{isZero, numberOf, tailOk, zeroRow};
+ghost use Rattle.tables.specs.Operations.{filled, freedRow, rowCleaned};
+ghost use Rattle.tables.specs.Sound.{isZero, numberIn, tailOk, zeroRow};
 
 // The bytes of a row.
 pub const BYTES: usize = 40;
@@ -144,7 +144,7 @@ pub fn is_used(t: &[u8], k: usize) -> bool
 // The address, or the slot, in row `k`.
 pub(crate) fn number_at(t: &[u8], k: usize, which: Number) -> u32
     requires { ⌜ HasRow (now t) k ⌝ }
-    ensures { λ r. ⌜ r ≡ numberOf which (rowAt (now (t .entry)) k) ⌝ }
+    ensures { λ r. ⌜ r ≡ numberIn which (rowAt (now (t .entry)) k) ⌝ }
 {
     match which {
         Number::Address => {
@@ -250,7 +250,7 @@ pub(crate) fn filled(t: &[u8], k: usize, g: &[u8]) -> [u8; BYTES]
 // Row `k` of a block table, freed: used 0 and no fingerprint, with its slot.
 pub(crate) fn freed(t: &[u8], k: usize) -> [u8; BYTES]
     requires { ⌜ HasRow (now t) k ⌝ }
-    ensures { λ r. ⌜ r ≡ freed (rowAt (now (t .entry)) k) ⌝ }
+    ensures { λ r. ⌜ r ≡ freedRow (rowAt (now (t .entry)) k) ⌝ }
 {
     let mut row = copy(t, k);
     moves::clear(&mut row, 0, PRINT);

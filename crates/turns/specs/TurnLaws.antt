@@ -19,13 +19,13 @@ use Rattle.tables.specs.Sound.{distinct, rowSlot}
 use Rattle.tables.specs.Unsound.{blocksUnsound}
 use Rattle.table_laws.specs.Checked.{blocks-checked}
 use Rattle.block.specs.Blocks.{part, splice}
-use Rattle.block.specs.Laws.{length-part, length-splice, put-mid}
+use Rattle.block.specs.Laws.{length-part, length-splice, put-mid, part-splice, take-splice}
 use Rattle.parts.specs.declared.BoxRecord.{BoxRecord}
 use Rattle.serve.specs.declared.Served.{Served}
 use Rattle.turns.specs.declared.Sums.{Sums}
 use Rattle.paper.specs.KeyedLaws.{by-test, and-right}
 use Rattle.paper.specs.Cache.{Numbers, Hashing, AddressRow, Box, Counters, noCounts, Outcome, counted, oneIf, isHit, rowWithBlock, readAs, answer}
-use Rattle.paper.specs.Engine.{Fixed, engine}
+use Rattle.paper.specs.Engine.{Fixed}
 use Rattle.paper.specs.Lent.{join, lentOf}
 use Rattle.paper.specs.Sound.{sound-readAs}
 use Rattle.paper.specs.LentLaws.{block-count, free-below, used-below, sound-lengths, sound-passes}
@@ -34,10 +34,10 @@ use Rattle.paper.specs.Index.{indexWhere}
 use Rattle.paper.specs.Batch.{Filled, Batched, addressesIn, blocksIn, isMiss, seen, firstRead, start, source, blockIn, added, batchRead, batch}
 use Rattle.paper.specs.BatchLaws.{map-last}
 use Rattle.paper.specs.CallLaws.{Fits}
-use Rattle.parts.specs.Rep.{numbersOf, withHeld, Rep}
+use Rattle.parts.specs.Rep.{numbersOf, withHeld, Rep, engine}
 use Rattle.parts.specs.CopyLaws.{part-block, block-ends}
 use Rattle.step.specs.Steps.{Sure, out4}
-use Rattle.serve.specs.Calls.{Leaves, left, leaves, isYes, returned}
+use Rattle.serve.specs.Calls.{Leaves, left, leaves, isYes, returnedOr}
 use Rattle.turns.specs.Turns.{Turned, Lends}
 
 -- the bytes of a sound box have an index: the table's length, and no fingerprint used twice
@@ -81,20 +81,6 @@ module _ {X : Type 0} (a : ℕ) (z : X) where
   first-none (f ∷ fs) = by-test (eqb a (f .address)) (λ e. rw e (λ h. absurd (omega arith))) (λ e. rw e (λ h. first-none fs (le-of-suc-le-suc h)))
 
 -- ---- the buffer
-
-module _ (at n : ℕ) (s d : List ℕ) (ls : length s ≡ n) (h : at + n ≤ length d) where
-  front : length (take at d) ≡ at
-  front = length-take-le at d (omega arith)
-
-  -- what is written is there, and what is before it stays
-  pub part-splice : part at n (splice at s d) ≡ s
-  unfolding part splice
-  part-splice =
-      ap (take n) (drop-at (take at d) (s ++ drop (at + length s) d) at front) ∙ take-at s (drop (at + length s) d) n ls
-
-  pub take-splice : take at (splice at s d) ≡ take at d
-  unfolding splice
-  take-splice = take-at (take at d) (s ++ drop (at + length s) d) at front
 
 -- what a call leaves behind `&mut d[at..at + n]`, said of the whole
 pub put-part : (at n : ℕ) (d s : List ℕ) → length s ≡ n → putMid at (at + n - at) d s ≡ splice at s d
@@ -148,11 +134,11 @@ pub lends : (b : BoxRecord) (l : List ℕ) (z : Counters) (T : Batched (Fixed 32
     → Turned b l z T t disk flash addrs blocks buffer
     → (a k i : ℕ) → length l ≡ k → k * b .size + b .size ≤ length buffer → i ≡ indexWhere (λ x. eqb a x) l
     → (buffer′ : List ℕ) → buffer′ ≡ cond (ltb i k) (splice (k * b .size) (part (i * b .size) (b .size) buffer) buffer) buffer
-    → Lends T a (leb k i) (part (k * b .size) (b .size) buffer′)
+    → Lends b T a (leb k i) (part (k * b .size) (b .size) buffer′)
 lends b l z T t disk flash addrs blocks buffer w a k i lk room ei buffer′ eb =
     let B = b .size in
     let fs = T .filled in
-    let bl = engine B .blank in
+    let bl = engine b .blank in
     let n : length fs ≡ k = sym (length-map fs (λ f. f .address)) ∙ ap (length {A = ℕ}) (w .read) ∙ lk in
     let e : i ≡ indexWhere (λ x. eqb a x) (addressesIn fs) = ei ∙ ap (indexWhere (λ x. eqb a x)) (sym (w .read)) in
     by-test (ltb i k)
@@ -165,13 +151,13 @@ lends b l z T t disk flash addrs blocks buffer w a k i lk room ei buffer′ eb =
     let is : x .0 ≡ part (k * B) B buffer′
     = sym (brought B k i buffer buffer′ room eb lt ∙ part-take (i * B) B (k * B) buffer (block-ends i k B lt) (omega (arith, room))
     ∙ part-block B k (take (k * B) buffer) (blocksIn fs) p i bl lt) in
-    rw (lt-leb k i lt) (x, is, ap (source (engine B) (T .box) a) (q .0) ∙ ap (λ (j : ℕ). getD (blocksIn fs) j bl) (sym e), ap not (q .1)))
+    rw (lt-leb k i lt) (x, is, ap (source (engine b) (T .box) a) (q .0) ∙ ap (λ (j : ℕ). getD (blocksIn fs) j bl) (sym e), ap not (q .1)))
     (λ y.
     let le = ltb-false i k y in
     let q = first-none a bl fs (omega (arith, e, n, le)) in
     let long : length (part (k * B) B buffer′) ≡ B
     = length-part (k * B) B buffer′ (subst (λ (j : ℕ). k * B + B ≤ j) (sym (as-long B k i buffer buffer′ room eb)) room) in
-    rw (le-leb k i le) ((part (k * B) B buffer′, long), refl, ap (source (engine B) (T .box) a) (q .0), ap not (q .1)))
+    rw (le-leb k i le) ((part (k * B) B buffer′, long), refl, ap (source (engine b) (T .box) a) (q .0), ap not (q .1)))
 
 -- the tables' lengths
 pub table-lengths : (b : BoxRecord) (n : ℕ) (disk flash addrs blocks : List ℕ) (s : Box (Fixed 32) (Fixed (b .size)))
@@ -230,9 +216,9 @@ turned-brought b l z T t disk flash addrs blocks buffer k i lk room buffer′ e 
 
 -- ---- what a read tells
 
-module _ (B m : ℕ) (s : Box (Fixed 32) (Fixed B)) (a : ℕ) (x : Fixed B) where
-  abbrev reading : Option (AddressRow (Fixed 32)) → Outcome (Fixed 32) (Fixed B)
-  reading o = readAs (engine B) m s a x o
+module _ (b : BoxRecord) (s : Box (Fixed 32) (Fixed (b .size))) (a : ℕ) (x : Fixed (b .size)) where
+  abbrev reading : Option (AddressRow (Fixed 32)) → Outcome (Fixed 32) (Fixed (b .size))
+  reading o = readAs (engine b) (b .rows) s a x o
 
   reads-hit : (o : Option (AddressRow (Fixed 32))) → cond (isYes (reading o .word)) 1 0 ≡ oneIf (isHit (reading o .word))
   unfolding readAs answer
@@ -247,7 +233,7 @@ module _ (B m : ℕ) (s : Box (Fixed 32) (Fixed B)) (a : ℕ) (x : Fixed B) wher
   reads-fetch false (some r) = refl
   reads-fetch false none = refl
 
-  reads-block : (lent : List ℕ) (o : Option (AddressRow (Fixed 32))) → returned (reading o .block) lent ≡ (blockIn (engine B) (reading o .block)) .0
+  reads-block : (lent : List ℕ) (o : Option (AddressRow (Fixed 32))) → returnedOr (reading o .block) lent ≡ (blockIn (engine b) (reading o .block)) .0
   unfolding readAs answer
   reads-block lent (some r) = refl
   reads-block lent none = refl
@@ -275,17 +261,17 @@ one-le true = omega arith
 one-le false = omega arith
 
 module _ (b : BoxRecord) (l : List ℕ) (z : Counters) (T : Batched (Fixed 32) (Fixed (b .size))) (t : Sums) (disk flash addrs blocks buffer : List ℕ)
-    (w : Turned b l z T t disk flash addrs blocks buffer) (a : ℕ) (first : Bool) (block : List ℕ) (g : Lends T a first block)
+    (w : Turned b l z T t disk flash addrs blocks buffer) (a : ℕ) (first : Bool) (block : List ℕ) (g : Lends b T a first block)
     (s : Served) (own disk′ flash′ addrs′ blocks′ block′ : List ℕ) where
   -- what the read takes, its row, and its outcome
   abbrev took : Fixed (b .size)
-  took = cond first (getD (T .box .disk) a (engine (b .size) .blank)) (g .0)
+  took = cond first (getD (T .box .disk) a (engine b .blank)) (g .0)
 
   abbrev row : Option (AddressRow (Fixed 32))
-  row = rowWithBlock (engine (b .size)) (T .box) a
+  row = rowWithBlock (engine b) (T .box) a
 
   abbrev out : Outcome (Fixed 32) (Fixed (b .size))
-  out = readAs (engine (b .size)) (b .rows) (T .box) a took row
+  out = readAs (engine b) (b .rows) (T .box) a took row
 
   abbrev sums : Sums
   sums =
@@ -298,16 +284,16 @@ module _ (b : BoxRecord) (l : List ℕ) (z : Counters) (T : Batched (Fixed 32) (
       }
 
   abbrev then : Batched (Fixed 32) (Fixed (b .size))
-  then = batchRead (engine (b .size)) (numbersOf b) T a
+  then = batchRead (engine b) (numbersOf b) T a
 
-  one-more : then ≡ added (engine (b .size)) T a first out
+  one-more : then ≡ added (engine b) T a first out
   unfolding batchRead
-  one-more = ap₂ (λ y v. added (engine (b .size)) T a y (readAs (engine (b .size)) (b .rows) (T .box) a v row)) (g .3) (g .2)
+  one-more = ap₂ (λ y v. added (engine b) T a y (readAs (engine b) (b .rows) (T .box) a v row)) (g .3) (g .2)
 
   module _ (fits : Fits (numbersOf b)) (ab : a < b .blocks) (room : length l * b .size + b .size ≤ length buffer) (f1 : s .flashed ≤ 1)
       (p1 : s .primary ≤ 2 + b .rows) (e : left s disk′ flash′ addrs′ blocks′ block′ ≡ leaves (withHeld b (t .held)) own out) where
     sound-out : Sure b (out .box)
-    sound-out = sound-readAs (engine (b .size)) (numbersOf b) (T .box) a took row (w .sure) (fits .m-least) (fits .d-least) ab
+    sound-out = sound-readAs (engine b) (numbersOf b) (T .box) a took row (w .sure) (fits .m-least) (fits .d-least) ab
 
     rep-out : Rep (withHeld b (s .held)) disk′ flash′ addrs′ blocks′ (out .box)
     unfolding leaves out4
@@ -346,15 +332,15 @@ module _ (b : BoxRecord) (l : List ℕ) (z : Counters) (T : Batched (Fixed 32) (
     unfolding leaves out4
     primary-out = ap (λ (y : Leaves). y .left .primary) e
 
-    block-out : block′ ≡ (blockIn (engine (b .size)) (out .block)) .0
+    block-out : block′ ≡ (blockIn (engine b) (out .block)) .0
     unfolding leaves
-    block-out = ap (λ (y : Leaves). y .block) e ∙ reads-block (b .size) (b .rows) (T .box) a took own row
+    block-out = ap (λ (y : Leaves). y .block) e ∙ reads-block b (T .box) a took own row
 
     hit-out : cond (s .yes) 1 0 ≡ oneIf (isHit (out .word))
-    hit-out = ap (λ y. cond y 1 0) yes-is ∙ reads-hit (b .size) (b .rows) (T .box) a took row
+    hit-out = ap (λ y. cond y 1 0) yes-is ∙ reads-hit b (T .box) a took row
 
     fetch-out : cond (first && not (s .yes)) 1 0 ≡ oneIf (first && isMiss (out .word))
-    fetch-out = ap (λ y. cond (first && not y) 1 0) yes-is ∙ reads-fetch (b .size) (b .rows) (T .box) a took first row
+    fetch-out = ap (λ y. cond (first && not y) 1 0) yes-is ∙ reads-fetch b (T .box) a took first row
 
     longer : length (l ++ (a ∷ [])) ≡ length l + 1
     longer = length-append l (a ∷ [])
@@ -362,7 +348,7 @@ module _ (b : BoxRecord) (l : List ℕ) (z : Counters) (T : Batched (Fixed 32) (
     turned : Turned b (l ++ (a ∷ [])) z then sums disk′ flash′ addrs′ blocks′ (splice (length l * b .size) block′ buffer)
     unfolding counted
     turned =
-        let x = blockIn (engine (b .size)) (out .block) in
+        let x = blockIn (engine b) (out .block) in
         let fw = flashed-out in
         let pw = primary-out in
         let ht = hit-out in
@@ -421,18 +407,18 @@ module _ (b : BoxRecord) (asked : List ℕ) (k : ℕ) (z : Counters) (t : Sums) 
       subst (λ (x : List ℕ). Turned b x z T t disk flash addrs blocks buffer) (sym (ap (λ (j : ℕ). take j asked) (add-one k) ∙ take-suc asked k 0 h)) w
 
   abbrev upTo : Box (Fixed 32) (Fixed (b .size)) → ℕ → Batched (Fixed 32) (Fixed (b .size))
-  upTo s j = batch (engine (b .size)) (numbersOf b) (start s z) (take j asked)
+  upTo s j = batch (engine b) (numbersOf b) (start s z) (take j asked)
 
   pub batch-next : (s : Box (Fixed 32) (Fixed (b .size))) → k < length asked
-      → Turned b (take (k + 1) asked) z (batchRead (engine (b .size)) (numbersOf b) (upTo s k) (getD asked k 0)) t disk flash addrs blocks buffer
+      → Turned b (take (k + 1) asked) z (batchRead (engine b) (numbersOf b) (upTo s k) (getD asked k 0)) t disk flash addrs blocks buffer
       → Turned b (take (k + 1) asked) z (upTo s (k + 1)) t disk flash addrs blocks buffer
   batch-next s h w =
-      let e : upTo s (k + 1) ≡ batchRead (engine (b .size)) (numbersOf b) (upTo s k) (getD asked k 0)
-      = ap (batch (engine (b .size)) (numbersOf b) (start s z)) (ap (λ (j : ℕ). take j asked) (add-one k) ∙ take-suc asked k 0 h)
-      ∙ batch-last (engine (b .size)) (numbersOf b) (start s z) (take k asked) (getD asked k 0) in
+      let e : upTo s (k + 1) ≡ batchRead (engine b) (numbersOf b) (upTo s k) (getD asked k 0)
+      = ap (batch (engine b) (numbersOf b) (start s z)) (ap (λ (j : ℕ). take j asked) (add-one k) ∙ take-suc asked k 0 h)
+      ∙ batch-last (engine b) (numbersOf b) (start s z) (take k asked) (getD asked k 0) in
       subst (λ (U : Batched (Fixed 32) (Fixed (b .size))). Turned b (take (k + 1) asked) z U t disk flash addrs blocks buffer) (sym e) w
 
   pub batch-whole : (s : Box (Fixed 32) (Fixed (b .size))) → length asked ≤ k → Turned b (take k asked) z (upTo s k) t disk flash addrs blocks buffer
-      → Turned b asked z (batch (engine (b .size)) (numbersOf b) (start s z) asked) t disk flash addrs blocks buffer
+      → Turned b asked z (batch (engine b) (numbersOf b) (start s z) asked) t disk flash addrs blocks buffer
   batch-whole s h w =
-      subst (λ (x : List ℕ). Turned b x z (batch (engine (b .size)) (numbersOf b) (start s z) x) t disk flash addrs blocks buffer) (take-all k asked h) w
+      subst (λ (x : List ℕ). Turned b x z (batch (engine b) (numbersOf b) (start s z) x) t disk flash addrs blocks buffer) (take-all k asked h) w

@@ -7,10 +7,10 @@ use lib.ListN.{length, getD, take}
 use Rattle.parts.specs.declared.BoxRecord.{BoxRecord}
 use Rattle.turns.specs.declared.Sums.{Sums}
 use Rattle.paper.specs.Cache.{Counters}
-use Rattle.paper.specs.Engine.{Fixed, engine}
+use Rattle.paper.specs.Engine.{Fixed}
 use Rattle.paper.specs.Lent.{join}
 use Rattle.paper.specs.Batch.{Batched, addressesIn, blocksIn, seen, firstRead, source}
-use Rattle.parts.specs.Rep.{withHeld, Rep}
+use Rattle.parts.specs.Rep.{withHeld, Rep, engine}
 use Rattle.step.specs.Steps.{Sure}
 
 -- the counters z with those of n reads more
@@ -38,8 +38,8 @@ pub record Turned (b : BoxRecord) (l : List ℕ) (z : Counters) (T : Batched (Fi
   pub few : (t .hits ≤ length l) × (t .flashed ≤ length l) × (t .primary ≤ length l * 1026) × (t .fetches ≤ length l)
 
 -- `first` tells whether a is read for the first time, and where not, `block` is what its first read put in the buffer
-abbrev pub Lends : {B : ℕ} → Batched (Fixed 32) (Fixed B) → ℕ → Bool → List ℕ → Type 0
-Lends {B} T a first block =
-    (x : Fixed B) × (x .0 ≡ block)
-    × (source (engine B) (T .box) a (firstRead a (T .filled)) ≡ cond first (getD (T .box .disk) a (engine B .blank)) x)
+abbrev pub Lends : (b : BoxRecord) → Batched (Fixed 32) (Fixed (b .size)) → ℕ → Bool → List ℕ → Type 0
+Lends b T a first block =
+    (x : Fixed (b .size)) × (x .0 ≡ block)
+    × (source (engine b) (T .box) a (firstRead a (T .filled)) ≡ cond first (getD (T .box .disk) a (engine b .blank)) x)
     × (not (seen a (T .filled)) ≡ first)

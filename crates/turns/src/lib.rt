@@ -13,11 +13,11 @@ ghost use lib.Dec.{eqb, ltb};
 ghost use lib.ListN.{length, getD, take};
 ghost use Rattle.block.specs.Blocks.{part, splice};
 ghost use Rattle.paper.specs.Cache.{Box, Counters};
-ghost use Rattle.paper.specs.Engine.{Fixed, engine};
+ghost use Rattle.paper.specs.Engine.{Fixed};
 ghost use Rattle.paper.specs.Index.{indexWhere};
 ghost use Rattle.paper.specs.Batch.{Batched, start, batchRead, batch};
 ghost use Rattle.paper.specs.CallLaws.{Fits};
-ghost use Rattle.parts.specs.Rep.{numbersOf, Rep};
+ghost use Rattle.parts.specs.Rep.{numbersOf, Rep, engine};
 ghost use Rattle.step.specs.Steps.{Sure};
 ghost use Rattle.serve.specs.Calls.{LentSound};
 ghost use Rattle.turns.specs.Turns.{Turned, Lends};
@@ -119,8 +119,8 @@ pub(crate) fn land(
         × Turned b l z T t (now disk) (now flash) (now addrs) (now blocks) (now buffer)) ⌝ }
     ensures { λ r. ⌜ ((l : List ℕ) (z : Counters) (T : Batched (Fixed 32) (Fixed (b .size))) → length l ≡ k
         → Turned b l z T t (now (disk .entry)) (now (flash .entry)) (now (addrs .entry)) (now (blocks .entry)) (now (buffer .entry))
-        → Lends T (a .0) first (part (k * b .size) (b .size) (now (buffer .entry)))
-        → Turned b (l ++ (a .0 ∷ [])) z (batchRead (engine (b .size)) (numbersOf b) T (a .0)) r (now (disk .exit)) (now (flash .exit)) (now (addrs .exit))
+        → Lends b T (a .0) first (part (k * b .size) (b .size) (now (buffer .entry)))
+        → Turned b (l ++ (a .0 ∷ [])) z (batchRead (engine b) (numbersOf b) T (a .0)) r (now (disk .exit)) (now (flash .exit)) (now (addrs .exit))
         (now (blocks .exit)) (now (buffer .exit))) ⌝ }
     ensures { λ r. ⌜ length (now (buffer .exit)) ≡ length (now (buffer .entry)) ⌝ }
 {
@@ -159,7 +159,7 @@ pub(crate) fn turn(
         × Turned b (take k (now asked)) z T t (now disk) (now flash) (now addrs) (now blocks) (now buffer)) ⌝ }
     ensures { λ r. ⌜ ((z : Counters) (T : Batched (Fixed 32) (Fixed (b .size)))
         → Turned b (take k (now (asked .entry))) z T t (now (disk .entry)) (now (flash .entry)) (now (addrs .entry)) (now (blocks .entry)) (now (buffer .entry))
-        → Turned b (take (k + 1) (now (asked .entry))) z (batchRead (engine (b .size)) (numbersOf b) T (getD (now (asked .entry)) k 0)) r (now (disk .exit))
+        → Turned b (take (k + 1) (now (asked .entry))) z (batchRead (engine b) (numbersOf b) T (getD (now (asked .entry)) k 0)) r (now (disk .exit))
         (now (flash .exit)) (now (addrs .exit)) (now (blocks .exit)) (now (buffer .exit))) ⌝ }
     ensures { λ r. ⌜ length (now (buffer .exit)) ≡ length (now (buffer .entry)) ⌝ }
 {
@@ -184,7 +184,7 @@ pub fn serve_many(
     requires { ⌜ LentSound b (now disk) (now flash) (now addrs) (now blocks) ⌝ }
     ensures { λ r. ⌜ ((s : Box (Fixed 32) (Fixed (b .size))) (z : Counters)
         → Rep b (now (disk .entry)) (now (flash .entry)) (now (addrs .entry)) (now (blocks .entry)) s → Sure b s
-        → Turned b (now (asked .entry)) z (batch (engine (b .size)) (numbersOf b) (start s z) (now (asked .entry))) r (now (disk .exit)) (now (flash .exit))
+        → Turned b (now (asked .entry)) z (batch (engine b) (numbersOf b) (start s z) (now (asked .entry))) r (now (disk .exit)) (now (flash .exit))
         (now (addrs .exit)) (now (blocks .exit)) (now (buffer .exit))) ⌝ }
     ensures { λ r. ⌜ length (now (buffer .exit)) ≡ length (now (buffer .entry)) ⌝ }
 {

@@ -12,8 +12,8 @@ ghost use Prim.Native.Nat.{ℕ, _+_, _≤_};
 ghost use lib.ListN.{getD};
 ghost use Rattle.tables.specs.Index.{Blank, Indexed};
 ghost use Rattle.paper.specs.Cache.{Box, readAs, rowWithBlock};
-ghost use Rattle.paper.specs.Engine.{Fixed, engine};
-ghost use Rattle.parts.specs.Rep.{Rep};
+ghost use Rattle.paper.specs.Engine.{Fixed};
+ghost use Rattle.parts.specs.Rep.{Rep, engine};
 ghost use Rattle.step.specs.Steps.{Sure};
 ghost use Rattle.serve.specs.Calls.{Access, LentSound, left, leaves};
 
@@ -43,7 +43,7 @@ pub(crate) fn read_missed(
     ensures { λ r. ⌜ ((s : Box (Fixed 32) (Fixed (b .size))) (x : Fixed (b .size)) (lent : List ℕ)
         → Rep b (now (disk .entry)) (now (flash .entry)) (now (addrs .entry)) (now (blocks .entry)) s → Sure b s → x .0 ≡ now (block .entry)
         → left r (now (disk .exit)) (now (flash .exit)) (now (addrs .exit)) (now (blocks .exit)) (now (block .exit))
-        ≡ leaves b lent (readAs (engine (b .size)) (b .rows) s (a .0) (cond first (getD (s .disk) (a .0) (engine (b .size) .blank)) x) Option.none)) ⌝ }
+        ≡ leaves b lent (readAs (engine b) (b .rows) s (a .0) (cond first (getD (s .disk) (a .0) (engine b .blank)) x) Option.none)) ⌝ }
 {
     let mut heads = [0u16; index::ENTRIES];
     index_rows(b, blocks, &mut heads);
@@ -70,8 +70,8 @@ pub(crate) fn read_one(
     ensures { λ r. ⌜ ((s : Box (Fixed 32) (Fixed (b .size))) (x : Fixed (b .size)) (lent : List ℕ)
         → Rep b (now (disk .entry)) (now (flash .entry)) (now (addrs .entry)) (now (blocks .entry)) s → Sure b s → x .0 ≡ now (block .entry)
         → left r (now (disk .exit)) (now (flash .exit)) (now (addrs .exit)) (now (blocks .exit)) (now (block .exit))
-        ≡ leaves b lent (readAs (engine (b .size)) (b .rows) s (a .0) (cond first (getD (s .disk) (a .0) (engine (b .size) .blank)) x)
-        (rowWithBlock (engine (b .size)) s (a .0)))) ⌝ }
+        ≡ leaves b lent (readAs (engine b) (b .rows) s (a .0) (cond first (getD (s .disk) (a .0) (engine b .blank)) x)
+        (rowWithBlock (engine b) s (a .0)))) ⌝ }
 {
     let i = rows::row_of(addrs, b.held, a);
     let j = rows::place_of_row(b, i, addrs, blocks);

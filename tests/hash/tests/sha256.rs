@@ -1,6 +1,10 @@
 //! The proved SHA-256 against the standard's examples and against RustCrypto's `sha2`.
 use common::Random;
-use hash::{hex, other, proved, proved_block};
+use hash::{hex, other, other_labelled, proved, proved_labelled, put_labelled, Label, SIZES};
+
+fn any_label(random: &mut Random) -> Label {
+    random.bytes(64).try_into().unwrap()
+}
 
 /// The standard's messages, with the digests as NIST prints them.
 #[test]
@@ -36,36 +40,59 @@ fn every_length() {
     println!("1,101 messages of 0 to 1,100 bytes agree with RustCrypto's (seed {seed})");
 }
 
-/// The seven block sizes of the cache, as messages and as blocks: one byte repeated, for each byte, and random bytes.
+/// The seven block sizes of the cache, as messages and as blocks under a label: one byte repeated, for each byte, and random bytes. The labels are random, and
+/// zeros.
 #[test]
 fn block_sizes() {
     let seed = 3;
     let mut random = Random(seed);
-    let sizes = [64, 128, 256, 512, 1024, 2048, 4096];
-    for size in sizes {
-        for byte in 0..=255 {
-            let block = vec![byte; size];
-            assert_eq!(proved(&block), other(&block), "size {size}, byte {byte}");
-            assert_eq!(proved_block(&block), other(&block), "a block, size {size}, byte {byte}");
-        }
-        for turn in 0..100 {
-            let block = random.bytes(size);
+    for size in SIZES {
+        let repeated = (0..=255).map(|byte| vec![byte; size]);
+        let any: Vec<Vec<u8>> = (0..100).map(|_| random.bytes(size)).collect();
+        for (turn, block) in repeated.chain(any).enumerate() {
             assert_eq!(proved(&block), other(&block), "seed {seed}, size {size}, turn {turn}");
-            assert_eq!(proved_block(&block), other(&block), "a block, seed {seed}, size {size}, turn {turn}");
+            for label in [any_label(&mut random), [0; 64]] {
+                assert_eq!(proved_labelled(&label, &block), other_labelled(&label, &block), "label {label:?}, seed {seed}, size {size}, turn {turn}");
+            }
         }
     }
-    println!("{} blocks of 64 to 4,096 bytes agree with RustCrypto's (seed {seed})", sizes.len() * 356);
+    println!("{} blocks of 64 to 4,096 bytes, each under two labels, agree with RustCrypto's (seed {seed})", SIZES.len() * 356);
 }
 
-/// Bytes that are no block, handed over as one: every length from 0 to 4,200 gets its digest, so that no size beside the seven is taken for one.
+/// Every length from 0 to 4,200 handed over as a block: the seven sizes get their digest, and at any other length that is said and the digest is kept.
 #[test]
 fn no_blocks() {
     let seed = 6;
-    let bytes = Random(seed).bytes(4200);
+    let mut random = Random(seed);
+    let bytes = random.bytes(4200);
+    let mut blocks = 0;
     for length in 0..=4200 {
-        assert_eq!(proved_block(&bytes[..length]), other(&bytes[..length]), "seed {seed}, length {length}");
+        let (label, before) = (any_label(&mut random), random.bytes(32).try_into().unwrap());
+        let is_size = SIZES.contains(&length);
+        let expected = if is_size { other_labelled(&label, &bytes[..length]) } else { before };
+        let mut digest = before;
+        assert_eq!(put_labelled(&label, &bytes[..length], &mut digest), is_size, "seed {seed}, length {length}");
+        assert_eq!(digest, expected, "seed {seed}, length {length}");
+        blocks += is_size as usize;
     }
-    println!("4,201 slices of 0 to 4,200 bytes, handed over as blocks, agree with RustCrypto's (seed {seed})");
+    assert_eq!(blocks, 7);
+    println!("4,201 slices of 0 to 4,200 bytes, handed over as blocks: {blocks} are, and agree with RustCrypto's (seed {seed})");
+}
+
+/// Blocks and labels that begin at any place of a buffer.
+#[test]
+fn random_blocks() {
+    let seed = 7;
+    let mut random = Random(seed);
+    let count = 3000;
+    for turn in 0..count {
+        let size = SIZES[random.below(7)];
+        let (buffer, more) = (random.bytes(size + 16), random.bytes(64 + 16));
+        let (start, place) = (random.below(16), random.below(16));
+        let (label, block) = (more[place..place + 64].first_chunk().unwrap(), &buffer[start..start + size]);
+        assert_eq!(proved_labelled(label, block), other_labelled(label, block), "seed {seed}, turn {turn}, size {size}, start {start}, label at {place}");
+    }
+    println!("{count} random blocks under random labels agree with RustCrypto's (seed {seed})");
 }
 
 /// Random messages, which begin at any place of a buffer so that no alignment is special.
@@ -84,7 +111,7 @@ fn random_messages() {
     println!("{count} random messages below 10,000 bytes agree with RustCrypto's (seed {seed})");
 }
 
-/// A message that differs in one bit has another digest: the comparison tells digests apart.
+/// A message, or a label, that differs in one bit has another digest: the comparison tells digests apart.
 #[test]
 fn one_bit() {
     let seed = 5;
@@ -95,5 +122,12 @@ fn one_bit() {
         assert_ne!(proved(&changed), other(&bytes), "seed {seed}, bit {bit}");
         assert_eq!(proved(&changed), other(&changed), "seed {seed}, bit {bit}");
     }
-    println!("1,600 messages with one bit changed have another digest (seed {seed})");
+    let (label, block): (Label, _) = (bytes[..64].try_into().unwrap(), &bytes[64..128]);
+    for bit in 0..512 {
+        let mut changed = label;
+        changed[bit / 8] ^= 1 << (bit % 8);
+        assert_ne!(proved_labelled(&changed, block), other_labelled(&label, block), "seed {seed}, bit {bit} of the label");
+        assert_eq!(proved_labelled(&changed, block), other_labelled(&changed, block), "seed {seed}, bit {bit} of the label");
+    }
+    println!("1,600 messages and 512 labels with one bit changed have another digest (seed {seed})");
 }

@@ -92,6 +92,7 @@ pub struct Cache {
     pub p: usize,
     pub m: usize,
     pub d: usize,
+    pub label: Label,
     /// Held addresses, oldest use first, and what is known of each.
     pub(crate) addresses: VecDeque<u32>,
     pub(crate) held: HashMap<u32, Held>,
@@ -107,13 +108,14 @@ pub struct Cache {
 
 impl Cache {
     /// A fresh box over the disk and flash given. The numbers are in their sets and the lengths are right.
-    pub fn fresh(b: usize, p: usize, m: usize, d: usize, disk: Vec<u8>, flash: Vec<u8>) -> Cache {
+    pub fn fresh(b: usize, p: usize, m: usize, d: usize, label: Label, disk: Vec<u8>, flash: Vec<u8>) -> Cache {
         assert!(disk.len() == p * b && flash.len() == d * b);
         Cache {
             b,
             p,
             m,
             d,
+            label,
             addresses: VecDeque::new(),
             held: HashMap::new(),
             free: (0..d as u32).collect(),
@@ -202,7 +204,7 @@ impl Cache {
             }
             None => {
                 *block = given.unwrap_or_else(|| self.disk.block(a as usize).to_vec());
-                (MISS, self.step(a, fingerprint(block), block, false))
+                (MISS, self.step(a, self.fingerprint(block), block, false))
             }
         };
         self.counters.reads += 1;
@@ -211,7 +213,7 @@ impl Cache {
     }
 
     fn write(&mut self, a: u32, block: &[u8], dirty: bool, to_disk: bool) -> Answer {
-        let g = fingerprint(block);
+        let g = self.fingerprint(block);
         let word = self.same_or_new(&g);
         if to_disk {
             self.disk.put(a as usize, block);
@@ -224,7 +226,7 @@ impl Cache {
     }
 
     fn invalidate(&mut self, a: u32, block: &[u8]) -> Answer {
-        let word = self.same_or_new(&fingerprint(block));
+        let word = self.same_or_new(&self.fingerprint(block));
         self.disk.put(a as usize, block);
         if self.held.contains_key(&a) {
             let q = self.take_out(a);
@@ -304,6 +306,10 @@ impl Cache {
         self.slots.insert(g, slot);
         self.cached.push_back(g);
         writes
+    }
+
+    fn fingerprint(&self, block: &[u8]) -> Fingerprint {
+        fingerprint(&self.label, block)
     }
 
     fn same_or_new(&self, g: &Fingerprint) -> u64 {

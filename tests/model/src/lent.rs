@@ -3,7 +3,7 @@ use crate::cache::{Held, Store};
 use crate::*;
 use std::collections::{BTreeSet, HashMap, HashSet};
 
-/// All memory that is lent to a call. A call that takes no block or no answer leaves that one alone.
+/// All memory that is lent to a call. A call that takes no block or no answer leaves that one alone, and opening alone takes the label.
 #[derive(Clone, PartialEq, Eq)]
 pub struct Lent {
     pub state: Vec<u8>,
@@ -13,6 +13,7 @@ pub struct Lent {
     pub blocks: Vec<u8>,
     pub block: Vec<u8>,
     pub answer: Vec<u8>,
+    pub label: Vec<u8>,
 }
 
 /// What one call for a folder is lent beside a box, whose block and answer it leaves alone.
@@ -39,7 +40,7 @@ impl Folder {
     }
 }
 
-/// The state in numbers, all of 64 bits.
+/// The state: numbers, all of 64 bits, and the label.
 #[derive(Clone, Copy, Debug, PartialEq, Eq)]
 pub struct Numbers {
     pub b: u64,
@@ -48,17 +49,19 @@ pub struct Numbers {
     pub d: u64,
     pub n: u64,
     pub counters: [u64; 4],
+    pub label: Label,
 }
 
 impl Numbers {
     pub fn from_bytes(state: &[u8]) -> Numbers {
         assert_eq!(state.len(), STATE);
         let [b, p, m, d, n, c0, c1, c2, c3] = std::array::from_fn(|k| u64::from_le_bytes(state[k * 8..k * 8 + 8].try_into().unwrap()));
-        Numbers { b, p, m, d, n, counters: [c0, c1, c2, c3] }
+        Numbers { b, p, m, d, n, counters: [c0, c1, c2, c3], label: state[STATE - LABEL..].try_into().unwrap() }
     }
 
     pub fn to_bytes(self) -> Vec<u8> {
-        [&[self.b, self.p, self.m, self.d, self.n][..], &self.counters].concat().iter().flat_map(|number| number.to_le_bytes()).collect()
+        let numbers = [&[self.b, self.p, self.m, self.d, self.n][..], &self.counters].concat();
+        numbers.iter().flat_map(|number| number.to_le_bytes()).chain(self.label).collect()
     }
 }
 
@@ -68,7 +71,7 @@ impl Lent {
     }
 
     /// The buffers by name, to say which one differs.
-    pub fn buffers(&self) -> [(&'static str, &Vec<u8>); 7] {
+    pub fn buffers(&self) -> [(&'static str, &Vec<u8>); 8] {
         [
             ("state", &self.state),
             ("disk", &self.disk),
@@ -77,6 +80,7 @@ impl Lent {
             ("block table", &self.blocks),
             ("lent block", &self.block),
             ("answer", &self.answer),
+            ("lent label", &self.label),
         ]
     }
 
@@ -191,7 +195,7 @@ pub fn refusal(call: Call, address: u32, lent: &Lent) -> u32 {
     }
     let numbers = lent.numbers();
     let own = |number: u32| match number {
-        2 => call.takes_block() && lent.block.len() as u64 != numbers.b,
+        2 => call.takes_block() && lent.block.len() as u64 != numbers.b || call == Call::Open && lent.label.len() != LABEL,
         _ => address as u64 >= numbers.p,
     };
     first_of(call.checks(), lent, own)
@@ -235,14 +239,14 @@ pub fn carry_out(call: Call, address: u32, lent: &mut Lent) -> u32 {
     let number = refusal(call, address, lent);
     if call == Call::Open {
         if lent.state.len() == STATE {
-            let mut numbers = lent.numbers();
-            numbers.n = 0;
-            lent.state = numbers.to_bytes();
+            // "The box record carries the label, given at opening (zeros if refused)." (document 02, U6)
+            let label = if number == 0 { lent.label[..].try_into().unwrap() } else { ZEROS };
+            lent.state = Numbers { n: 0, label, ..lent.numbers() }.to_bytes();
         }
         if number == 0 {
-            let Numbers { b, p, m, d, .. } = lent.numbers();
+            let Numbers { b, p, m, d, label, .. } = lent.numbers();
             let (disk, flash) = (std::mem::take(&mut lent.disk), std::mem::take(&mut lent.flash));
-            Cache::fresh(b as usize, p as usize, m as usize, d as usize, disk, flash).store(lent);
+            Cache::fresh(b as usize, p as usize, m as usize, d as usize, label, disk, flash).store(lent);
         }
         return number;
     }
@@ -304,6 +308,7 @@ impl Cache {
             p: numbers.p as usize,
             m: numbers.m as usize,
             d: numbers.d as usize,
+            label: numbers.label,
             addresses: held.iter().map(|row| row.address).collect(),
             held: held.iter().map(|row| (row.address, Held { fingerprint: row.fingerprint, dirty: row.dirty == 1 })).collect(),
             free: free.iter().map(|row| row.slot).collect(),
@@ -318,7 +323,7 @@ impl Cache {
     fn state_bytes(&self) -> Vec<u8> {
         let Counters { reads, hits, flash, primary } = self.counters;
         let [b, p, m, d, n] = [self.b, self.p, self.m, self.d, self.addresses.len()].map(|number| number as u64);
-        Numbers { b, p, m, d, n, counters: [reads, hits, flash, primary] }.to_bytes()
+        Numbers { b, p, m, d, n, counters: [reads, hits, flash, primary], label: self.label }.to_bytes()
     }
 
     fn address_bytes(&self) -> Vec<u8> {
@@ -336,7 +341,7 @@ impl Cache {
         free.chain(used).flat_map(|row| row.to_bytes()).collect()
     }
 
-    /// Writes the box into bytes: every buffer but the lent block and the answer.
+    /// Writes the box into bytes: every buffer but the lent block, the answer and the lent label.
     pub fn store(self, lent: &mut Lent) {
         lent.state = self.state_bytes();
         lent.addresses = self.address_bytes();
@@ -345,7 +350,7 @@ impl Cache {
         lent.flash = self.flash.into_bytes();
     }
 
-    /// The name of a buffer whose bytes are not this box's, if there is one. The lent block and the answer are not looked at.
+    /// The name of a buffer whose bytes are not this box's, if there is one. The lent block, the answer and the lent label are not looked at.
     pub fn difference(&self, lent: &Lent) -> Option<&'static str> {
         [
             ("state", lent.state == self.state_bytes()),

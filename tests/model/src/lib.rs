@@ -14,9 +14,15 @@ use sha2::{Digest, Sha256};
 
 pub type Fingerprint = [u8; 32];
 
-pub fn fingerprint(block: &[u8]) -> Fingerprint {
-    Sha256::digest(block).into()
+pub type Label = [u8; LABEL];
+
+/// "The fingerprint becomes SHA-256 over a 64-byte office label followed by the block." (document 02, U6)
+pub fn fingerprint(label: &Label, block: &[u8]) -> Fingerprint {
+    Sha256::new().chain_update(label).chain_update(block).finalize().into()
 }
+
+/// "replay's label is all zeros" (document 02, U6), and so is that of a refused opening.
+pub const ZEROS: Label = [0; LABEL];
 
 pub const BLOCK_SIZES: [usize; 7] = [64, 128, 256, 512, 1_024, 2_048, 4_096];
 pub const MOST_P: usize = 65_536;
@@ -25,7 +31,9 @@ pub const MOST_D: usize = 256;
 /// A counter above this is refused.
 pub const MOST_COUNTED: u64 = 1 << 63;
 pub const ROW: usize = 40;
-pub const STATE: usize = 72;
+pub const LABEL: usize = 64;
+/// Nine numbers of 8 bytes, then the label.
+pub const STATE: usize = 136;
 pub const ANSWER: usize = 24;
 /// The answer of one call for a folder, and the most addresses of it.
 pub const MANY_ANSWER: usize = 32;

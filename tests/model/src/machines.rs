@@ -1,5 +1,5 @@
 //! The two machines that the document compares a list of calls with. Neither knows the cache.
-use crate::{fingerprint, Call, Fingerprint};
+use crate::{fingerprint, Call, Fingerprint, Label};
 use std::collections::VecDeque;
 
 /// P blocks that writes replace and reads and looks answer. It hears of refusals only that they were.
@@ -57,8 +57,9 @@ fn put<T: PartialEq>(list: &mut VecDeque<T>, most: usize, one: T) -> bool {
 }
 
 impl PrintedDlru {
-    pub fn new(disk: &[u8], b: usize, m: usize, d: usize) -> PrintedDlru {
-        let contents = disk.chunks_exact(b).map(fingerprint).collect();
+    /// Contents are told apart by the fingerprints of an office's label.
+    pub fn new(label: &Label, disk: &[u8], b: usize, m: usize, d: usize) -> PrintedDlru {
+        let contents = disk.chunks_exact(b).map(|block| fingerprint(label, block)).collect();
         PrintedDlru { m, d, contents, addresses: VecDeque::new(), fingerprints: VecDeque::new() }
     }
 

@@ -1,6 +1,6 @@
 //! The two ways of the model agree: a list run in maps and queues, and each of its calls loaded from bytes and stored to bytes.
 use common::Random;
-use model::{carry_out, Answer, Cache, Call, Lent, Numbers};
+use model::{carry_out, Answer, Cache, Call, Lent, Numbers, LABEL};
 
 #[test]
 fn lists_in_bytes() {
@@ -13,16 +13,19 @@ fn lists_in_bytes() {
         let contents = 1 + random.below(8);
         let disk: Vec<u8> = (0..p).flat_map(|_| vec![random.below(contents) as u8; b]).collect();
         let flash = random.bytes(d * b);
+        let [label, other] = std::array::from_fn(|_| random.bytes(LABEL).try_into().unwrap());
+        let (n, counters) = (random.number(), [random.number(); 4]);
         let mut lent = Lent {
-            state: Numbers { b: b as u64, p: p as u64, m: m as u64, d: d as u64, n: random.number(), counters: [random.number(); 4] }.to_bytes(),
+            state: Numbers { b: b as u64, p: p as u64, m: m as u64, d: d as u64, n, counters, label: other }.to_bytes(),
             disk: disk.clone(),
             flash: flash.clone(),
             addresses: random.bytes(m * 40),
             blocks: random.bytes(d * 40),
             block: Vec::new(),
             answer: vec![0; 24],
+            label: label.to_vec(),
         };
-        let mut cache = Cache::fresh(b, p, m, d, disk, flash);
+        let mut cache = Cache::fresh(b, p, m, d, label, disk, flash);
         assert_eq!(carry_out(Call::Open, 0, &mut lent), 0);
         assert_eq!(cache.difference(&lent), None, "seed {seed}");
         for _ in 0..100 {

@@ -1,13 +1,15 @@
 //! One call for a folder by the model: cases worked out by hand from document 02, and the reads in turn.
 use common::Random;
-use model::{carry_out, carry_out_many, fingerprint, refusal_many, Answer, AddressRow, BlockRow, Cache, Call, Folder, Lent, ManyAnswer, Numbers, HIT, ROW};
+use model::{carry_out, carry_out_many, fingerprint, refusal_many, AddressRow, Answer, BlockRow, Cache, Call, Folder, Label, Lent, ManyAnswer, Numbers};
+use model::{HIT, LABEL, ROW};
 
 const B: usize = 64;
+const OFFICE: Label = [0x4F; LABEL];
 
 /// A fresh box whose disk block k has the byte k.
 fn fresh(p: usize, m: usize, d: usize) -> Cache {
     let disk = (0..p).flat_map(|k| [k as u8; B]).collect();
-    Cache::fresh(B, p, m, d, disk, vec![0xAA; d * B])
+    Cache::fresh(B, p, m, d, OFFICE, disk, vec![0xAA; d * B])
 }
 
 /// The folder's answer, and the byte that fills each block read.
@@ -48,18 +50,19 @@ fn repeats() {
 /// A box in bytes: m = 2, d = 1, disk block k has the byte k. Address 3, if it is held, and the one block row have the fingerprint of `print`; the slot
 /// has `stored`.
 fn off_the_premise(held: bool, print: u8, stored: u8) -> Lent {
-    let g = fingerprint(&[print; B]);
+    let g = fingerprint(&OFFICE, &[print; B]);
     let row = AddressRow { address: 3, fingerprint: g, dirty: 0, padding: [0; 3] };
     let mut addresses = if held { row.to_bytes() } else { Vec::new() };
     addresses.resize(2 * ROW, 0);
     Lent {
-        state: Numbers { b: B as u64, p: 8, m: 2, d: 1, n: held as u64, counters: [0; 4] }.to_bytes(),
+        state: Numbers { b: B as u64, p: 8, m: 2, d: 1, n: held as u64, counters: [0; 4], label: OFFICE }.to_bytes(),
         disk: (0..8u8).flat_map(|k| [k; B]).collect(),
         flash: vec![stored; B],
         addresses,
         blocks: BlockRow { fingerprint: g, slot: 0, used: 1, padding: [0; 3] }.to_bytes(),
         block: vec![],
         answer: vec![],
+        label: vec![],
     }
 }
 
@@ -76,8 +79,8 @@ fn the_first_block_again() {
     assert_eq!(asked.buffer, [[9; B], [5; B], [9; B]].concat());
     assert_eq!(ManyAnswer::from_bytes(&asked.answer), ManyAnswer { hits: 1, flash: 2, primary: 0, fetches: 1 });
     assert_eq!(lent.flash, [9; B]);
-    assert_eq!(lent.blocks[..32], fingerprint(&[9; B]));
-    assert_eq!(lent.addresses[ROW + 4..ROW + 36], fingerprint(&[9; B]));
+    assert_eq!(lent.blocks[..32], fingerprint(&OFFICE, &[9; B]));
+    assert_eq!(lent.addresses[ROW + 4..ROW + 36], fingerprint(&OFFICE, &[9; B]));
     assert_eq!(lent.disk[3 * B..4 * B], [3; B]);
     // The reads in turn, as single calls, take the disk's block the second time.
     let mut single = off_the_premise(true, 8, 9);
@@ -109,8 +112,8 @@ fn as_the_reads_in_turn() {
         let contents = 1 + random.below(8);
         let disk: Vec<u8> = (0..p).flat_map(|_| [random.below(contents) as u8; B]).collect();
         let flash = random.bytes(d * B);
-        let mut cache = Cache::fresh(B, p, m, d, disk.clone(), flash.clone());
-        let mut lent = Lent { state: vec![], disk, flash, addresses: vec![], blocks: vec![], block: vec![], answer: vec![] };
+        let mut cache = Cache::fresh(B, p, m, d, OFFICE, disk.clone(), flash.clone());
+        let mut lent = Lent { state: vec![], disk, flash, addresses: vec![], blocks: vec![], block: vec![], answer: vec![], label: vec![] };
         for _ in 0..30 {
             let call = model::CALLS[1 + random.below(6)];
             cache.call(call, random.below(p) as u32, &mut vec![random.below(contents) as u8; B]).unwrap();

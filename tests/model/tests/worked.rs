@@ -1,12 +1,15 @@
 //! The document's replay, worked states and edges, as it prints them.
-use model::{carry_out, machines::PrintedDlru, word, Answer, Cache, Call, Lent, Numbers};
+use model::{carry_out, fingerprint, machines::PrintedDlru, word, Answer, Cache, Call, Label, Lent, Numbers, LABEL};
 
 const B: usize = 64;
+/// The label of the boxes here, and the bytes that a state has for a label before it is opened.
+const OFFICE: Label = [0x4F; LABEL];
+const BEFORE: Label = [0xB7; LABEL];
 
 /// A fresh box whose disk block k has the byte k.
 fn fresh(p: usize, m: usize, d: usize) -> Cache {
     let disk = (0..p).flat_map(|k| [k as u8; B]).collect();
-    Cache::fresh(B, p, m, d, disk, vec![0xAA; d * B])
+    Cache::fresh(B, p, m, d, OFFICE, disk, vec![0xAA; d * B])
 }
 
 /// Runs a line of the replay's form and gives the line that the document prints for it.
@@ -39,7 +42,7 @@ fn lines(cache: &mut Cache, texts: &[&str]) -> Vec<String> {
 /// Rows as `address:content`, then the block rows, free ones as `-`.
 fn shown(cache: &Cache) -> (String, String) {
     // A held row's content is that whose fingerprint it has.
-    let content = |g: [u8; 32]| (0..=255u8).find(|k| model::fingerprint(&[*k; B]) == g).unwrap();
+    let content = |g: [u8; 32]| (0..=255u8).find(|k| fingerprint(&OFFICE, &[*k; B]) == g).unwrap();
     let rows: Vec<String> = cache.rows().iter().map(|(a, row)| format!("{a}:{}", content(row.fingerprint))).collect();
     let cached = cache.cached_blocks();
     let free = vec!["-".to_string(); cache.d - cached.len()];
@@ -121,13 +124,14 @@ fn e1_to_e8() {
 /// A box in bytes whose disk block k has the byte k, not opened yet.
 fn lent(b: usize, p: usize, m: usize, d: usize) -> Lent {
     Lent {
-        state: Numbers { b: b as u64, p: p as u64, m: m as u64, d: d as u64, n: 77, counters: [1, 2, 3, 4] }.to_bytes(),
+        state: Numbers { b: b as u64, p: p as u64, m: m as u64, d: d as u64, n: 77, counters: [1, 2, 3, 4], label: BEFORE }.to_bytes(),
         disk: (0..p).flat_map(|k| vec![k as u8; b]).collect(),
         flash: vec![0xAA; d * b],
         addresses: vec![0xBB; m * 40],
         blocks: vec![0xCC; d * 40],
         block: vec![0xDD; b],
         answer: vec![0xEE; 24],
+        label: OFFICE.to_vec(),
     }
 }
 
@@ -138,9 +142,12 @@ fn edges() {
         let mut opened = before.clone();
         assert_eq!(carry_out(Call::Open, 0, &mut opened), number, "B = {b}");
         let mut expected = before.clone();
-        expected.state = Numbers { n: 0, ..before.numbers() }.to_bytes();
+        // n = 0, and a label of zeros where it is refused.
+        expected.state[32..40].fill(0);
+        expected.state[72..].fill(0);
         if number == 0 {
-            expected.state[40..].fill(0);
+            expected.state[40..72].fill(0);
+            expected.state[72..].copy_from_slice(&OFFICE);
             expected.addresses.fill(0);
             expected.blocks = [[0; 40], [0; 40]].concat();
             expected.blocks[72] = 1;
@@ -225,12 +232,12 @@ fn a_flush_in_parts() {
 #[test]
 fn printed_dlru() {
     let disk: Vec<u8> = [1u8, 2, 1, 3].iter().flat_map(|k| [*k; B]).collect();
-    let mut printed = PrintedDlru::new(&disk, B, 2, 2);
+    let mut printed = PrintedDlru::new(&OFFICE, &disk, B, 2, 2);
     // The block of address 2 is that of address 0: its fingerprint is there, its address is not.
     let hits: Vec<Option<bool>> = [0, 1, 0, 2, 0, 3].iter().map(|a| printed.feed(*a, false)).collect();
     assert_eq!(hits, [false, false, true, false, true, false].map(Some));
     assert_eq!(printed.addresses, [0, 3]);
-    assert_eq!(printed.fingerprints, [model::fingerprint(&[1; B]), model::fingerprint(&[3; B])]);
+    assert_eq!(printed.fingerprints, [1, 3].map(|k| fingerprint(&OFFICE, &[k; B])));
     assert_eq!(printed.feed(1, true), None);
     println!("the printed D-LRU: six reads and a refused one");
 }

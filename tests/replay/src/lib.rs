@@ -5,7 +5,7 @@ pub mod malformed;
 pub mod programs;
 pub mod states;
 
-use model::{word, Cache, Call, BLOCK_SIZES, MOST_D, MOST_M, MOST_P};
+use model::{word, Cache, Call, BLOCK_SIZES, MOST_D, MOST_M, MOST_P, ZEROS};
 
 /// A line of the list that isn't of the form, and a box that is more than a replay takes.
 const NOT_THE_FORM: u32 = 4;
@@ -78,7 +78,7 @@ pub fn open(line: &[u8]) -> Result<Cache, u32> {
     }
     let [b, p, m, d] = [b, p, m, d].map(|number| number as usize);
     let disk = (0..p).flat_map(|k| vec![k as u8; b]).collect();
-    Ok(Cache::fresh(b, p, m, d, disk, vec![0; d * b]))
+    Ok(Cache::fresh(b, p, m, d, ZEROS, disk, vec![0; d * b]))
 }
 
 /// The output's line for a later line of the list: its fields after the call number.

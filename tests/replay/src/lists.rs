@@ -59,7 +59,8 @@ impl Pool {
     fn line(&self, random: &mut Random) -> String {
         let (a, content) = (self.address(random), pick(random, &self.contents));
         match random.below(40) {
-            0 => pick(random, &["", " ", "F ", "R", "R  1", "T 1", "B 1 0a", "I 01 00", "L 000", "X 1", "r 1", "box 64 8 3 2", "R 1 00", "F 1", "T 1 0G"]).to_string(),
+            0 => pick(random, &["", " ", "F ", "R", "R  1", "T 1", "B 1 0a", "I 01 00", "L 000", "X 1", "r 1", "box 64 8 3 2", "R 1 00", "F 1", "T 1 0G"])
+                .to_string(),
             1..=3 => "F".to_string(),
             4..=7 => format!("L {a}"),
             8..=20 => format!("R {a}"),

@@ -1,7 +1,7 @@
 //! The built programs: the proved replay, and the trainer's program of the states, which is compiled here through the header.
 use std::io::{ErrorKind, Write};
 use std::path::{Path, PathBuf};
-use std::process::{Command, Output, Stdio};
+use std::process::{Child, Command, Output, Stdio};
 use std::sync::OnceLock;
 use std::time::Duration;
 
@@ -61,8 +61,13 @@ impl Program {
         (done.status.code(), done.stdout, String::from_utf8_lossy(&done.stderr).into_owned())
     }
 
+    /// Starts the program with pipes for its input, its output and what it says on standard error.
+    pub fn start(&self) -> Child {
+        Command::new(&self.path).args(&self.words).stdin(Stdio::piped()).stdout(Stdio::piped()).stderr(Stdio::piped()).spawn().unwrap()
+    }
+
     fn done(&self, input: &[u8], writing: Writing) -> Output {
-        let mut child = Command::new(&self.path).args(&self.words).stdin(Stdio::piped()).stdout(Stdio::piped()).stderr(Stdio::piped()).spawn().unwrap();
+        let mut child = self.start();
         let stdin = child.stdin.take().unwrap();
         std::thread::scope(|scope| {
             scope.spawn(|| write(stdin, input, writing));

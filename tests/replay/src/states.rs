@@ -1,19 +1,19 @@
 //! What the program of the states must print, from the model's box. A held row's content is found by its fingerprint, not by where its block is.
 use crate::{follow, lines};
-use model::{fingerprint, read_tables, Cache, Fingerprint, Lent};
+use model::{fingerprint, read_tables, Cache, Fingerprint, Lent, ZEROS};
 use std::collections::HashMap;
 
-/// Which byte fills the block with a fingerprint, for one block size.
+/// Which byte fills the block with a fingerprint, for one block size; a replay's label is zeros.
 struct Contents(HashMap<Fingerprint, u8>);
 
 impl Contents {
     fn of(b: usize) -> Contents {
-        Contents((0..=255).map(|byte| (fingerprint(&vec![byte; b]), byte)).collect())
+        Contents((0..=255).map(|byte| (fingerprint(&ZEROS, &vec![byte; b]), byte)).collect())
     }
 }
 
 fn lent(cache: &Cache) -> Lent {
-    let mut lent = Lent { state: vec![], disk: vec![], flash: vec![], addresses: vec![], blocks: vec![], block: vec![], answer: vec![] };
+    let mut lent = Lent { state: vec![], disk: vec![], flash: vec![], addresses: vec![], blocks: vec![], block: vec![], answer: vec![], label: vec![] };
     cache.clone().store(&mut lent);
     lent
 }

@@ -246,7 +246,10 @@ fn on_the_page() {
                 let item = shown.next().unwrap();
                 let (whole, tail) = (escaped(reason), format!(": {item}"));
                 let first = k == 0 && !answer.starts_with("0 ");
-                assert!(whole == item && (!first || answer.contains("refused")) || first && whole.ends_with(&tail), "{answer}: {reason}, and on the page {item}");
+                assert!(
+                    whole == item && (!first || answer.contains("refused")) || first && whole.ends_with(&tail),
+                    "{answer}: {reason}, and on the page {item}"
+                );
                 count += 1;
             }
         }

@@ -1,5 +1,5 @@
 //! docs/FORMATS.md: its example, its refusals, its record and its rows against the model, the header and the proved program.
-use model::{Cache, Call, Lent};
+use model::{Cache, Call, Lent, LABEL, STATE, ZEROS};
 use replay::programs::{fences, root, Program, Writing};
 
 fn read(name: &str) -> String {
@@ -15,12 +15,12 @@ fn the_example() {
     println!("the example of docs/FORMATS.md, {} lines", answers.lines().count());
 }
 
-/// A write back of content 7 to address 5 of a box of 64, 8, 3 and 2: the first address row, then both block rows.
+/// A write back of content 7 to address 5 of a box of 64, 8, 3 and 2 under a label of zeros: the first address row, then both block rows.
 #[test]
 fn the_rows() {
-    let mut cache = Cache::fresh(64, 8, 3, 2, (0..8).flat_map(|k| vec![k; 64]).collect(), vec![0; 128]);
+    let mut cache = Cache::fresh(64, 8, 3, 2, ZEROS, (0..8).flat_map(|k| vec![k; 64]).collect(), vec![0; 128]);
     cache.call(Call::Back, 5, &mut vec![7; 64]).unwrap();
-    let mut lent = Lent { state: vec![], disk: vec![], flash: vec![], addresses: vec![], blocks: vec![], block: vec![], answer: vec![] };
+    let mut lent = Lent { state: vec![], disk: vec![], flash: vec![], addresses: vec![], blocks: vec![], block: vec![], answer: vec![], label: vec![] };
     cache.store(&mut lent);
     let bytes = |text: &str| text.split_whitespace().map(|byte| u8::from_str_radix(byte, 16).unwrap()).collect::<Vec<u8>>();
     let page = read("docs/FORMATS.md");
@@ -29,14 +29,17 @@ fn the_rows() {
     println!("three rows of docs/FORMATS.md, byte for byte");
 }
 
+/// A number of the header by its name.
+fn number(name: &str) -> u64 {
+    let header = read("include/mindavehu.h");
+    let line = header.lines().find_map(|line| line.strip_prefix(&format!("#define MINDAVEHU_{name} "))).unwrap_or_else(|| panic!("{name} is not defined"));
+    line.split_whitespace().next().unwrap().parse().unwrap()
+}
+
 /// The header's numbers of refusals, words and fields, as the page tells them.
 #[test]
 fn the_numbers() {
-    let (page, header) = (read("docs/FORMATS.md"), read("include/mindavehu.h"));
-    let number = |name: &str| {
-        let line = header.lines().find_map(|line| line.strip_prefix(&format!("#define MINDAVEHU_{name} "))).unwrap_or_else(|| panic!("{name} is not defined"));
-        line.split_whitespace().next().unwrap().parse::<u64>().unwrap()
-    };
+    let page = read("docs/FORMATS.md");
     let refusals = ["OUTSIDE", "WRONG_LENGTH", "NO_ADDRESS", "BAD_ADDRESSES", "BAD_BLOCKS", "DIRTY_UNCACHED", "COUNTER_FULL", "BAD_COUNT"];
     let mut told: Vec<u64> = page
         .split("## Refusals")
@@ -67,8 +70,18 @@ fn the_numbers() {
     let bytes = row("byte", fields.iter().map(|(name, _)| number(name).to_string()).collect());
     let names = row("number", fields.iter().map(|(_, name)| name.to_string()).collect());
     assert!(page.contains(&bytes) && page.contains(&names), "{bytes}{names}");
-    for length in ["STATE", "ANSWER", "MANY_ANSWER", "ROW"] {
+    println!("{} refusals, 7 words and {} fields", told.len(), fields.len());
+}
+
+/// The lengths in the header, and the label's place in the state, as the page tells them.
+#[test]
+fn the_lengths() {
+    let page = read("docs/FORMATS.md");
+    for length in ["STATE", "LABEL", "ANSWER", "MANY_ANSWER", "ROW"] {
         assert!(page.contains(&format!(" {} bytes", number(length))), "{length}");
     }
-    println!("{} refusals, 7 words, {} fields and 4 lengths", told.len(), fields.len());
+    let (first, last) = (number("STATE_LABEL"), number("STATE") - 1);
+    assert_eq!((number("STATE"), number("LABEL")), (STATE as u64, LABEL as u64));
+    assert!(last + 1 - first == number("LABEL") && page.contains(&format!("Bytes {first} to {last} are the label")), "the label's place");
+    println!("5 lengths, and the label in bytes {first} to {last} of the state");
 }

@@ -8,7 +8,9 @@ fn lessons() -> Vec<(String, Vec<u8>, String)> {
     let folder = root().join("lessons");
     let mut files: Vec<PathBuf> = std::fs::read_dir(&folder).unwrap().map(|entry| entry.unwrap().path()).collect();
     files.sort();
-    let with = |extension: &str| files.iter().filter(|file| file.extension().is_some_and(|found| found == extension)).map(|file| file.with_extension("")).collect::<Vec<_>>();
+    let with = |extension: &str| {
+        files.iter().filter(|file| file.extension().is_some_and(|found| found == extension)).map(|file| file.with_extension("")).collect::<Vec<_>>()
+    };
     assert_eq!(with("txt"), with("expected"), "lists and stored outputs");
     let read = |file: &PathBuf, extension: &str| std::fs::read(file.with_extension(extension)).unwrap();
     let name = |file: &PathBuf| file.file_name().unwrap().to_str().unwrap().to_string();

@@ -3,6 +3,10 @@ use common::{Progress, Random};
 use replay::programs::{Program, Writing};
 use replay::{cases::cases, list, lists::random_list, malformed::KINDS, replay, DOCUMENT_LIST, DOCUMENT_OUTPUT};
 use std::collections::BTreeMap;
+use std::io::{BufRead, BufReader, Write};
+use std::sync::mpsc::channel;
+use std::thread::spawn;
+use std::time::Duration;
 
 const LISTS: usize = 2_400;
 const EACH_KIND: usize = 25;
@@ -24,7 +28,12 @@ impl Seen {
             let line = expected[..same].iter().filter(|byte| **byte == b'\n').count();
             let show = |bytes: &[u8]| String::from_utf8_lossy(bytes).lines().nth(line).map(str::to_string);
             let start = String::from_utf8_lossy(&input[..input.len().min(2_000)]);
-            panic!("{name}: line {} of the output is {:?} where {:?} is expected; the input, as far as 2,000 bytes: {start:?}", line + 1, show(&written), show(&expected));
+            panic!(
+                "{name}: line {} of the output is {:?} where {:?} is expected; the input, as far as 2,000 bytes: {start:?}",
+                line + 1,
+                show(&written),
+                show(&expected)
+            );
         }
         self.inputs += 1;
         for line in String::from_utf8(expected).unwrap().lines() {
@@ -136,4 +145,25 @@ fn long_inputs() {
         seen.compare(&program, "a long input after a box line", &[b"box 64 8 3 2\n", &input[..]].concat(), Writing::Pieces(4_096));
     }
     seen.print("inputs of 100 KB and more", progress.seconds());
+}
+
+/// Each line is answered when it is there, before the next one is written, and the end of the input is the end of the program.
+#[test]
+fn answers_as_the_lines_come() {
+    let mut child = Program::replay().start();
+    let (mut stdin, stdout) = (child.stdin.take().unwrap(), child.stdout.take().unwrap());
+    let (sender, answers) = channel();
+    let reader = spawn(move || BufReader::new(stdout).lines().for_each(|line| sender.send(line.unwrap()).unwrap()));
+    let next = |asked: &str| answers.recv_timeout(Duration::from_secs(60)).unwrap_or_else(|_| panic!("no answer to {asked:?} after a minute"));
+    writeln!(stdin, "{}", DOCUMENT_LIST[0]).unwrap();
+    let mut expected = DOCUMENT_OUTPUT.lines();
+    for line in &DOCUMENT_LIST[1..] {
+        writeln!(stdin, "{line}").unwrap();
+        assert_eq!(Some(next(line).as_str()), expected.next(), "{line}");
+    }
+    drop(stdin);
+    assert_eq!(Some(next("the end").as_str()), expected.next());
+    reader.join().unwrap();
+    assert!(child.wait().unwrap().success() && expected.next().is_none());
+    println!("{} lines answered one by one", DOCUMENT_LIST.len() - 1);
 }

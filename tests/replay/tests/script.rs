@@ -281,10 +281,11 @@ fn a_page_of_five_megabytes() {
     println!("a page of {} bytes with {pictures} of 400 lines", page.len());
 }
 
-/// Output that is lost, to a full device or to a pipe that nobody reads, and a list that cannot be read: never status 0. A pipe may end a program by its signal.
+/// Output that is lost, to a full device or to a pipe that nobody reads, and a list that cannot be read: the reason in words, and status 1.
 #[test]
 fn lost_output_and_lists_that_cannot_be_read() {
-    let options: [&[&str]; 7] = [&["--states"], &["--parts"], &["--explain"], &["--counts"], &["--folder", "1"], &["--mark", "week.expected"], &["--page"]];
+    let options: [&[&str]; 8] =
+        [&[], &["--states"], &["--parts"], &["--explain"], &["--counts"], &["--folder", "1"], &["--mark", "week.expected"], &["--page"]];
     let run = |words: &[&str], input: &str, output: Stdio| {
         let stdin = File::open(root().join(input)).unwrap();
         let mut command = Command::new(root().join("replay"));
@@ -299,9 +300,12 @@ fn lost_output_and_lists_that_cannot_be_read() {
         let (reader, unread) = std::io::pipe().unwrap();
         drop(reader);
         let (status, said) = run(words, "lessons/counting.txt", unread.into());
-        assert!(!status.success() && !said.contains("Traceback"), "{words:?}: {status} {said}");
+        assert!(status.code() == Some(1) && said.ends_with("cannot be written: Broken pipe\n"), "{words:?}: {status} {said}");
         let (status, said) = run(words, "lessons", Stdio::null());
         assert!(status.code() == Some(1) && said.contains("the list cannot be read: Is a directory"), "{words:?}: {status} {said}");
     }
+    let closed = Command::new("bash").args(["-c", "./replay <&-"]).current_dir(root()).output().unwrap();
+    let said = String::from_utf8(closed.stderr).unwrap();
+    assert!(closed.status.code() == Some(1) && said == "replay: the list cannot be read: standard input is closed\n", "{said}");
     println!("{} options with lost output, and with a list that cannot be read", options.len());
 }

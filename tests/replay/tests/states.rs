@@ -30,7 +30,14 @@ const WORKED: [Worked; 8] = [
     Worked { name: "E5", box_line: None, calls: &["R 3"], state: "4:4 2:2 3:1; blocks 2 1", answers: &["9 R 3 miss 1 0"], disk: None },
     Worked { name: "E6", box_line: Some("box 64 8 1 2"), calls: &["R 1", "R 2", "R 3"], state: "3:3; blocks 2 3", answers: &[], disk: None },
     Worked { name: "E7", box_line: Some("box 64 8 1 1"), calls: &["B 0 09", "R 1"], state: "1:1; blocks 1", answers: &[], disk: Some("disk 9 1 2 3 4 5 6 7") },
-    Worked { name: "E8", box_line: Some("box 64 8 2 2"), calls: &["T 0 05", "T 1 05"], state: "0:5 1:5; blocks - 5", answers: &["1 T 0 new 1 1", "2 T 1 same 0 1"], disk: None },
+    Worked {
+        name: "E8",
+        box_line: Some("box 64 8 2 2"),
+        calls: &["T 0 05", "T 1 05"],
+        state: "0:5 1:5; blocks - 5",
+        answers: &["1 T 0 new 1 1", "2 T 1 same 0 1"],
+        disk: None,
+    },
 ];
 
 #[test]

@@ -1,6 +1,7 @@
 //! Random boxes in bytes: fresh ones, sound ones that no list of calls need reach, each way of breaking one, and any bytes.
 use common::Random;
-use model::{fingerprint, read_tables, AddressRow, BlockRow, Call, Fingerprint, Folder, Lent, Numbers, ANSWER, BLOCK_SIZES, MANY_ANSWER, MOST_COUNTED, ROW};
+use model::{fingerprint, read_tables, AddressRow, BlockRow, Call, Fingerprint, Folder, Label, Lent, Numbers};
+use model::{ANSWER, BLOCK_SIZES, LABEL, MANY_ANSWER, MOST_COUNTED, ROW, ZEROS};
 use std::collections::HashSet;
 
 pub fn fill(random: &mut Random, bytes: &mut [u8]) {
@@ -17,6 +18,22 @@ pub fn bytes(random: &mut Random, length: usize) -> Vec<u8> {
 
 pub fn pick<T: Copy>(random: &mut Random, list: &[T]) -> T {
     list[random.below(list.len())]
+}
+
+/// An office's label: any bytes, now and then zeros, or zeros but for one byte.
+pub fn any_label(random: &mut Random) -> Label {
+    let mut label = ZEROS;
+    match random.below(8) {
+        0 => {}
+        1 => label[random.below(LABEL)] = 1 + random.below(255) as u8,
+        _ => fill(random, &mut label),
+    }
+    label
+}
+
+/// The label that is lent to an opening, of the right length.
+pub fn office(lent: &Lent) -> Label {
+    lent.label[..].try_into().unwrap()
 }
 
 /// How many rows a flush is to clean at most: none, few, as many as can be held, more, and the largest number.
@@ -47,8 +64,8 @@ impl Shape {
         Shape { b: most.b, p: 1 + random.below(most.p), m: 1 + random.below(most.m), d: 1 + random.below(most.d) }
     }
 
-    pub fn numbers(&self) -> Numbers {
-        Numbers { b: self.b as u64, p: self.p as u64, m: self.m as u64, d: self.d as u64, n: 0, counters: [0; 4] }
+    pub fn numbers(&self, label: Label) -> Numbers {
+        Numbers { b: self.b as u64, p: self.p as u64, m: self.m as u64, d: self.d as u64, n: 0, counters: [0; 4], label }
     }
 }
 
@@ -80,18 +97,20 @@ impl Contents {
     }
 }
 
-/// A box to be opened: disk blocks from the pool, any bytes in flash and tables, any n and counters.
+/// A box to be opened under any label: disk blocks from the pool, any bytes in flash and tables; any n, counters and label before it.
 pub fn unopened(random: &mut Random, shape: Shape, contents: &Contents) -> Lent {
     let Shape { b, p, m, d } = shape;
     let counters = std::array::from_fn(|_| random.number());
+    let before = any_label(random);
     Lent {
-        state: Numbers { n: random.number(), counters, ..shape.numbers() }.to_bytes(),
+        state: Numbers { n: random.number(), counters, ..shape.numbers(before) }.to_bytes(),
         disk: contents.many(random, p),
         flash: if random.below(2) == 0 { bytes(random, d * b) } else { contents.many(random, d) },
         addresses: bytes(random, m * ROW),
         blocks: bytes(random, d * ROW),
         block: bytes(random, b),
         answer: bytes(random, ANSWER),
+        label: any_label(random).to_vec(),
     }
 }
 
@@ -109,7 +128,8 @@ pub fn sound_at(random: &mut Random, shape: Shape, place: Option<usize>) -> Lent
     let mut lent = unopened(random, shape, &contents);
 
     // Fingerprints: those of the pool, zeros, near relatives of one, and any.
-    let mut fingerprints: Vec<Fingerprint> = contents.blocks.iter().map(|block| fingerprint(block)).collect();
+    let label = lent.numbers().label;
+    let mut fingerprints: Vec<Fingerprint> = contents.blocks.iter().map(|block| fingerprint(&label, block)).collect();
     if random.below(2) == 0 {
         fingerprints.push([0; 32]);
     }
@@ -179,7 +199,7 @@ pub fn sound_at(random: &mut Random, shape: Shape, place: Option<usize>) -> Lent
         _ => random.below(1000) as u64,
     };
     let counters = std::array::from_fn(|_| counter(random));
-    lent.state = Numbers { n: n as u64, counters, ..shape.numbers() }.to_bytes();
+    lent.state = Numbers { n: n as u64, counters, ..shape.numbers(label) }.to_bytes();
     lent.block = contents.one(random).clone();
     lent
 }
@@ -221,6 +241,7 @@ pub enum Damage {
     AddressesLength,
     BlocksLength,
     BlockLength,
+    LabelLength,
     Address,
     TooManyHeld,
     AddressTooLarge,
@@ -243,7 +264,7 @@ pub enum Damage {
 }
 
 /// With the number of each, in the order of the checks. Several are applied from the last to the first.
-pub const DAMAGES: [(Damage, u32); 28] = [
+pub const DAMAGES: [(Damage, u32); 29] = [
     (Damage::B, 1),
     (Damage::P, 1),
     (Damage::M, 1),
@@ -253,6 +274,7 @@ pub const DAMAGES: [(Damage, u32); 28] = [
     (Damage::AddressesLength, 2),
     (Damage::BlocksLength, 2),
     (Damage::BlockLength, 2),
+    (Damage::LabelLength, 2),
     (Damage::Address, 3),
     (Damage::TooManyHeld, 6),
     (Damage::AddressTooLarge, 6),
@@ -278,6 +300,7 @@ pub const DAMAGES: [(Damage, u32); 28] = [
 pub fn number_of(call: Call, damages: &[Damage]) -> u32 {
     let asked = |damage: &Damage| match damage {
         Damage::BlockLength => call.takes_block(),
+        Damage::LabelLength => call == Call::Open,
         Damage::Address => call.takes_address(),
         _ => true,
     };
@@ -373,6 +396,7 @@ pub fn damage(random: &mut Random, lent: &mut Lent, address: &mut u32, kind: Dam
         Damage::AddressesLength => wrong_length(random, &mut lent.addresses),
         Damage::BlocksLength => wrong_length(random, &mut lent.blocks),
         Damage::BlockLength => wrong_length(random, &mut lent.block),
+        Damage::LabelLength => wrong_length(random, &mut lent.label),
         Damage::Address => *address = pick(random, &[p as u32, p as u32 + 1, u32::MAX, 1 << 31, 65_536]).max(p as u32),
         Damage::TooManyHeld => {
             let n = match random.below(4) {
@@ -438,7 +462,8 @@ pub fn damage(random: &mut Random, lent: &mut Lent, address: &mut u32, kind: Dam
 
 /// Any numbers and any bytes: small tables, lengths that fit more often than not.
 pub fn noise(random: &mut Random) -> Lent {
-    let wild = |random: &mut Random| pick(random, &[0, 1, 2, 3, 64, 255, 256, 257, 1_023, 1_024, 1_025, 65_535, 65_536, 65_537, 1 << 32, 1 << 63, u64::MAX, 461_168_601_842_738_791]);
+    let edges = [0, 1, 2, 3, 64, 255, 256, 257, 1_023, 1_024, 1_025, 65_535, 65_536, 65_537, 1 << 32, 1 << 63, u64::MAX, 461_168_601_842_738_791];
+    let wild = |random: &mut Random| pick(random, &edges);
     let mut number = |good: &[u64]| if random.below(12) == 0 { wild(random) } else { pick(random, good) };
     let [b, p, m, d, n] = [number(&[64, 64, 128]), number(&[1, 2, 3, 4]), number(&[1, 2, 3, 4]), number(&[1, 2, 3]), number(&[0, 1, 2, 3])];
     let counters = std::array::from_fn(|_| number(&[0, 1, 77, 1 << 63]));
@@ -451,20 +476,21 @@ pub fn noise(random: &mut Random) -> Lent {
             _ => exact,
         }
     };
-    let lengths = [length(p, b), length(d, b), length(m, ROW as u64), length(d, ROW as u64), length(1, b)];
+    let lengths = [length(p, b), length(d, b), length(m, ROW as u64), length(d, ROW as u64), length(1, b), length(1, LABEL as u64)];
     let few = |random: &mut Random, length: usize| -> Vec<u8> {
         let kinds = [[0, 0, 0, 0, 0, 0, 0, 1], [0, 0, 0, 0, 1, 1, 2, 255]];
         let kind = random.below(8).min(1);
         (0..length).map(|_| kinds[1 - kind][random.below(8)]).collect()
     };
     let mut lent = Lent {
-        state: Numbers { b, p, m, d, n, counters }.to_bytes(),
+        state: Numbers { b, p, m, d, n, counters, label: any_label(random) }.to_bytes(),
         disk: bytes(random, lengths[0]),
         flash: bytes(random, lengths[1]),
         addresses: few(random, lengths[2]),
         blocks: few(random, lengths[3]),
         block: bytes(random, lengths[4]),
         answer: bytes(random, ANSWER),
+        label: bytes(random, lengths[5]),
     };
     // Half of the time each row is brought near to a sound one, or no box would come past 6.
     if random.below(2) == 0 {

@@ -5,34 +5,43 @@ type P = *const u8;
 type M = *mut u8;
 
 extern "C" {
-    fn mindavehu_open(s: M, sl: usize, d: P, dl: usize, f: P, fl: usize, a: M, al: usize, b: M, bl: usize) -> u32;
-    fn mindavehu_read(s: M, sl: usize, address: u32, d: M, dl: usize, f: M, fl: usize, a: M, al: usize, b: M, bl: usize, k: M, kl: usize, w: M, wl: usize) -> u32;
+    fn mindavehu_open(s: M, sl: usize, l: P, ll: usize, d: P, dl: usize, f: P, fl: usize, a: M, al: usize, b: M, bl: usize) -> u32;
+    fn mindavehu_read(
+        s: M, sl: usize, address: u32, d: M, dl: usize, f: M, fl: usize, a: M, al: usize, b: M, bl: usize, k: M, kl: usize, w: M, wl: usize,
+    ) -> u32;
     fn mindavehu_read_many(
         s: M, sl: usize, asked: *const u32, count: usize, d: M, dl: usize, f: M, fl: usize, a: M, al: usize, b: M, bl: usize, k: M, kl: usize, w: M, wl: usize,
     ) -> u32;
-    fn mindavehu_write_through(s: M, sl: usize, address: u32, d: M, dl: usize, f: M, fl: usize, a: M, al: usize, b: M, bl: usize, k: P, kl: usize, w: M, wl: usize) -> u32;
-    fn mindavehu_write_back(s: M, sl: usize, address: u32, d: M, dl: usize, f: M, fl: usize, a: M, al: usize, b: M, bl: usize, k: P, kl: usize, w: M, wl: usize) -> u32;
-    fn mindavehu_write_invalidate(s: M, sl: usize, address: u32, d: M, dl: usize, f: P, fl: usize, a: M, al: usize, b: M, bl: usize, k: P, kl: usize, w: M, wl: usize) -> u32;
+    fn mindavehu_write_through(
+        s: M, sl: usize, address: u32, d: M, dl: usize, f: M, fl: usize, a: M, al: usize, b: M, bl: usize, k: P, kl: usize, w: M, wl: usize,
+    ) -> u32;
+    fn mindavehu_write_back(
+        s: M, sl: usize, address: u32, d: M, dl: usize, f: M, fl: usize, a: M, al: usize, b: M, bl: usize, k: P, kl: usize, w: M, wl: usize,
+    ) -> u32;
+    fn mindavehu_write_invalidate(
+        s: M, sl: usize, address: u32, d: M, dl: usize, f: P, fl: usize, a: M, al: usize, b: M, bl: usize, k: P, kl: usize, w: M, wl: usize,
+    ) -> u32;
     fn mindavehu_flush(s: M, sl: usize, d: M, dl: usize, f: P, fl: usize, a: M, al: usize, b: P, bl: usize, w: M, wl: usize) -> u32;
     fn mindavehu_flush_some(s: M, sl: usize, most: usize, d: M, dl: usize, f: P, fl: usize, a: M, al: usize, b: P, bl: usize, w: M, wl: usize) -> u32;
     fn mindavehu_look(s: P, sl: usize, address: u32, d: P, dl: usize, f: P, fl: usize, a: P, al: usize, b: P, bl: usize, w: M, wl: usize) -> u32;
 }
 
-/// The buffers of a box in their order: state, disk, flash, address table, block table, lent block, answer.
-type Buffers<'a> = [&'a mut [u8]; 7];
+/// The buffers of a call in their order: state, disk, flash, address table, block table, lent block, answer and, where a box has all of its own, the label
+/// that is lent to an opening.
+type Buffers<'a, const COUNT: usize> = [&'a mut [u8]; COUNT];
 
-fn buffers(lent: &mut Lent) -> Buffers<'_> {
-    let Lent { state, disk, flash, addresses, blocks, block, answer } = lent;
-    [state, disk, flash, addresses, blocks, block, answer]
+fn buffers(lent: &mut Lent) -> Buffers<'_, 8> {
+    let Lent { state, disk, flash, addresses, blocks, block, answer, label } = lent;
+    [state, disk, flash, addresses, blocks, block, answer, label]
 }
 
-fn on_slices(call: Call, address: u32, [state, disk, flash, addresses, blocks, block, answer]: Buffers) -> u32 {
-    let (s, d, f, a, b, k, w) = (state.as_mut_ptr(), disk.as_mut_ptr(), flash.as_mut_ptr(), addresses.as_mut_ptr(), blocks.as_mut_ptr(), block.as_mut_ptr(), answer.as_mut_ptr());
-    let (sl, dl, fl, al, bl, kl, wl) = (state.len(), disk.len(), flash.len(), addresses.len(), blocks.len(), block.len(), answer.len());
+fn on_slices(call: Call, address: u32, mut buffers: Buffers<8>) -> u32 {
+    let [s, d, f, a, b, k, w, l] = buffers.each_mut().map(|bytes| bytes.as_mut_ptr());
+    let [sl, dl, fl, al, bl, kl, wl, ll] = buffers.map(|bytes| bytes.len());
     // SAFETY: each pointer comes with the length of its own slice.
     unsafe {
         match call {
-            Call::Open => mindavehu_open(s, sl, d, dl, f, fl, a, al, b, bl),
+            Call::Open => mindavehu_open(s, sl, l, ll, d, dl, f, fl, a, al, b, bl),
             Call::Read => mindavehu_read(s, sl, address, d, dl, f, fl, a, al, b, bl, k, kl, w, wl),
             Call::Through => mindavehu_write_through(s, sl, address, d, dl, f, fl, a, al, b, bl, k, kl, w, wl),
             Call::Back => mindavehu_write_back(s, sl, address, d, dl, f, fl, a, al, b, bl, k, kl, w, wl),
@@ -45,7 +54,7 @@ fn on_slices(call: Call, address: u32, [state, disk, flash, addresses, blocks, b
 }
 
 /// With the folder's buffer and answer in the places of the lent block and the answer.
-fn many_on_slices(asked: &[u32], mut buffers: Buffers) -> u32 {
+fn many_on_slices(asked: &[u32], mut buffers: Buffers<7>) -> u32 {
     let [s, d, f, a, b, k, w] = buffers.each_mut().map(|bytes| bytes.as_mut_ptr());
     let [sl, dl, fl, al, bl, kl, wl] = buffers.map(|bytes| bytes.len());
     // SAFETY: each pointer comes with the length of its own slice.
@@ -57,7 +66,7 @@ pub fn call(call: Call, address: u32, lent: &mut Lent) -> u32 {
     on_slices(call, address, buffers(lent))
 }
 
-/// One call for a folder. The box's own block and answer are not lent to it.
+/// One call for a folder. The box's own block and answer, and the label of an opening, are not lent to it.
 pub fn call_many(lent: &mut Lent, folder: &mut Folder) -> u32 {
     let Lent { state, disk, flash, addresses, blocks, .. } = lent;
     many_on_slices(&folder.asked, [state, disk, flash, addresses, blocks, &mut folder.buffer, &mut folder.answer])
@@ -72,7 +81,7 @@ struct Lifted {
 }
 
 impl Lifted {
-    fn new(buffers: &Buffers, shift: usize) -> Lifted {
+    fn new<const COUNT: usize>(buffers: &Buffers<COUNT>, shift: usize) -> Lifted {
         let mut lifted = Lifted { wide: Vec::new(), inside: Vec::new() };
         for (k, bytes) in buffers.iter().enumerate() {
             let start = GUARD + (shift + 3 * k) % GUARD;
@@ -84,13 +93,13 @@ impl Lifted {
         lifted
     }
 
-    fn slices(&mut self) -> Buffers<'_> {
+    fn slices<const COUNT: usize>(&mut self) -> Buffers<'_, COUNT> {
         let mut slices = self.wide.iter_mut().zip(&self.inside).map(|(wide, inside)| &mut wide[inside.clone()]);
         std::array::from_fn(|_| slices.next().unwrap())
     }
 
     /// Copies the bytes back, and looks at those around them.
-    fn put_back(self, buffers: Buffers, name: &str) {
+    fn put_back<const COUNT: usize>(self, buffers: Buffers<COUNT>, name: &str) {
         for (k, bytes) in buffers.into_iter().enumerate() {
             let (wide, inside) = (&self.wide[k], self.inside[k].clone());
             let outside = wide[..inside.start].iter().chain(&wide[inside.end..]);
@@ -111,7 +120,7 @@ pub fn call_guarded(call: Call, address: u32, lent: &mut Lent, shift: usize) -> 
 /// The same as `call_many` with every buffer lifted. The addresses stay at a multiple of four bytes, between others that the box has not.
 pub fn call_many_guarded(lent: &mut Lent, folder: &mut Folder, shift: usize) -> u32 {
     let Lent { state, disk, flash, addresses, blocks, .. } = lent;
-    let own: Buffers = [state, disk, flash, addresses, blocks, &mut folder.buffer, &mut folder.answer];
+    let own: Buffers<7> = [state, disk, flash, addresses, blocks, &mut folder.buffer, &mut folder.answer];
     let mut lifted = Lifted::new(&own, shift);
     let start = 1 + shift % 4;
     let wide = [&vec![u32::MAX; start][..], &folder.asked, &[u32::MAX; 4]].concat();

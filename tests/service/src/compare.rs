@@ -1,6 +1,6 @@
 //! One call on the service and on the model, with every byte compared.
 use crate::calls::{call_guarded, call_many_guarded};
-use model::{carry_out, carry_out_many, Call, Folder, Lent, Numbers, STATE};
+use model::{carry_out, carry_out_many, Call, Folder, Lent, Numbers, STATE, ZEROS};
 
 /// Carries a call out on the service and on the model's copy of the box. Gives the number on which both agree.
 pub fn compare(call: Call, address: u32, lent: &mut Lent, shift: usize, context: &dyn Fn() -> String) -> u32 {
@@ -13,10 +13,10 @@ pub fn compare(call: Call, address: u32, lent: &mut Lent, shift: usize, context:
         panic!("after {call:?} {address} with number {number}: {place}, {}", context());
     }
     if number != 0 {
-        // Said again without the model: a refused call keeps every byte, a refused opening sets n to 0.
+        // Said again without the model: a refused call keeps every byte, a refused opening sets n and the label to zeros.
         let mut kept = before;
         if call == Call::Open && kept.state.len() == STATE {
-            kept.state = Numbers { n: 0, ..kept.numbers() }.to_bytes();
+            kept.state = Numbers { n: 0, label: ZEROS, ..kept.numbers() }.to_bytes();
         }
         if let Some(place) = lent.difference(&kept) {
             panic!("refused {call:?} {address} with number {number}: {place}, {}", context());

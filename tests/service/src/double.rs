@@ -5,12 +5,21 @@ type P = *const u8;
 type M = *mut u8;
 
 #[no_mangle]
-unsafe extern "C" fn mindavehu_open(s: M, sl: usize, d: P, dl: usize, f: P, fl: usize, a: M, al: usize, b: M, bl: usize) -> u32 {
-    engines::maps::open(from_raw_parts_mut(s, sl), from_raw_parts(d, dl), from_raw_parts(f, fl), from_raw_parts_mut(a, al), from_raw_parts_mut(b, bl))
+unsafe extern "C" fn mindavehu_open(s: M, sl: usize, l: P, ll: usize, d: P, dl: usize, f: P, fl: usize, a: M, al: usize, b: M, bl: usize) -> u32 {
+    engines::maps::open(
+        from_raw_parts_mut(s, sl),
+        from_raw_parts(l, ll),
+        from_raw_parts(d, dl),
+        from_raw_parts(f, fl),
+        from_raw_parts_mut(a, al),
+        from_raw_parts_mut(b, bl),
+    )
 }
 
 #[no_mangle]
-unsafe extern "C" fn mindavehu_read(s: M, sl: usize, address: u32, d: M, dl: usize, f: M, fl: usize, a: M, al: usize, b: M, bl: usize, k: M, kl: usize, w: M, wl: usize) -> u32 {
+unsafe extern "C" fn mindavehu_read(
+    s: M, sl: usize, address: u32, d: M, dl: usize, f: M, fl: usize, a: M, al: usize, b: M, bl: usize, k: M, kl: usize, w: M, wl: usize,
+) -> u32 {
     engines::maps::read(
         from_raw_parts_mut(s, sl),
         address,
@@ -42,7 +51,9 @@ unsafe extern "C" fn mindavehu_read_many(
 macro_rules! writes {
     ($($name:ident $function:ident $flash:ident $slice:ident;)*) => { $(
         #[no_mangle]
-        unsafe extern "C" fn $name(s: M, sl: usize, address: u32, d: M, dl: usize, f: $flash, fl: usize, a: M, al: usize, b: M, bl: usize, k: P, kl: usize, w: M, wl: usize) -> u32 {
+        unsafe extern "C" fn $name(
+            s: M, sl: usize, address: u32, d: M, dl: usize, f: $flash, fl: usize, a: M, al: usize, b: M, bl: usize, k: P, kl: usize, w: M, wl: usize,
+        ) -> u32 {
             engines::maps::$function(
                 from_raw_parts_mut(s, sl),
                 address,
@@ -65,7 +76,14 @@ writes! {
 
 #[no_mangle]
 unsafe extern "C" fn mindavehu_flush(s: M, sl: usize, d: M, dl: usize, f: P, fl: usize, a: M, al: usize, b: P, bl: usize, w: M, wl: usize) -> u32 {
-    engines::maps::flush(from_raw_parts_mut(s, sl), from_raw_parts_mut(d, dl), from_raw_parts(f, fl), from_raw_parts_mut(a, al), from_raw_parts(b, bl), from_raw_parts_mut(w, wl))
+    engines::maps::flush(
+        from_raw_parts_mut(s, sl),
+        from_raw_parts_mut(d, dl),
+        from_raw_parts(f, fl),
+        from_raw_parts_mut(a, al),
+        from_raw_parts(b, bl),
+        from_raw_parts_mut(w, wl),
+    )
 }
 
 #[no_mangle]
@@ -97,5 +115,13 @@ unsafe extern "C" fn mindavehu_flush_some(
 
 #[no_mangle]
 unsafe extern "C" fn mindavehu_look(s: P, sl: usize, address: u32, d: P, dl: usize, f: P, fl: usize, a: P, al: usize, b: P, bl: usize, w: M, wl: usize) -> u32 {
-    engines::maps::look(from_raw_parts(s, sl), address, from_raw_parts(d, dl), from_raw_parts(f, fl), from_raw_parts(a, al), from_raw_parts(b, bl), from_raw_parts_mut(w, wl))
+    engines::maps::look(
+        from_raw_parts(s, sl),
+        address,
+        from_raw_parts(d, dl),
+        from_raw_parts(f, fl),
+        from_raw_parts(a, al),
+        from_raw_parts(b, bl),
+        from_raw_parts_mut(w, wl),
+    )
 }

@@ -1,6 +1,6 @@
 //! Boxes that must be refused: the number is right and every byte is kept.
 use common::Random;
-use model::{Call, CALLS};
+use model::{Call, CALLS, LABEL, STATE};
 use service::boxes::{damage, fill, noise, number_of, pick, sound, Damage, Shape, DAMAGES};
 use service::compare::compare;
 use service::progress::{count, seed, Progress};
@@ -106,10 +106,10 @@ fn in_large_tables() {
     show("each damage in large tables", boxes, &numbers, seed, &progress);
 }
 
-/// One to three bytes of a sound box changed anywhere in the state or the tables. Some boxes are sound still.
+/// One to three bytes of a sound box changed anywhere in the state, the label among it, or the tables. Some boxes are sound still.
 #[test]
 fn changed_bytes() {
-    let (seed, total) = (seed(204), count(70_000));
+    let (seed, total) = (seed(204), count(84_000));
     let mut random = Random(seed);
     let mut numbers = [0; 10];
     let mut progress = Progress::new("changed bytes", total);
@@ -117,10 +117,11 @@ fn changed_bytes() {
         let shape = small(&mut random);
         let mut lent = sound(&mut random, shape);
         for _ in 0..1 + random.below(3) {
-            let buffer = match random.below(5) {
-                0 => &mut lent.state,
-                1 | 2 => &mut lent.addresses,
-                _ => &mut lent.blocks,
+            let buffer = match random.below(6) {
+                0 => &mut lent.state[..STATE - LABEL],
+                1 => &mut lent.state[STATE - LABEL..],
+                2 | 3 => &mut lent.addresses[..],
+                _ => &mut lent.blocks[..],
             };
             let place = random.below(buffer.len());
             match random.below(3) {
@@ -155,7 +156,7 @@ fn any_bytes() {
     show("any numbers and bytes", total, &numbers, seed, &progress);
 }
 
-/// A state that has not 72 bytes or an answer that has not 24 gives 2, whatever else is wrong, and nothing is changed.
+/// A state that has not 136 bytes or an answer that has not 24 gives 2, whatever else is wrong, and nothing is changed.
 #[test]
 fn other_lengths_of_state_and_answer() {
     let (seed, turns) = (seed(206), count(2_000));
@@ -166,10 +167,10 @@ fn other_lengths_of_state_and_answer() {
         let (mut lent, address) = damaged(&mut random, &damages, small);
         let state = random.below(2) == 0;
         if state {
-            let length = pick(&mut random, &[0, 1, 8, 40, 64, 71, 73, 80, 144]);
+            let length = pick(&mut random, &[0, 1, 8, 40, 64, 71, 72, 72, 73, 128, 135, 137, 144, 200, 272]);
             lent.state.resize(length, 0);
         } else {
-            let length = pick(&mut random, &[0, 1, 8, 16, 23, 25, 32, 72]);
+            let length = pick(&mut random, &[0, 1, 8, 16, 23, 25, 32, 72, 136]);
             lent.answer.resize(length, 0);
             fill(&mut random, &mut lent.answer);
         }

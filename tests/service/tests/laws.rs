@@ -2,23 +2,29 @@
 //! The model of the cache takes no part.
 use common::Random;
 use model::machines::{PlainDisk, PrintedDlru};
-use model::{fingerprint, read_tables, Answer, Call, Fingerprint, Folder, Lent, ManyAnswer, CACHE, CALLS, DONE, HIT};
-use service::boxes::{bytes, folder, folder_count, most, pick, unopened, Contents, Shape};
+use model::{fingerprint, read_tables, Answer, Call, Fingerprint, Folder, Label, Lent, ManyAnswer, CACHE, CALLS, DONE, HIT};
+use service::boxes::{bytes, folder, folder_count, most, office, pick, unopened, Contents, Shape};
 use service::calls::{call, call_many};
 use service::progress::{count, seed, Progress};
 use std::collections::{HashMap, HashSet};
 
-/// Fingerprints of blocks that come again and again.
-#[derive(Default)]
-struct Fingerprints(HashMap<Vec<u8>, Fingerprint>);
+/// Fingerprints under an office's label, of blocks that come again and again.
+struct Fingerprints {
+    label: Label,
+    known: HashMap<Vec<u8>, Fingerprint>,
+}
 
 impl Fingerprints {
+    fn new(label: Label) -> Fingerprints {
+        Fingerprints { label, known: HashMap::new() }
+    }
+
     fn of(&mut self, block: &[u8]) -> Fingerprint {
-        if let Some(g) = self.0.get(block) {
+        if let Some(g) = self.known.get(block) {
             return *g;
         }
-        let g = fingerprint(block);
-        self.0.insert(block.to_vec(), g);
+        let g = fingerprint(&self.label, block);
+        self.known.insert(block.to_vec(), g);
         g
     }
 }
@@ -28,8 +34,8 @@ fn dirty(lent: &Lent) -> Vec<u32> {
     read_tables(lent).0[..lent.numbers().n as usize].iter().filter(|row| row.dirty == 1).map(|row| row.address).collect()
 }
 
-/// The laws of a state: fingerprints on both sides are those of the blocks, the two kinds of orphan never occur together, and the disk is the
-/// plain disk where no row is dirty.
+/// The laws of a state: fingerprints on both sides are those of the blocks under the label of the opening, the two kinds of orphan never occur together, and
+/// the disk is the plain disk where no row is dirty.
 fn state_laws(lent: &Lent, plain: &PlainDisk, known: &mut Fingerprints, context: &str) {
     let (rows, blocks) = read_tables(lent);
     let (n, b) = (lent.numbers().n as usize, lent.numbers().b as usize);
@@ -125,7 +131,7 @@ fn beside_plain_disk(random: &mut Random, shape: Shape, length: usize, seed: u64
     let contents = Contents::new(random, b, pool);
     let mut lent = unopened(random, shape, &contents);
     let mut plain = PlainDisk::new(&lent.disk, b);
-    let mut known = Fingerprints::default();
+    let mut known = Fingerprints::new(office(&lent));
     assert_eq!(call(Call::Open, 0, &mut lent), 0);
     state_laws(&lent, &plain, &mut known, &format!("{shape:?} fresh, seed {seed}"));
     for turn in 0..length {
@@ -256,7 +262,7 @@ fn beside_printed(random: &mut Random, shape: Shape, length: usize, seed: u64) -
     let pool = 1 + random.below(3 * d + 2);
     let contents = Contents::new(random, b, pool);
     let mut lent = unopened(random, shape, &contents);
-    let mut printed = PrintedDlru::new(&lent.disk, b, m, d);
+    let mut printed = PrintedDlru::new(&office(&lent), &lent.disk, b, m, d);
     let mut hits = 0;
     assert_eq!(call(Call::Open, 0, &mut lent), 0);
     for turn in 0..length {
@@ -321,5 +327,6 @@ fn printed_dlru() {
         calls += 4_000;
         lists += 1;
     }
-    println!("{calls} calls in {lists} lists of reads, {hits} hits: held addresses, cached fingerprints and hits are the printed D-LRU's after each read (seed {seed}, {:.1} s)", progress.seconds());
+    println!("{calls} calls in {lists} lists of reads, {hits} hits (seed {seed}, {:.1} s)", progress.seconds());
+    println!("  held addresses, cached fingerprints and hits are the printed D-LRU's after each read");
 }

@@ -1,7 +1,7 @@
 //! Random lists of calls from fresh boxes: after each call every number and every byte is the model's.
 use common::Random;
-use model::{Answer, Cache, Call, Lent, ManyAnswer, BLOCK_SIZES, CALLS, MANY_ANSWER};
-use service::boxes::{bytes, folder, folder_count, most, pick, unopened, Contents, Shape};
+use model::{Answer, Cache, Call, Lent, ManyAnswer, BLOCK_SIZES, CALLS, LABEL, MANY_ANSWER};
+use service::boxes::{any_label, bytes, folder, folder_count, most, office, pick, unopened, Contents, Shape};
 use service::calls::{call, call_many};
 use service::progress::{count, seed, Progress};
 
@@ -40,8 +40,12 @@ impl Met {
             progress.seconds()
         );
         println!(
-            "  {hit} hits, {miss} misses, {same} same, {new} new, {cache} looks in flash, {disk} on disk, {done} flushes, {} refused with 2, {} with 3; {} flash writes, {} primary writes, {} of them by reads and writes back",
-            self.refused[2], self.refused[3], self.flash_writes, self.primary_writes, self.written_back
+            "  {hit} hits, {miss} misses, {same} same, {new} new, {cache} looks in flash, {disk} on disk, {done} flushes, {} refused with 2, {} with 3",
+            self.refused[2], self.refused[3]
+        );
+        println!(
+            "  {} flash writes, {} primary writes, {} of them by reads and writes back",
+            self.flash_writes, self.primary_writes, self.written_back
         );
         println!("  {} flushes in parts left a row dirty", self.left_dirty);
         let Folders { calls, reads, hits, fetches } = self.folders;
@@ -130,6 +134,18 @@ fn wrong_length(random: &mut Random, kind: Call, address: u32, lent: &mut Lent) 
     buffer(lent, which).push(last);
 }
 
+/// Opens a box with a label of a wrong length: refused with 2, n and the state's label are zeros then, and nothing else is another.
+fn wrong_label(random: &mut Random, lent: &mut Lent) {
+    let label = lent.label.clone();
+    lent.label.resize(pick(random, &[0, 1, 32, 63, 65, 72, 128, 136]), 0);
+    let mut expected = lent.clone();
+    expected.state[32..40].fill(0);
+    expected.state[72..].fill(0);
+    assert_eq!(call(Call::Open, 0, lent), 2);
+    assert_eq!(lent.difference(&expected), None);
+    lent.label = label;
+}
+
 /// A list of calls from a fresh box.
 fn list(random: &mut Random, shape: Shape, length: usize, met: &mut Met) {
     let Shape { b, p, m, d } = shape;
@@ -142,7 +158,11 @@ fn list(random: &mut Random, shape: Shape, length: usize, met: &mut Met) {
     };
     let contents = Contents::new(random, b, pool);
     let mut lent = unopened(random, shape, &contents);
-    let mut cache = Cache::fresh(b, p, m, d, lent.disk.clone(), lent.flash.clone());
+    if random.below(4) == 0 {
+        wrong_label(random, &mut lent);
+        met.refused[2] += 1;
+    }
+    let mut cache = Cache::fresh(b, p, m, d, office(&lent), lent.disk.clone(), lent.flash.clone());
     let (block, answer) = (lent.block.clone(), lent.answer.clone());
     assert_eq!(call(Call::Open, 0, &mut lent), 0, "opening {shape:?}");
     assert_eq!(cache.difference(&lent), None, "opening {shape:?}");
@@ -251,35 +271,39 @@ fn large_tables() {
     met.show("large tables", seed, &progress);
 }
 
-/// The largest disk in blocks, and the largest box of all.
+/// The largest disk in blocks, by a list long enough that dirty rows have to go, and the largest box of all.
 #[test]
 fn largest_boxes() {
     let seed = seed(104);
     let mut random = Random(seed);
     let mut met = Met::default();
     let progress = Progress::new("largest boxes", 0);
-    list(&mut random, Shape { b: 64, p: 65_536, m: 1_024, d: 256 }, 2_000, &mut met);
+    list(&mut random, Shape { b: 64, p: 65_536, m: 1_024, d: 256 }, 4_000, &mut met);
 
     let (b, p, m, d) = (4_096, 65_536, 1_024, 256);
     let shape = Shape { b, p, m, d };
     let mut lent = Lent {
-        state: shape.numbers().to_bytes(),
+        state: shape.numbers(any_label(&mut random)).to_bytes(),
         disk: vec![0; p * b],
         flash: vec![0; d * b],
         addresses: vec![0; m * 40],
         blocks: vec![0; d * 40],
         block: vec![0; b],
         answer: vec![0; 24],
+        label: bytes(&mut random, LABEL),
     };
-    let mut cache = Cache::fresh(b, p, m, d, vec![0; p * b], vec![0; d * b]);
+    let mut cache = Cache::fresh(b, p, m, d, office(&lent), vec![0; p * b], vec![0; d * b]);
     assert_eq!(call(Call::Open, 0, &mut lent), 0);
-    for (turn, kind) in [1, 2, 6, 3, 7, 6, 3, 1, 5, 4, 6, 1].map(|k| CALLS[k]).into_iter().enumerate() {
-        let mut block = vec![turn as u8 + 1; b];
+    // Each kind of write has a content of its own, so that the second write back saves an unchanged page.
+    for k in [1, 2, 6, 3, 7, 6, 3, 1, 5, 4, 6, 1] {
+        let (kind, mut block) = (CALLS[k], vec![k as u8; b]);
         lent.block.clone_from(&block);
         assert_eq!(call(kind, 65_535, &mut lent), 0);
-        assert_eq!(Answer::from_bytes(&lent.answer), cache.call(kind, 65_535, &mut block).unwrap(), "{kind:?}");
+        let expected = cache.call(kind, 65_535, &mut block).unwrap();
+        assert_eq!(Answer::from_bytes(&lent.answer), expected, "{kind:?}");
         assert!(lent.block == block, "{kind:?}");
         assert_eq!(cache.difference(&lent), None, "{kind:?}");
+        met.words[expected.word as usize] += 1;
         met.calls += 1;
     }
     let mut many = model::Folder { asked: (0..64).map(|k| 65_535 - k * k).collect(), buffer: bytes(&mut random, 64 * b), answer: vec![0; MANY_ANSWER] };

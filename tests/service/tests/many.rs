@@ -1,19 +1,20 @@
 //! One call for a folder: worked cases, boxes that no list of calls need reach, refusals, and counters that pass their largest between two reads. After each
 //! call every number and every byte is the model's. Folders in lists from fresh boxes are in `lists` and `laws`.
 use common::Random;
-use model::{carry_out, fingerprint, read_tables, refusal_many, AddressRow, BlockRow, Call, Folder, Lent, ManyAnswer, Numbers};
-use model::{BLOCK_SIZES, MANY_CHECKS, MOST_COUNTED, ROW};
+use model::{carry_out, fingerprint, read_tables, refusal_many, AddressRow, BlockRow, Call, Folder, Label, Lent, ManyAnswer, Numbers};
+use model::{BLOCK_SIZES, LABEL, MANY_CHECKS, MOST_COUNTED, ROW, STATE};
 use service::boxes::{bytes, damage, few_addresses, fill, folder, folder_count, noise, pick, sound, sound_at, Damage, Shape, DAMAGES};
 use service::calls::{call, call_many};
 use service::compare::compare_many;
 use service::progress::{count, seed, Progress};
 
 const B: usize = 64;
+const OFFICE: Label = [0x4F; LABEL];
 
 /// A box of held rows (address, content, dirty) and used block rows (content by the fingerprint, content of the slot), in the order of the rows; disk block k
 /// has the byte k.
 fn made(p: usize, m: usize, d: usize, held: &[(u32, u8, u8)], used: &[(u8, u8)]) -> Lent {
-    let print = |content: u8| fingerprint(&[content; B]);
+    let print = |content: u8| fingerprint(&OFFICE, &[content; B]);
     let row = |(address, content, dirty): &(u32, u8, u8)| AddressRow { address: *address, fingerprint: print(*content), dirty: *dirty, padding: [0; 3] };
     let mut addresses: Vec<u8> = held.iter().flat_map(|one| row(one).to_bytes()).collect();
     addresses.resize(m * ROW, 0);
@@ -22,13 +23,14 @@ fn made(p: usize, m: usize, d: usize, held: &[(u32, u8, u8)], used: &[(u8, u8)])
     let mut flash: Vec<u8> = used.iter().flat_map(|(_, stored)| [*stored; B]).collect();
     flash.resize(d * B, 0xAA);
     Lent {
-        state: Numbers { b: B as u64, p: p as u64, m: m as u64, d: d as u64, n: held.len() as u64, counters: [0; 4] }.to_bytes(),
+        state: Numbers { b: B as u64, p: p as u64, m: m as u64, d: d as u64, n: held.len() as u64, counters: [0; 4], label: OFFICE }.to_bytes(),
         disk: (0..p).flat_map(|k| [k as u8; B]).collect(),
         flash,
         addresses,
         blocks: free.chain(others).flat_map(|row| row.to_bytes()).collect(),
         block: vec![],
         answer: vec![],
+        label: vec![],
     }
 }
 
@@ -53,7 +55,7 @@ fn worked() {
     // A slot that has another block than its row says: the first read hits and gives 9, and the repeat misses and takes that, not the disk's 3.
     let mut lent = made(8, 2, 1, &[(3, 8, 0)], &[(8, 9)]);
     assert_eq!(opened(&mut lent, &[3, 5, 3]), (ManyAnswer { hits: 1, flash: 2, primary: 0, fetches: 1 }, vec![9, 5, 9]));
-    assert_eq!((&lent.flash[..], &lent.blocks[..32]), (&[9; B][..], &fingerprint(&[9; B])[..]));
+    assert_eq!((&lent.flash[..], &lent.blocks[..32]), (&[9; B][..], &fingerprint(&OFFICE, &[9; B])[..]));
     // The first read fetches 3, the second hits where the slot has 9, the third misses and takes the first one's block.
     let mut lent = made(8, 2, 1, &[], &[(3, 9)]);
     assert_eq!(opened(&mut lent, &[3, 3, 5, 3]), (ManyAnswer { hits: 1, flash: 2, primary: 0, fetches: 2 }, vec![3, 9, 5, 3]));
@@ -97,7 +99,7 @@ fn after_single_reads(before: &Lent, asked: &[u32], b: usize) -> (Lent, Vec<u8>)
     let mut single = before.clone();
     let mut blocks = Vec::new();
     for a in asked {
-        single.state[40..].fill(0);
+        single.state[40..72].fill(0);
         (single.block, single.answer) = (vec![0; b], vec![0; 24]);
         assert_eq!(carry_out(Call::Read, *a, &mut single), 0);
         blocks.extend_from_slice(&single.block);
@@ -154,7 +156,7 @@ fn sound_boxes() {
         let place = random.below(32);
         let mut lent = if random.below(4) == 0 { sound_at(&mut random, shape, Some(place)) } else { sound(&mut random, shape) };
         if random.below(4) > 0 {
-            lent.state[40..].fill(0);
+            lent.state[40..72].fill(0);
         }
         // A disk of other blocks than those in flash, and no row that would bring its block there.
         if random.below(2) == 0 {
@@ -197,9 +199,9 @@ enum Wrong {
     Address,
 }
 
-/// All of them with their numbers. The lent block and the one address of the other calls are not there.
+/// All of them with their numbers. The lent block and the one address of the other calls, and the label of an opening, are not there.
 fn wrongs() -> Vec<(Wrong, u32)> {
-    let of_the_box = DAMAGES.iter().filter(|(kind, _)| *kind != Damage::BlockLength && *kind != Damage::Address);
+    let of_the_box = DAMAGES.iter().filter(|(kind, _)| ![Damage::BlockLength, Damage::LabelLength, Damage::Address].contains(kind));
     let own = [(Wrong::Buffer, 2), (Wrong::Empty, 10), (Wrong::TooMany, 10), (Wrong::Address, 3)];
     of_the_box.map(|(kind, number)| (Wrong::Box(*kind), *number)).chain(own).collect()
 }
@@ -298,7 +300,7 @@ fn refusals() {
     show_numbers("each wrong thing, every two and more", &numbers, seed, &progress);
 }
 
-/// A state that has not 72 bytes or an answer that has not 32 gives 2, whatever else is wrong.
+/// A state that has not 136 bytes or an answer that has not 32 gives 2, whatever else is wrong.
 #[test]
 fn other_lengths_of_state_and_answer() {
     let (seed, turns) = (seed(504), count(3_000));
@@ -308,10 +310,10 @@ fn other_lengths_of_state_and_answer() {
         let some: Vec<Wrong> = (0..random.below(3)).map(|_| pick(&mut random, &all)).collect();
         let (mut lent, mut many) = wrong(&mut random, &some);
         if random.below(2) == 0 {
-            let length = pick(&mut random, &[0, 1, 8, 40, 64, 71, 73, 80, 144]);
+            let length = pick(&mut random, &[0, 1, 8, 40, 64, 71, 72, 72, 73, 128, 135, 137, 144, 200, 272]);
             lent.state.resize(length, 0);
         } else {
-            let length = pick(&mut random, &[0, 1, 8, 24, 24, 31, 33, 40, 72]);
+            let length = pick(&mut random, &[0, 1, 8, 24, 24, 31, 33, 40, 72, 136]);
             many.answer = bytes(&mut random, length);
         }
         assert_eq!(compare_many(&mut lent, &mut many, random.below(32), &|| format!("{some:?}, seed {seed}")), 2, "{some:?}, seed {seed}");
@@ -319,10 +321,10 @@ fn other_lengths_of_state_and_answer() {
     println!("states and answers of other lengths: {turns} folders give 2 (seed {seed})");
 }
 
-/// One to three bytes of a sound box changed anywhere in the state or the tables; and any numbers and bytes.
+/// One to three bytes of a sound box changed anywhere in the state, the label among it, or the tables; and any numbers and bytes.
 #[test]
 fn changed_and_any_bytes() {
-    let (seed, total) = (seed(505), count(30_000));
+    let (seed, total) = (seed(505), count(35_000));
     let mut random = Random(seed);
     let mut numbers = [0; 11];
     let mut progress = Progress::new("folders on changed bytes", total);
@@ -339,10 +341,11 @@ fn changed_and_any_bytes() {
             (lent, some, shape.b)
         };
         for _ in 0..if turn % 3 == 0 { 0 } else { 1 + random.below(3) } {
-            let buffer = match random.below(5) {
-                0 => &mut lent.state,
-                1 | 2 => &mut lent.addresses,
-                _ => &mut lent.blocks,
+            let buffer = match random.below(6) {
+                0 => &mut lent.state[..STATE - LABEL],
+                1 => &mut lent.state[STATE - LABEL..],
+                2 | 3 => &mut lent.addresses[..],
+                _ => &mut lent.blocks[..],
             };
             let place = random.below(buffer.len());
             buffer[place] = pick(&mut random, &[buffer[place] ^ 1, buffer[place] ^ 128, 0, 1, 2, 255]);

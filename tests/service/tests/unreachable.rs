@@ -30,7 +30,8 @@ impl Had {
         self.slots_out_of_order += free.windows(2).any(|pair| pair[0] > pair[1]) as usize;
         self.zero_fingerprint += cached.contains(&[0; 32]) as usize;
         let first = blocks.iter().find(|row| row.used == 1);
-        self.other_content += first.is_some_and(|row| fingerprint(&lent.flash[row.slot as usize * b..(row.slot as usize + 1) * b]) != row.fingerprint) as usize;
+        let stored = |slot: usize| fingerprint(&lent.numbers().label, &lent.flash[slot * b..(slot + 1) * b]);
+        self.other_content += first.is_some_and(|row| stored(row.slot as usize) != row.fingerprint) as usize;
     }
 }
 
@@ -67,7 +68,7 @@ fn calls_from(random: &mut Random, shape: Shape, lent: &mut Lent, length: usize,
         // 9 comes once a counter has passed its largest; the box is used on with other counters.
         assert!(number == 0 || number == 9);
         if number == 9 {
-            lent.state[40..].fill(0);
+            lent.state[40..72].fill(0);
         }
     }
     length
@@ -90,7 +91,8 @@ fn small_boxes() {
     }
     let Had { both_orphans, shared_dirty, slots_out_of_order, zero_fingerprint, other_content } = had;
     println!("{calls} calls on {boxes} sound boxes agree with the model in every byte (seed {seed}, {:.1} s)", progress.seconds());
-    println!("  both kinds of orphan in {both_orphans}, dirty rows sharing a block in {shared_dirty}, free slots out of order in {slots_out_of_order}, a used fingerprint of zeros in {zero_fingerprint}, a slot with another content in {other_content}");
+    println!("  both kinds of orphan in {both_orphans}, dirty rows sharing a block in {shared_dirty}, free slots out of order in {slots_out_of_order}");
+    println!("  a used fingerprint of zeros in {zero_fingerprint}, a slot with another content in {other_content}");
     assert!([both_orphans, shared_dirty, slots_out_of_order, zero_fingerprint, other_content].iter().all(|count| *count > boxes / 50));
 }
 
@@ -133,5 +135,6 @@ fn every_byte_of_a_fingerprint() {
         }
         progress.at(turn);
     }
-    println!("{calls} calls on sound boxes whose fingerprints differ in one byte, for each of the 32, agree with the model in every byte; {refused} such boxes are refused with 8 (seed {seed}, {:.1} s)", progress.seconds());
+    println!("{calls} calls on sound boxes whose fingerprints differ in one byte, for each of the 32, agree with the model in every byte");
+    println!("  {refused} such boxes are refused with 8 (seed {seed}, {:.1} s)", progress.seconds());
 }

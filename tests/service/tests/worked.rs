@@ -1,19 +1,23 @@
 //! The service on the document's replay, worked states and edges, with the numbers that the document prints.
-use model::{fingerprint, read_tables, word, Answer, Call, Lent, Numbers, ROW};
+use model::{fingerprint, read_tables, word, Answer, Call, Label, Lent, Numbers, LABEL, ROW};
 use service::calls::call;
 
 const B: usize = 64;
+/// The label of the boxes here, and the bytes that a state has for a label before it is opened.
+const OFFICE: Label = [0x4F; LABEL];
+const BEFORE: Label = [0xB7; LABEL];
 
 /// An unopened box whose disk block k has the byte k.
 fn unopened(b: usize, p: usize, m: usize, d: usize) -> Lent {
     Lent {
-        state: Numbers { b: b as u64, p: p as u64, m: m as u64, d: d as u64, n: 77, counters: [1, 2, 3, 4] }.to_bytes(),
+        state: Numbers { b: b as u64, p: p as u64, m: m as u64, d: d as u64, n: 77, counters: [1, 2, 3, 4], label: BEFORE }.to_bytes(),
         disk: (0..p).flat_map(|k| vec![k as u8; b]).collect(),
         flash: vec![0xAA; d * b],
         addresses: vec![0xBB; m * ROW],
         blocks: vec![0xCC; d * ROW],
         block: vec![0xDD; b],
         answer: vec![0xEE; 24],
+        label: OFFICE.to_vec(),
     }
 }
 
@@ -49,7 +53,7 @@ fn lines(lent: &mut Lent, texts: &[&str]) -> Vec<String> {
 /// The rows as the document writes them: `address:content`, then the block rows.
 fn is(lent: &Lent, held: &str, cached: &str) {
     let (rows, blocks) = read_tables(lent);
-    let content = |g: [u8; 32]| (0..=255u8).find(|k| fingerprint(&[*k; B]) == g).unwrap();
+    let content = |g: [u8; 32]| (0..=255u8).find(|k| fingerprint(&OFFICE, &[*k; B]) == g).unwrap();
     let shown: Vec<String> = rows[..lent.numbers().n as usize].iter().map(|row| format!("{}:{}", row.address, content(row.fingerprint))).collect();
     assert_eq!(shown.join(" "), held);
     let block = |slot: u32| &lent.flash[slot as usize * B..(slot as usize + 1) * B];
@@ -58,7 +62,7 @@ fn is(lent: &Lent, held: &str, cached: &str) {
         .map(|row| match row.used {
             0 => "-".to_string(),
             _ => {
-                assert_eq!(fingerprint(block(row.slot)), row.fingerprint);
+                assert_eq!(fingerprint(&OFFICE, block(row.slot)), row.fingerprint);
                 content(row.fingerprint).to_string()
             }
         })
@@ -79,7 +83,7 @@ fn the_replay() {
     let mut lent = fresh(8, 3, 2);
     let expected = ["R 1 miss 1 0", "R 2 miss 1 0", "B 3 01 same 0 0", "R 3 hit 0 0", "R 4 miss 1 0", "R 2 miss 1 1", "F done 0 0", "L 3 disk 0 0"];
     assert_eq!(lines(&mut lent, &REPLAY), expected);
-    assert_eq!(lent.numbers(), Numbers { b: 64, p: 8, m: 3, d: 2, n: 3, counters: [5, 1, 4, 1] });
+    assert_eq!(lent.numbers(), Numbers { b: 64, p: 8, m: 3, d: 2, n: 3, counters: [5, 1, 4, 1], label: OFFICE });
     assert_eq!(lent.disk[3 * B..4 * B], [1; B]);
     println!("the document's replay: 8 calls and the counters");
 }
@@ -142,8 +146,10 @@ fn edges() {
         let mut expected = lent.clone();
         assert_eq!(call(Call::Open, 0, &mut lent), number, "B = {b}");
         expected.state[32..40].fill(0);
+        expected.state[72..].fill(0);
         if number == 0 {
-            expected.state[40..].fill(0);
+            expected.state[40..72].fill(0);
+            expected.state[72..].copy_from_slice(&OFFICE);
             expected.addresses.fill(0);
             expected.blocks.fill(0);
             expected.blocks[ROW + 32] = 1;

@@ -210,7 +210,10 @@ fn broken_together() {
         compare_moves(&t, &mut random, &context);
     }
     assert!([0, 6, 7, 8].iter().all(|number| numbers[*number] > 500), "too few of some number: {numbers:?}");
-    println!("{count} tables broken in up to five ways agree: {} pass, {} give 6, {} give 7, {} give 8 (seed {seed})", numbers[0], numbers[6], numbers[7], numbers[8]);
+    println!(
+        "{count} tables broken in up to five ways agree: {} pass, {} give 6, {} give 7, {} give 8 (seed {seed})",
+        numbers[0], numbers[6], numbers[7], numbers[8]
+    );
 }
 
 /// Any bytes and any numbers, also such as no table has.
@@ -223,7 +226,10 @@ fn any_bytes() {
         let t = noise(&mut random);
         numbers[compare_checks(&t, &format!("seed {seed}, turn {turn}, {t:?}")) as usize] += 1;
     }
-    println!("{count} tables of any bytes and sizes agree: {} pass, {} give 6, {} give 7, {} give 8 (seed {seed})", numbers[0], numbers[6], numbers[7], numbers[8]);
+    println!(
+        "{count} tables of any bytes and sizes agree: {} pass, {} give 6, {} give 7, {} give 8 (seed {seed})",
+        numbers[0], numbers[6], numbers[7], numbers[8]
+    );
 }
 
 /// Tables up to the largest, with their edges: n = m, P = 65,536, all fingerprints in one bucket.

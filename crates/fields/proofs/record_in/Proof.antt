@@ -1,4 +1,4 @@
--- Each field is the eight bytes at its place. Assumes nothing.
+-- Each number is the eight bytes at its place, and the label the last 64. Assumes nothing.
 use borrow.Author.Needs.{needs}
 use Rattle.fields.specs.Fields.{get8}
 use Rattle.fields.proofs.record_in.Statement.{statement}
@@ -13,8 +13,10 @@ returns c =
       rows = c .before .before .get83 .ensures i;
       slots = c .before .get84 .ensures i;
       held = c .get85 .ensures i;
+      label = c .before .before .before .before .before .label-in .ensures i;
     }
 
 pub record-in-spec : {M : Type 1} → statement M
 record-in-spec =
-    tie.close (tie.spec (λ c κs. search needs) (λ c κs. search needs) (λ c κs. search needs) (λ c κs. search needs) (λ c κs. search needs) returns)
+    tie.close
+    (tie.spec (λ c κs. search needs) (λ c κs. search needs) (λ c κs. search needs) (λ c κs. search needs) (λ c κs. search needs) (λ c κs. search needs) returns)

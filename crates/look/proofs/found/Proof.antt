@@ -51,7 +51,7 @@ returns c k =
     let x = boxIn (numbersOf (a .b)) (lent (a .b) (a .disk .now) (a .flash .now) (a .addresses .now) (a .blocks .now) k) in
     let r = rep (a .b) (a .disk .now) (a .flash .now) (a .addresses .now) (a .blocks .now) k (Ask.look (a .a .0)) (s .pre k) (bytesA h) (bytesB h) in
     found-flash (a .b) (a .disk .now) (a .flash .now) (a .addresses .now) (a .blocks .now) k (a .a .0) (s .pre k) (bytesA h) (bytesB h) (p .before .row-of .result) (p .place-of-row .result)
-    (p .before .row-of .ensures (a .b .blocks) (a .b .rows) (x .rows) (r .rows-are)) (p .place-of-row .ensures (a .b .blocks) (a .b .rows) (x .rows) (x .free) (x .used) (r .rows-are) (r .blocks-are)) (t .if1 .taken) (c .slot-at .result .0) (c .slot-at .ensures)
+    (p .before .row-of .ensures .1 (a .b .blocks) (a .b .rows) (x .rows) (r .rows-are)) (p .place-of-row .ensures .1 (a .b .blocks) (a .b .rows) (x .rows) (x .free) (x .used) (r .rows-are) (r .blocks-are)) (t .if1 .taken) (c .slot-at .result .0) (c .slot-at .ensures)
 
 returns-2 : tie.Need-returns-2
 returns-2 c k =
@@ -62,7 +62,7 @@ returns-2 c k =
     let x = boxIn (numbersOf (a .b)) (lent (a .b) (a .disk .now) (a .flash .now) (a .addresses .now) (a .blocks .now) k) in
     let r = rep (a .b) (a .disk .now) (a .flash .now) (a .addresses .now) (a .blocks .now) k (Ask.look (a .a .0)) (s .pre k) (bytesA h) (bytesB h) in
     found-disk (a .b) (a .disk .now) (a .flash .now) (a .addresses .now) (a .blocks .now) k (a .a .0) (s .pre k) (bytesA h) (bytesB h) (p .before .row-of .result) (p .place-of-row .result)
-    (p .before .row-of .ensures (a .b .blocks) (a .b .rows) (x .rows) (r .rows-are)) (p .place-of-row .ensures (a .b .blocks) (a .b .rows) (x .rows) (x .free) (x .used) (r .rows-are) (r .blocks-are)) (c .if1 .left)
+    (p .before .row-of .ensures .1 (a .b .blocks) (a .b .rows) (x .rows) (r .rows-are)) (p .place-of-row .ensures .1 (a .b .blocks) (a .b .rows) (x .rows) (x .free) (x .used) (r .rows-are) (r .blocks-are)) (c .if1 .left)
 
 pub found-spec : {M : Type 1} → statement M
 found-spec = tie.close (tie.spec row-of-requires place-of-row-requires slot-at-requires returns returns-2)

@@ -8,10 +8,10 @@ use Rattle.replay_cli.proofs.turn.Tie as tie
 returns : tie.Need-returns
 returns c =
     let r = c .before .before .before .before .before .before .before .before .before .before .before .before .before .before .before .before .before
-    .before .before .before .before .before .before .read-full in (
+    .before .before .before .before .before .before .take in (
       r .ensures .0,
-      c .before .before .before .before .before .before .before .before .before .before .before .before .run .ensures ∙ started (r .last
-          .1 .0) (r .result) _ (r .ensures .0),
+      c .before .before .before .before .before .before .before .before .before .before .before .before .run .ensures ∙ started (r .last .0)
+          (r .result) _ (r .ensures .0),
     )
 
 pub turn-spec : {M : Type 1} → statement M

@@ -2,7 +2,7 @@
 use mathlib.Core.Path.{ap, _∙_}
 use mathlib.Core.List.{_++_}
 use borrow.Author.Needs.{needs}
-use Rattle.session.specs.Memory.{Memory, After, memory, ended}
+use Rattle.session.specs.Memory.{Memory, FedMemory, memory, ended}
 use Rattle.replay.specs.Pieces.{textOf}
 use Rattle.replay_cli.specs.Chunks.{first}
 use Rattle.replay_cli.specs.Reads.{handed}
@@ -31,7 +31,7 @@ returns c =
       e .1,
       e .2,
       l,
-      ap (λ (x : After). handed M (e .0) ++ textOf x) l ∙ run-replays _ M (e .0) (c .before .before .before
+      ap (λ (x : FedMemory). handed M (e .0) ++ textOf x) l ∙ run-replays _ M (e .0) (c .before .before .before
           .before .before .before .before .before .before .before .before .before .before .before .before .before .before .before .before .before
           .before .before .before .before .before .before .before .before .before .before .before .before .before .before .before .before .before
           .before .before .before .before .before .before .before .before .before .pre) (e .1),

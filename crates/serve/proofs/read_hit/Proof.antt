@@ -9,9 +9,8 @@ use lib.ListN.{getD}
 use Rattle.tables.specs.Records.{addressRow, addressBytes}
 use Rattle.tables.specs.Operations.{rowAdded, rowOut}
 use Rattle.paper.specs.Cache.{hit, blockOf, step}
-use Rattle.paper.specs.Engine.{engine}
 use Rattle.paper.specs.Lent.{bit}
-use Rattle.parts.specs.Rep.{noRow}
+use Rattle.parts.specs.Rep.{numbersOf, noRow, engine}
 use Rattle.parts.specs.MoveLaws.{fp-is, dirty-is}
 use Rattle.parts.specs.CopyLaws.{parts-length, block-ends, part-block, slot-some, slotOf-below}
 use Rattle.step.specs.Steps.{asks}
@@ -28,7 +27,7 @@ in-slot-requires c κs =
     let p = start .pre .0 in
     let q = start .pre .1 in
     let f = getD (q .1 .rows) (a .i) noRow .fingerprint in
-    rw (parts-length (a .b .size) (a .b .slots) (a .flash .now) (q .1 .flash) (q .2 .flash-is)) (block-ends (c .slot-at .result .0) (a .b .slots) (a .b .size) (rw (slot-some (a .b .size) (a .b .slots) (a .blocks .now) (q .1 .free) (q .1 .used) f (q .2 .blocks-are) (a .j) (q .3 .place) (q .3 .is-cached) (c .slot-at .result .0) (c .slot-at .ensures)) (slotOf-below (a .b .size) (a .b .slots) f (q .1 .used) (p .2 .1) (q .2 .blocks-are .used-below))))
+    rw (parts-length (a .b .size) (a .b .slots) (a .flash .now) (q .1 .flash) (q .2 .flash-is)) (block-ends (c .slot-at .result .0) (a .b .slots) (a .b .size) (rw (slot-some (numbersOf (a .b)) (a .b .slots) (a .blocks .now) (q .1 .free) (q .1 .used) f (q .2 .blocks-are) (a .j) (q .3 .place) (q .3 .is-cached) (c .slot-at .result .0) (c .slot-at .ensures)) (slotOf-below (numbersOf (a .b)) (a .b .slots) f (q .1 .used) (p .2 .1) (q .2 .blocks-are .used-below))))
 
 copy-all-requires : tie.Need-copy-all-requires
 copy-all-requires c κs =
@@ -57,14 +56,14 @@ returns c =
       λ disk s y lent h sd q.
           let f = getD (s .rows) (a .i) noRow .fingerprint in
           let w = getD (s .rows) (a .i) noRow .dirty in
-          let x = blockOf (engine (a .b .size)) f (s .used) (s .flash) in
-          let k = slot-some (a .b .size) (a .b .slots) (a .blocks .now) (s .free) (s .used) f (h .blocks-are) (a .j) (q .place) (q .is-cached) (at-slot-at .slot-at .result .0) (at-slot-at .slot-at .ensures) in
-          let kb : at-slot-at .slot-at .result .0 < a .b .slots = rw k (slotOf-below (a .b .size) (a .b .slots) f (s .used) (p .2 .1) (h .blocks-are .used-below)) in
-          let ex = sym (at-copy-all .copy-all .ensures ∙ at-block .in-slot .ensures .0 ∙ part-block (a .b .size) (a .b .slots) (a .flash .now) (s .flash) (h .flash-is) (at-slot-at .slot-at .result .0) (engine (a .b .size) .blank) kb ∙ ap (λ (y : ℕ). getD (s .flash) y (engine (a .b .size) .blank) .0) k) in
+          let x = blockOf (engine (a .b)) f (s .used) (s .flash) in
+          let k = slot-some (numbersOf (a .b)) (a .b .slots) (a .blocks .now) (s .free) (s .used) f (h .blocks-are) (a .j) (q .place) (q .is-cached) (at-slot-at .slot-at .result .0) (at-slot-at .slot-at .ensures) in
+          let kb : at-slot-at .slot-at .result .0 < a .b .slots = rw k (slotOf-below (numbersOf (a .b)) (a .b .slots) f (s .used) (p .2 .1) (h .blocks-are .used-below)) in
+          let ex = sym (at-copy-all .copy-all .ensures ∙ at-block .in-slot .ensures .0 ∙ part-block (a .b .size) (a .b .slots) (a .flash .now) (s .flash) (h .flash-is) (at-slot-at .slot-at .result .0) (engine (a .b) .blank) kb ∙ ap (λ (y : ℕ). getD (s .flash) y (engine (a .b) .blank) .0) k) in
           let ef = sym (fp-is (a .b .blocks) (a .b .rows) (a .b .held) (a .addrs .now) (s .rows) (h .rows-are) (a .i) (p .0) noRow) ∙ sym (at-fp-at .fp-at .ensures .1) in
           let ed = at-dirty-at .dirty-at .ensures ∙ ap bit (dirty-is (a .b .blocks) (a .b .rows) (a .b .held) (a .addrs .now) (s .rows) (h .rows-are) (a .i) (p .0) noRow) in
           let ea = u .ensures .0 ∙ ap₂ {C = List ℕ} (λ (y : List ℕ) (v : ℕ). rowAdded (a .b .held - 1) (addressBytes (addressRow (a .a .0) y v)) (rowOut (a .b .held) (a .i) (a .addrs .now))) (sym ef) ed in
-          answer-is (a .b) lent hit (some x) 0 (step (engine (a .b .size)) (a .b .rows) s (asks (a .a .0) f x w)) true (a .b .held) 0 0 0 _ _ _ _ _
+          answer-is (a .b) lent hit (some x) 0 (step (engine (a .b)) (a .b .rows) s (asks (a .a .0) f x w)) true (a .b .held) 0 0 0 _ _ _ _ _
           (hit-step (a .b) disk (a .flash .now) (a .addrs .now) (a .blocks .now) s h sd (p .2 .0) (a .a .0) (a .i) (a .j) q w x _ _ ea (u .ensures .1)) refl refl (sym ex)
           ∙ hit-is (a .b) disk (a .flash .now) (a .addrs .now) (a .blocks .now) s h (a .a .0) lent y (a .i) (a .j) q,
     )

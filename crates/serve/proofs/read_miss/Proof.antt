@@ -1,7 +1,7 @@
 -- The block copied is that of the disk; the read takes it. Assumes nothing.
 use mathlib.Core.Path.{sym, _∙_}
 use lib.ListN.{getD}
-use Rattle.paper.specs.Engine.{engine}
+use Rattle.parts.specs.Rep.{engine}
 use Rattle.parts.specs.CopyLaws.{parts-length, block-ends, part-block}
 use borrow.Author.Needs.{needs}
 use Rattle.serve.proofs.read_miss.Statement.{statement}
@@ -37,9 +37,9 @@ returns c =
     let w = at-taken .read-taken in (
       w .ensures .0,
       λ s lent h sd.
-          let x = getD (s .disk) (a .a .0) (engine (a .b .size) .blank) in
+          let x = getD (s .disk) (a .a .0) (engine (a .b) .blank) in
           let ex = sym (at-copy-all .copy-all .ensures ∙ at-block .at-address .ensures .0
-          ∙ part-block (a .b .size) (a .b .blocks) (a .disk .now) (s .disk) (h .disk-is) (a .a .0) (engine (a .b .size) .blank) (start .pre .0 .3)) in
+          ∙ part-block (a .b .size) (a .b .blocks) (a .disk .now) (s .disk) (h .disk-is) (a .a .0) (engine (a .b) .blank) (start .pre .0 .3)) in
           w .ensures .1 s x lent h sd ex,
     )
 

@@ -4,17 +4,16 @@ use mathlib.Core.Bool.{false}
 use mathlib.Core.Option.{some}
 use native.Mathlib.Omega.{arith}
 use native.Mathlib.Nat.{zero-add}
-use Rattle.hash.specs.Sha256.{sha256}
 use Rattle.paper.specs.Cache.{miss, step}
-use Rattle.paper.specs.Engine.{engine}
+use Rattle.parts.specs.Rep.{engine}
 use Rattle.step.specs.Steps.{asks}
 use Rattle.serve.specs.ServeLaws.{answer-is, taken-is}
 use borrow.Author.Needs.{needs}
 use Rattle.serve.proofs.read_taken.Statement.{statement}
 use Rattle.serve.proofs.read_taken.Tie as tie
 
-block-sha256-requires : tie.Need-block-sha256-requires
-block-sha256-requires c κs =
+fingerprint-of-requires : tie.Need-fingerprint-of-requires
+fingerprint-of-requires c κs =
     let p = c .before .before .before .before .before .before .pre .0 in
     rw (p .2) (p .6)
 
@@ -34,9 +33,9 @@ returns c =
     let w = at-step .step in (
       (w .ensures .0 .0, omega (arith, w .ensures .0 .1)),
       λ s x lent h sd ex.
-          let f = engine (a .b .size) .hash x in
-          let ef = ap sha256 ex ∙ sym (at-hash .block-sha256 .ensures) in
-          answer-is (a .b) lent miss (some x) 0 (step (engine (a .b .size)) (a .b .rows) s (asks (a .a .0) f x false)) false
+          let f = engine (a .b) .hash x in
+          let ef = at-hash .fingerprint-of .ensures x ex in
+          answer-is (a .b) lent miss (some x) 0 (step (engine (a .b)) (a .b .rows) s (asks (a .a .0) f x false)) false
           (w .result .held) (w .result .flashed) (w .result .primary) (w .result .primary) _ _ _ _ _
           (w .ensures .1 s f x false h sd ef ex refl) refl (sym (zero-add (w .result .primary))) (sym ex)
           ∙ taken-is (a .b) lent s (a .a .0) x,
@@ -46,7 +45,7 @@ pub read-taken-spec : {M : Type 1} → statement M
 read-taken-spec =
     tie.close
     (tie.spec
-    block-sha256-requires
+    fingerprint-of-requires
     (λ c. search needs)
     step-requires
     (λ c. search needs)

@@ -1,11 +1,11 @@
 -- The step gives all but the word, which the place found first gives. Assumes nothing.
-use Rattle.hash.specs.Sha256.{sha256}
 use mathlib.Core.Path.{refl, sym, ap, _∙_}
 use mathlib.Core.Bool.{cond}
 use mathlib.Core.Option.{none}
 use native.Mathlib.Omega.{arith}
 use Rattle.paper.specs.Cache.{cached, dirtied, rowOf, sameBlock, newBlock, step}
-use Rattle.paper.specs.Engine.{Fixed, engine}
+use Rattle.parts.specs.Rep.{numbersOf, engine}
+use Rattle.paper.specs.Engine.{Fixed}
 use native.Mathlib.Nat.{zero-add}
 use Rattle.step.specs.Steps.{asks}
 use Rattle.serve.specs.ServeLaws.{yes-is, answer-is, back-is}
@@ -13,8 +13,8 @@ use borrow.Author.Needs.{needs}
 use Rattle.serve.proofs.serve_back.Statement.{statement}
 use Rattle.serve.proofs.serve_back.Tie as tie
 
-block-sha256-requires : tie.Need-block-sha256-requires
-block-sha256-requires c κs =
+fingerprint-of-requires : tie.Need-fingerprint-of-requires
+fingerprint-of-requires c κs =
     let p = c .before .before .before .before .before .before .pre .0 .1 in
     rw (p .2) (p .6)
 
@@ -26,11 +26,11 @@ step-requires c κs =
     let a = start .args in
     let p = start .pre .0 in
     let q = start .pre .1 .0 in
-    let g = at-hash .block-sha256 .ok in
+    let g = at-hash .fingerprint-of .ok in
     let x : Fixed (a .b .size) = (a .block .now, p .1 .2) in
-    let f = engine (a .b .size) .hash x in
-    let v = at-value .dirty-value .ensures (a .b .size) (q .0 .rows) f (q .1 .rows-are) (sym (at-hash .block-sha256 .ensures)) in
-    ((p .1 .0, p .1 .1, search needs, p .1 .2, p .1 .3, p .1 .4, p .1 .5), ((q .0, dirtied (engine (a .b .size)) f (rowOf (a .a .0) (q .0 .rows)), q .1, q .2, v), start .pre .1 .1))
+    let f = engine (a .b) .hash x in
+    let v = at-value .dirty-value .ensures (numbersOf (a .b)) (q .0 .rows) f (q .1 .rows-are) (at-hash .fingerprint-of .ensures x refl) in
+    ((p .1 .0, p .1 .1, search needs, p .1 .2, p .1 .3, p .1 .4, p .1 .5), ((q .0, dirtied (engine (a .b)) f (rowOf (a .a .0) (q .0 .rows)), q .1, q .2, v), start .pre .1 .1))
 
 returns : tie.Need-returns
 returns c =
@@ -44,15 +44,15 @@ returns c =
     let w = at-step .step in (
       (w .ensures .0 .0, omega (arith, w .ensures .0 .1)),
       λ s x h sd ex.
-          let f = engine (a .b .size) .hash x in
-          let ef = ap sha256 ex ∙ sym (at-hash .block-sha256 .ensures) in
-          let v = dirtied (engine (a .b .size)) f (rowOf (a .a .0) (s .rows)) in
-          answer-is (a .b) (a .block .now) (cond (cached (engine (a .b .size)) f (s .used)) sameBlock newBlock) none 0 (step (engine (a .b .size)) (a .b .rows) s (asks (a .a .0) f x v)) _ (w .result .held) (w .result .flashed) (w .result .primary) (w .result .primary) _ _ _ _ (a .block .now)
-          (w .ensures .1 s f x v h sd ef ex (at-value .dirty-value .ensures (a .b .size) (s .rows) f (h .rows-are) ef)) (yes-is (a .b .size) (a .b .slots) (a .blocks .now) (s .free) (s .used) (h .blocks-are) f (p .result) (p .ensures (s .free) (s .used) f (h .blocks-are) ef)) (sym (zero-add (w .result .primary))) refl
+          let f = engine (a .b) .hash x in
+          let ef = at-hash .fingerprint-of .ensures x ex in
+          let v = dirtied (engine (a .b)) f (rowOf (a .a .0) (s .rows)) in
+          answer-is (a .b) (a .block .now) (cond (cached (engine (a .b)) f (s .used)) sameBlock newBlock) none 0 (step (engine (a .b)) (a .b .rows) s (asks (a .a .0) f x v)) _ (w .result .held) (w .result .flashed) (w .result .primary) (w .result .primary) _ _ _ _ (a .block .now)
+          (w .ensures .1 s f x v h sd ef ex (at-value .dirty-value .ensures (numbersOf (a .b)) (s .rows) f (h .rows-are) ef)) (yes-is (numbersOf (a .b)) (a .b .slots) (a .blocks .now) (s .free) (s .used) (h .blocks-are) f (p .result) (p .ensures .1 (s .free) (s .used) f (h .blocks-are) ef)) (sym (zero-add (w .result .primary))) refl
           ∙ back-is (a .b) (a .block .now) s (a .a .0) x,
     )
 
 pub serve-back-spec : {M : Type 1} → statement M
 serve-back-spec =
     tie.close
-    (tie.spec block-sha256-requires (λ c. search needs) (λ c κs. search needs) (λ c. search needs) (λ c κs. search needs) (λ c. search needs) step-requires (λ c. search needs) (λ c. search needs) (λ c. search needs) (λ c. search needs) returns)
+    (tie.spec fingerprint-of-requires (λ c. search needs) (λ c κs. search needs) (λ c. search needs) (λ c κs. search needs) (λ c. search needs) step-requires (λ c. search needs) (λ c. search needs) (λ c. search needs) (λ c. search needs) returns)

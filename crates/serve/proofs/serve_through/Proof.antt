@@ -5,21 +5,20 @@ use mathlib.Core.List.{List}
 use mathlib.Core.Option.{none}
 use Prim.Native.Nat.{ℕ, _+_, _*_}
 use native.Mathlib.Omega.{arith}
-use Rattle.parts.specs.Rep.{numbersOf}
+use Rattle.parts.specs.Rep.{numbersOf, engine}
 use Rattle.paper.specs.Cache.{onDisk, cached, sameBlock, newBlock, step}
-use Rattle.paper.specs.Engine.{Fixed, engine}
+use Rattle.paper.specs.Engine.{Fixed}
 use Rattle.block.specs.Blocks.{splice}
 use Rattle.paper.specs.Sound.{sound-onDisk}
 use Rattle.step.specs.Steps.{asks}
 use Rattle.parts.specs.CopyLaws.{block-ends}
 use Rattle.serve.specs.ServeLaws.{yes-is, answer-is, through-is, rep-onDisk}
-use Rattle.hash.specs.Sha256.{sha256}
 use borrow.Author.Needs.{needs}
 use Rattle.serve.proofs.serve_through.Statement.{statement}
 use Rattle.serve.proofs.serve_through.Tie as tie
 
-block-sha256-requires : tie.Need-block-sha256-requires
-block-sha256-requires c κs =
+fingerprint-of-requires : tie.Need-fingerprint-of-requires
+fingerprint-of-requires c κs =
     let p = c .before .before .before .before .before .before .pre .0 .1 in
     rw (p .2) (p .6)
 
@@ -38,10 +37,10 @@ step-requires c κs =
     let a = start .args in
     let p = start .pre .0 in
     let q = start .pre .1 .0 in
-    let g = at-hash .block-sha256 .ok in
+    let g = at-hash .fingerprint-of .ok in
     let x : Fixed (a .b .size) = (a .block .now, p .1 .2) in (
       (p .1 .0, p .1 .1, search needs, p .1 .2, p .1 .3, p .1 .4, p .1 .5),
-      ((onDisk (engine (a .b .size)) (q .0) (a .a .0) x, false, rep-onDisk (a .b) (a .disk .now) (a .flash .now) (a .addrs .now) (a .blocks .now) (q .0) (q .1) (a .a .0) (p .1 .3) x _ (at-put-address .put-address .ensures), sound-onDisk (engine (a .b .size)) (numbersOf (a .b)) (q .0) (a .a .0) x (q .2), refl), start .pre .1 .1),
+      ((onDisk (engine (a .b)) (q .0) (a .a .0) x, false, rep-onDisk (a .b) (a .disk .now) (a .flash .now) (a .addrs .now) (a .blocks .now) (q .0) (q .1) (a .a .0) (p .1 .3) x _ (at-put-address .put-address .ensures), sound-onDisk (engine (a .b)) (numbersOf (a .b)) (q .0) (a .a .0) x (q .2), refl), start .pre .1 .1),
     )
 
 add-t31 : tie.Need-add-t31
@@ -62,16 +61,16 @@ returns c =
     let w = at-step .step in (
       (w .ensures .0 .0, omega (arith, w .ensures .0 .1)),
       λ s x h sd ex.
-          let f = engine (a .b .size) .hash x in
-          let ef = ap sha256 ex ∙ sym (at-hash .block-sha256 .ensures) in
-          let t = onDisk (engine (a .b .size)) s (a .a .0) x in
-          answer-is (a .b) (a .block .now) (cond (cached (engine (a .b .size)) f (s .used)) sameBlock newBlock) none 1 (step (engine (a .b .size)) (a .b .rows) t (asks (a .a .0) f x false)) _ (w .result .held) (w .result .flashed) (w .result .primary) (1 + w .result .primary) _ _ _ _ (a .block .now)
-          (w .ensures .1 t f x false (rep-onDisk (a .b) (a .disk .now) (a .flash .now) (a .addrs .now) (a .blocks .now) s h (a .a .0) (start .pre .0 .1 .3) x _ (at-put-address .put-address .ensures ∙ ap (λ (y : List ℕ). splice (a .a .0 * a .b .size) y (a .disk .now)) (sym ex))) (sound-onDisk (engine (a .b .size)) (numbersOf (a .b)) s (a .a .0) x sd) ef ex refl)
-          (yes-is (a .b .size) (a .b .slots) (a .blocks .now) (s .free) (s .used) (h .blocks-are) f (p .result) (p .ensures (s .free) (s .used) f (h .blocks-are) ef)) refl refl
+          let f = engine (a .b) .hash x in
+          let ef = at-hash .fingerprint-of .ensures x ex in
+          let t = onDisk (engine (a .b)) s (a .a .0) x in
+          answer-is (a .b) (a .block .now) (cond (cached (engine (a .b)) f (s .used)) sameBlock newBlock) none 1 (step (engine (a .b)) (a .b .rows) t (asks (a .a .0) f x false)) _ (w .result .held) (w .result .flashed) (w .result .primary) (1 + w .result .primary) _ _ _ _ (a .block .now)
+          (w .ensures .1 t f x false (rep-onDisk (a .b) (a .disk .now) (a .flash .now) (a .addrs .now) (a .blocks .now) s h (a .a .0) (start .pre .0 .1 .3) x _ (at-put-address .put-address .ensures ∙ ap (λ (y : List ℕ). splice (a .a .0 * a .b .size) y (a .disk .now)) (sym ex))) (sound-onDisk (engine (a .b)) (numbersOf (a .b)) s (a .a .0) x sd) ef ex refl)
+          (yes-is (numbersOf (a .b)) (a .b .slots) (a .blocks .now) (s .free) (s .used) (h .blocks-are) f (p .result) (p .ensures .1 (s .free) (s .used) f (h .blocks-are) ef)) refl refl
           ∙ through-is (a .b) (a .block .now) s (a .a .0) x,
     )
 
 pub serve-through-spec : {M : Type 1} → statement M
 serve-through-spec =
     tie.close
-    (tie.spec block-sha256-requires (λ c. search needs) (λ c κs. search needs) put-address-requires (λ c. search needs) step-requires add-t31 (λ c. search needs) (λ c. search needs) (λ c. search needs) (λ c. search needs) returns)
+    (tie.spec fingerprint-of-requires (λ c. search needs) (λ c κs. search needs) put-address-requires (λ c. search needs) step-requires add-t31 (λ c. search needs) (λ c. search needs) (λ c. search needs) (λ c. search needs) returns)

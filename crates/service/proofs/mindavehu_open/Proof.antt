@@ -5,12 +5,12 @@ use Rattle.service.proofs.mindavehu_open.Statement.{statement}
 use Rattle.service.proofs.mindavehu_open.Tie as tie
 
 abbrev start : tie.After-slice-known3 → tie.Start
-start c = c .before .before .before .before .before
+start c = c .before .before .before .before .before .before
 
 returns : tie.Need-returns
 returns c =
     let a = start (c .before) .args in
-    not-opened (a .state .now) (a .disk .now) (a .flash .now) (a .addresses .now) (a .blocks .now) (c .if1 .taken)
+    not-opened (a .label .now) (a .state .now) (a .disk .now) (a .flash .now) (a .addresses .now) (a .blocks .now) (c .if1 .taken)
 
 returns-2 : tie.Need-returns-2
 returns-2 c =
@@ -20,7 +20,7 @@ returns-2 c =
     let b = k .before .before in
     let e = b .before .before in
     let a = start (e .before) .args in
-    opened (a .state .now) (a .disk .now) (a .flash .now) (a .addresses .now) (a .blocks .now) (e .if1 .left)
+    opened (a .label .now) (a .state .now) (a .disk .now) (a .flash .now) (a .addresses .now) (a .blocks .now) (e .if1 .left)
     (b .record-in .result) (k .counters-in .result) (b .record-in .ensures) (k .counters-in .ensures) (o .«open» .result) _ _ (o .«open» .ensures) _ _ (w .write-opening .ensures .0) (w .write-opening .ensures .1)
 
 pub mindavehu-open-spec : {M : Type 1} → statement M

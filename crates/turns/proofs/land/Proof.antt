@@ -2,6 +2,7 @@
 use mathlib.Core.Path.{_≡_, refl, sym, ap, _∙_, subst}
 use mathlib.Core.List.{[]}
 use Prim.Native.Nat.{ℕ, _+_, _-_, _*_, _≤_}
+use native.Mathlib.Nat.{mul-le-mul}
 use native.Mathlib.Omega.{arith}
 use lib.ListN.{length, take, drop}
 use Rattle.hash.specs.Laws.{size-whole}
@@ -24,6 +25,14 @@ mul-at c =
     let s = c .before .before .before .before .before .before in
     let p = s .pre .0 in
     product-fits 64 4096 (s .args .k) (s .args .b .size) (omega (arith, p .2)) (size-whole (s .args .b .size) (p .0 .B-size) .1) (omega arith)
+
+add-end : tie.Need-add-end
+add-end c =
+    let s = c .before .before .before .before .before .before .before in
+    let p = s .pre .0 in
+    let w = size-whole (s .args .b .size) (p .0 .B-size) .1 in
+    let m : s .args .k * s .args .b .size ≤ 64 * 4096 = mul-le-mul {n₁ = s .args .k} {n₂ = 64} {m₂ = 4096} (omega (arith, p .2)) w in
+    record { fits = omega (arith, m, w) }
 
 read-one-requires : tie.Need-read-one-requires
 read-one-requires c κs =
@@ -78,7 +87,7 @@ land-spec =
     tie.close
     (tie.spec
     mul-at
-    (λ c. search needs)
+    add-end
     (λ c. search needs)
     (λ c. search needs)
     (λ c. search needs)

@@ -4,9 +4,9 @@ use Prim.Native.Nat.{_-_, _≤_}
 use native.Mathlib.Omega.{arith}
 use lib.ListN.{length, take}
 use Rattle.paper.specs.Cache.{Box, Counters, noCounts}
-use Rattle.paper.specs.Engine.{Fixed, engine}
+use Rattle.paper.specs.Engine.{Fixed}
 use Rattle.paper.specs.Batch.{batch, start}
-use Rattle.parts.specs.Rep.{numbersOf, Rep}
+use Rattle.parts.specs.Rep.{numbersOf, Rep, engine}
 use Rattle.step.specs.Steps.{Sure}
 use Rattle.turns.specs.Turns.{Turned}
 use Rattle.turns.specs.TurnLaws.{turned-none, batch-next, batch-whole}
@@ -19,7 +19,7 @@ Inv-loop b asked disk₀ flash₀ addrs₀ blocks₀ buffer₀ t₀ k₀ disk fl
     (k ≤ length asked) × (length buffer ≡ length buffer₀) × (length disk ≡ length disk₀) × (length flash ≡ length flash₀)
     × (length addrs ≡ length addrs₀) × (length blocks ≡ length blocks₀)
     × ((s : Box (Fixed 32) (Fixed (b .size))) (z : Counters) → Rep b disk₀ flash₀ addrs₀ blocks₀ s → Sure b s
-    → Turned b (take k asked) z (batch (engine (b .size)) (numbersOf b) (start s z) (take k asked)) t disk flash addrs blocks buffer)
+    → Turned b (take k asked) z (batch (engine b) (numbersOf b) (start s z) (take k asked)) t disk flash addrs blocks buffer)
 
 abbrev μ-loop : tie.MeasureT-loop
 μ-loop b asked disk₀ flash₀ addrs₀ blocks₀ buffer₀ t₀ k₀ disk flash addrs blocks buffer t k = length asked - k
@@ -47,7 +47,7 @@ turn-requires c κs =
     let q = st .pre .1 in
     let h = n .loop-test .taken in (
       (p .0, h, p .1, p .3 (l .k) h, l .inv .1 ∙ p .2),
-      (noCounts, batch (engine (a .b .size)) (numbersOf (a .b)) (start (q .0) noCounts) (take (l .k) (a .asked .now)), l .inv .6 (q .0) noCounts (q .1) (q .2)),
+      (noCounts, batch (engine (a .b)) (numbersOf (a .b)) (start (q .0) noCounts) (take (l .k) (a .asked .now)), l .inv .6 (q .0) noCounts (q .1) (q .2)),
     )
 
 loop-again : tie.Need-loop-again Inv-loop μ-loop
@@ -65,7 +65,7 @@ loop-again c =
       f .kept .1 .1 .1 .1 .1 .1 .1 .0 ∙ l .inv .5,
       λ s z r sd.
           batch-next (a .b) (a .asked .now) (l .k) z _ _ _ _ _ _ s h
-          (f .ensures .0 z (batch (engine (a .b .size)) (numbersOf (a .b)) (start s z) (take (l .k) (a .asked .now))) (l .inv .6 s z r sd)),
+          (f .ensures .0 z (batch (engine (a .b)) (numbersOf (a .b)) (start s z) (take (l .k) (a .asked .now))) (l .inv .6 s z r sd)),
     )
 
 returns : tie.Need-returns Inv-loop μ-loop

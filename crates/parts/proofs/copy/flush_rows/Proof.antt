@@ -8,17 +8,17 @@ use native.Mathlib.Nat.{le-antisymm}
 use native.Mathlib.Numerals.{add-one}
 use lib.ListN.{length, take}
 use Rattle.paper.specs.Cache.{Box, dirtyRows, reach}
-use Rattle.paper.specs.Engine.{Fixed, engine}
+use Rattle.paper.specs.Engine.{Fixed}
 use Rattle.paper.specs.Partly.{reach-le, reach-more, reach-stop}
 use Rattle.parts.specs.declared.BoxRecord.{BoxRecord}
-use Rattle.parts.specs.Rep.{Rep, Copied, copiedRows, partBox}
+use Rattle.parts.specs.Rep.{Rep, Copied, copiedRows, partBox, engine}
 use Rattle.parts.proofs.Looped.{rep-part, part-step, part-none}
 use Rattle.parts.proofs.copy.flush_rows.Statement.{statement}
 use Rattle.parts.proofs.copy.flush_rows.Tie as tie
 
 count-of : (b : BoxRecord) (s : Box (Fixed 32) (Fixed (b .size))) (i count : ℕ) (disk addrs : List ℕ)
     → _≡_ {A = Copied} (record { count = count; disk = disk; addrs = addrs }) (copiedRows b (λ f. true) s i)
-    → count ≡ dirtyRows (engine (b .size)) (take i (s .rows))
+    → count ≡ dirtyRows (engine b) (take i (s .rows))
 unfolding copiedRows
 count-of b s i count disk addrs e = ap (λ (x : Copied). x .count) e
 
@@ -27,7 +27,7 @@ Inv-loop b k disk₀ flash addrs₀ blocks heads count₀ i₀ disk addrs count 
     (i ≤ b .held) × (count ≤ i) × (length disk ≡ length disk₀) × (length addrs ≡ length addrs₀)
     × ((s : Box (Fixed 32) (Fixed (b .size))) → Rep b disk₀ flash addrs₀ blocks s
     → _≡_ {A = Copied} (record { count = count; disk = disk; addrs = addrs }) (copiedRows b (λ f. true) s i))
-    × ((s : Box (Fixed 32) (Fixed (b .size))) → Rep b disk₀ flash addrs₀ blocks s → i ≤ reach (engine (b .size)) k (s .rows)) × (count ≤ k)
+    × ((s : Box (Fixed 32) (Fixed (b .size))) → Rep b disk₀ flash addrs₀ blocks s → i ≤ reach (engine b) k (s .rows)) × (count ≤ k)
 
 abbrev μ-loop : tie.MeasureT-loop
 μ-loop b k disk₀ flash addrs₀ blocks heads count₀ i₀ disk addrs count i =
@@ -78,8 +78,8 @@ loop-again c =
           (l .inv .4 s h) (at-if1 .if1 .taken) (f .result) _ _ (f .ensures .1 (partBox (a .b) (λ f. true) s (l .i)) q))),
       (λ s h.
           let n = count-of (a .b) s (l .i) (l .count) (l .disk) (l .addrs) (l .inv .4 s h) in
-          let less : dirtyRows (engine (a .b .size)) (take (l .i) (s .rows)) < a .k = omega (arith, n, at-if2 .if2 .left) in
-          rw add-one (reach-more (engine (a .b .size)) (a .k) (l .i) (s .rows) (omega (arith, h .rows-are .count, at-if1 .if1 .taken)) less (l .inv .5 s h))),
+          let less : dirtyRows (engine (a .b)) (take (l .i) (s .rows)) < a .k = omega (arith, n, at-if2 .if2 .left) in
+          rw add-one (reach-more (engine (a .b)) (a .k) (l .i) (s .rows) (omega (arith, h .rows-are .count, at-if1 .if1 .taken)) less (l .inv .5 s h))),
       omega (arith, f .ensures .0, at-if2 .if2 .left),
     )
 
@@ -95,7 +95,7 @@ returns c =
           let n = count-of (a .b) s (l .i) (l .count) (l .disk) (l .addrs) (l .inv .4 s h) in
           l .inv .4 s h
           ∙ ap (copiedRows (a .b) (λ f. true) s)
-          (reach-stop (engine (a .b .size)) (a .k) (l .i) (s .rows) (sym n ∙ le-antisymm (l .inv .6) (c .if2 .taken)) (l .inv .5 s h)),
+          (reach-stop (engine (a .b)) (a .k) (l .i) (s .rows) (sym n ∙ le-antisymm (l .inv .6) (c .if2 .taken)) (l .inv .5 s h)),
     )
 
 -- there is no row more
@@ -107,7 +107,7 @@ returns-2 c =
       λ s h.
           l .inv .4 s h
           ∙ ap (copiedRows (a .b) (λ f. true) s)
-          (le-antisymm (l .inv .5 s h) (omega (arith, reach-le (engine (a .b .size)) (a .k) (s .rows), h .rows-are .count, c .if1 .left))),
+          (le-antisymm (l .inv .5 s h) (omega (arith, reach-le (engine (a .b)) (a .k) (s .rows), h .rows-are .count, c .if1 .left))),
     )
 
 pub flush-rows-spec : {M : Type 1} → statement M

@@ -1,7 +1,7 @@
 -- By whether the first row is free, and whether there is a row that no address has. Assumes nothing.
-use mathlib.Core.Path.{sym, _∙_}
+use mathlib.Core.Path.{refl, sym, _∙_}
 use native.Mathlib.Omega.{arith}
-use borrow.Author.Tests.{not-true, not-false}
+use borrow.Author.Tests.{not-true, not-false, lt-ltb, le-ltb}
 use Rattle.parts.proofs.Asking.{victim-first, victim-yes, victim-no}
 use borrow.Author.Needs.{needs}
 use Rattle.parts.proofs.rows.victim.Statement.{statement}
@@ -17,21 +17,25 @@ returns : tie.Need-returns
 returns c =
     let start = c .before .before .before .before .before in
     let a = start .args in
-    (omega arith, λ B P m l free used h hb. victim-first B (a .d) (a .blocks .now) l used free hb (start .pre .0 .1) (sym (c .before .is-used .ensures) ∙ not-true _ (c .if1 .taken)))
+    (omega arith, (rw (sym (c .before .is-used .ensures) ∙ not-true _ (c .if1 .taken)) refl, λ P m l free used h hb. victim-first (a .d) (a .blocks .now) l used free hb (start .pre .0 .1) (sym (c .before .is-used .ensures) ∙ not-true _ (c .if1 .taken))))
 
 returns-2 : tie.Need-returns-2
 returns-2 c =
     let at-flag-at = c .before .before .before in
     let start = at-flag-at .before .before .before .before in
     let a = start .args in
-    (omega arith, λ B P m l free used h hb. victim-yes B (a .d) (a .blocks .now) l used free hb (sym (at-flag-at .is-used .ensures) ∙ not-false _ (c .before .before .if1 .left)) (c .before .unknown-place .result) (λ hb0. c .before .unknown-place .ensures B P m l used h hb0) (c .if2 .taken))
+    let j = c .before .unknown-place in
+    let u = sym (at-flag-at .is-used .ensures) ∙ not-false _ (c .before .before .if1 .left) in
+    (omega arith, (rw (u, sym (j .ensures .0), lt-ltb (j .result) (a .d) (c .if2 .taken)) refl, λ P m l free used h hb. victim-yes (a .d) (a .blocks .now) l used free hb u (j .result) (λ hb0. j .ensures .1 P m l used h hb0) (c .if2 .taken)))
 
 returns-3 : tie.Need-returns-3
 returns-3 c =
     let at-flag-at = c .before .before .before in
     let start = at-flag-at .before .before .before .before in
     let a = start .args in
-    (omega arith, λ B P m l free used h hb. victim-no B (a .d) (a .blocks .now) l used free hb (sym (at-flag-at .is-used .ensures) ∙ not-false _ (c .before .before .if1 .left)) (c .before .unknown-place .result) (λ hb0. c .before .unknown-place .ensures B P m l used h hb0) (c .if2 .left))
+    let j = c .before .unknown-place in
+    let u = sym (at-flag-at .is-used .ensures) ∙ not-false _ (c .before .before .if1 .left) in
+    (omega arith, (rw (u, sym (j .ensures .0), le-ltb (j .result) (a .d) (c .if2 .left)) refl, λ P m l free used h hb. victim-no (a .d) (a .blocks .now) l used free hb u (j .result) (λ hb0. j .ensures .1 P m l used h hb0) (c .if2 .left)))
 
 pub victim-spec : {M : Type 1} → statement M
 victim-spec =

@@ -7,10 +7,9 @@ use lib.ListN.{length-replicate}
 use borrow.Author.Needs.{needs}
 use Rattle.tables.specs.SoundLaws.{filled-with}
 use Rattle.paper.specs.Cache.{Call, hit, miss, serve}
-use Rattle.paper.specs.Engine.{engine}
 use Rattle.paper.specs.Lent.{Ask, calling, refusal, callOf}
 use Rattle.paper.specs.CallLaws.{served-finds}
-use Rattle.parts.specs.Rep.{numbersOf}
+use Rattle.parts.specs.Rep.{numbersOf, engine}
 use Rattle.refusals.specs.Given.{countersOf, lent}
 use Rattle.policy.specs.Contract.{told}
 use Rattle.policy.specs.CallLaws.{all-bytes, access, sound, finish, keep, fitting, read-says, said-is, hit-counted, read-block, one-le, yes-of, block-of}
@@ -69,7 +68,7 @@ returns-2 c =
     let left = r .serve-read .ensures .1 (on .0) l (on .1) (on .2) in
     let o = r .serve-read .result in
     let says = read-says (numbersOf (a .b)) (on .0) (a .a .0) in
-    let out = serve (engine (a .b .size)) (numbersOf (a .b)) (on .0) (Call.read (a .a .0)) in
+    let out = serve (engine (a .b)) (numbersOf (a .b)) (on .0) (Call.read (a .a .0)) in
     let yes = yes-of (a .b) l out left in
     rw (c .answered .ensures)
     (finish (a .b) (a .disk .now) (a .flash .now) (a .addresses .now) (a .blocks .now) k q z (c .before .before .read-word .result) (o .yes) (o .held) (o .flashed) (o .primary) 1 (c .before .one-if .result) (a .c) l _ _ _ _ _ _ refl left

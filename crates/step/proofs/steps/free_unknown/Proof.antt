@@ -19,7 +19,7 @@ returns-2 c =
     let a = at-if1 .before .before .before .args in
     λ B l free used r h hb ds e.
     drop-known B (a .b .slots) (a .blocks .now) l free used hb r
-    (known-as B (a .b .slots) (a .blocks .now) free used hb (a .place) (r .fingerprint) e (omega (arith, at-if1 .if1 .left)) l (c .before .knows .result) _ (p .block-fingerprint .ensures .0) (λ q. c .before .knows .ensures (a .b .blocks) (a .b .rows) l q h) ∙ c .if2 .taken)
+    (known-as B (a .b .slots) (a .blocks .now) free used hb (a .place) (r .fingerprint) e (omega (arith, at-if1 .if1 .left)) l (c .before .knows .result) _ (p .block-fingerprint .ensures .0) (λ q. c .before .knows .ensures .1 (a .b .blocks) (a .b .rows) l q h) ∙ c .if2 .taken)
 
 returns-3 : tie.Need-returns-3
 returns-3 c =
@@ -31,7 +31,7 @@ returns-3 c =
     let lt : a .place < a .b .slots = omega (arith, at-if1 .if1 .left) in
     λ B l free used r h hb ds e.
     drop-freed B (a .b .slots) (a .blocks .now) l free used hb r
-    (known-as B (a .b .slots) (a .blocks .now) free used hb (a .place) (r .fingerprint) e lt l (at-knows .knows .result) _ (p .block-fingerprint .ensures .0) (λ q. at-knows .knows .ensures (a .b .blocks) (a .b .rows) l q h) ∙ at-if2 .if2 .left)
+    (known-as B (a .b .slots) (a .blocks .now) free used hb (a .place) (r .fingerprint) e lt l (at-knows .knows .result) _ (p .block-fingerprint .ensures .0) (λ q. at-knows .knows .ensures .1 (a .b .blocks) (a .b .rows) l q h) ∙ at-if2 .if2 .left)
     (there B (a .b .slots) (a .blocks .now) free used hb (a .place) (r .fingerprint) e lt) _ (c .before .before .to-front .ensures ∙ freed-at B (a .b .slots) (a .blocks .now) free used hb (a .place) (r .fingerprint) e lt ds)
 
 pub free-unknown-spec : {M : Type 1} → statement M

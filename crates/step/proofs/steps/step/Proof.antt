@@ -6,7 +6,8 @@ use native.Mathlib.Omega.{arith}
 use Rattle.tables.specs.Records.{addressRow, addressBytes}
 use Rattle.tables.specs.Operations.{rowAdded}
 use Rattle.paper.specs.Cache.{step1, newest}
-use Rattle.paper.specs.Engine.{Fixed, engine}
+use Rattle.parts.specs.Rep.{numbersOf, engine}
+use Rattle.paper.specs.Engine.{Fixed}
 use Rattle.step.proofs.Whole.{addrs₂-are, place-is, distinct₃, s₃, rep₃, step-is}
 use borrow.Author.Needs.{needs}
 use Rattle.step.proofs.steps.step.Statement.{statement}
@@ -64,7 +65,7 @@ step4-requires c κs =
     let e2 = pu .ensures ∙ ap₂ {C = List ℕ} (λ y d. rowAdded n (addressBytes (addressRow (a .a .0) y d)) (st .last .1 .1 .1 .1 .0)) refl (q .4) in
     let X = addrs₂-are (a .b) (a .disk .now) (a .flash .now) (a .addrs .now) (a .blocks .now) (q .0) (q .2) (q .3) (p .0) (p .1) (a .a .0) (p .4) f (q .1) n (st .result .place) (st .result .primary) _ _ e1 _ e2 in
     let Y = place-is (a .b) (a .disk .now) (a .flash .now) (a .addrs .now) (a .blocks .now) (q .0) (q .2) (q .3) (p .0) (p .1) (a .a .0) (p .4) f (q .1) n (st .result .place) (st .result .primary) _ _ e1 _ e2 in
-    let e3 = s3-left (a .b .size) (step1 (engine (a .b .size)) (a .b .rows) (q .0) (a .a .0) .rows ++ (newest (a .a .0) f (q .1) ∷ [])) ((q .0) .free) ((q .0) .used) (step1 (engine (a .b .size)) (a .b .rows) (q .0) (a .a .0) .gone) X ((q .2) .blocks-are) ((q .3) .fingerprints) Y in
+    let e3 = s3-left (numbersOf (a .b)) (step1 (engine (a .b)) (a .b .rows) (q .0) (a .a .0) .rows ++ (newest (a .a .0) f (q .1) ∷ [])) ((q .0) .free) ((q .0) .used) (step1 (engine (a .b)) (a .b .rows) (q .0) (a .a .0) .gone) X ((q .2) .blocks-are) ((q .3) .fingerprints) Y in
     rw eh (
       (p .1, p .2, p .3, q .2 .blocks-are .small, (omega (arith, st .ensures .0 .0), pu .kept .0 ∙ st .kept .1 .1 .1 .1 .0 ∙ p .6 .1, s3 .kept .1 .1 .1 .0 ∙ p .6 .2)),
       (
@@ -128,7 +129,7 @@ returns c =
           let e2 = pu .ensures ∙ ap₂ {C = List ℕ} (λ y d. rowAdded n (addressBytes (addressRow (a .a .0) y d)) (st .last .1 .1 .1 .1 .0)) (sym ef) ed in
           let X = addrs₂-are (a .b) (a .disk .now) (a .flash .now) (a .addrs .now) (a .blocks .now) s h sd (p .0) (p .1) (a .a .0) (p .4) f w n (st .result .place) (st .result .primary) _ _ e1 _ e2 in
           let Y = place-is (a .b) (a .disk .now) (a .flash .now) (a .addrs .now) (a .blocks .now) s h sd (p .0) (p .1) (a .a .0) (p .4) f w n (st .result .place) (st .result .primary) _ _ e1 _ e2 in
-          let e3 = s3-left (a .b .size) (step1 (engine (a .b .size)) (a .b .rows) s (a .a .0) .rows ++ (newest (a .a .0) f w ∷ [])) (s .free) (s .used) (step1 (engine (a .b .size)) (a .b .rows) s (a .a .0) .gone) X (h .blocks-are) (sd .fingerprints) Y in
+          let e3 = s3-left (numbersOf (a .b)) (step1 (engine (a .b)) (a .b .rows) s (a .a .0) .rows ++ (newest (a .a .0) f w ∷ [])) (s .free) (s .used) (step1 (engine (a .b)) (a .b .rows) s (a .a .0) .gone) X (h .blocks-are) (sd .fingerprints) Y in
           step-is (a .b) (a .disk .now) (a .flash .now) (a .addrs .now) (a .blocks .now) s h sd (p .0) (p .1) (a .a .0) (p .4) f w n (st .result .place) (st .result .primary) _ _ e1 _ e2 _ e3 x (s4 .result .flashed) (s4 .result .primary) _ _ _ _
           (s4-left .1 (s₃ (a .b) (a .disk .now) (a .flash .now) (a .addrs .now) (a .blocks .now) s h sd (p .0) (p .1) (a .a .0) (p .4) f w n (st .result .place) (st .result .primary) _ _ e1 _ e2 _ e3) f x (rep₃ (a .b) (a .disk .now) (a .flash .now) (a .addrs .now) (a .blocks .now) s h sd (p .0) (p .1) (a .a .0) (p .4) f w n (st .result .place) (st .result .primary) _ _ e1 _ e2 _ e3) (distinct₃ (a .b) (a .disk .now) (a .flash .now) (a .addrs .now) (a .blocks .now) s h sd (p .0) (p .1) (a .a .0) (p .4) f w n (st .result .place) (st .result .primary) _ _ e1 _ e2 _ e3) ef ex),
     )

@@ -19,7 +19,7 @@ returns c =
     let t = at-take-row .take-row in (
       (omega arith, omega arith),
       λ s h d.
-          out-held (a .b) (a .disk .now) (a .flash .now) (a .addrs .now) (a .blocks .now) s h (a .a .0) (r .result) (r .ensures (a .b .blocks) (a .b .rows) (s .rows) (h .rows-are)) d (at-if1 .if1 .taken) (t .result) _
+          out-held (a .b) (a .disk .now) (a .flash .now) (a .addrs .now) (a .blocks .now) s h (a .a .0) (r .result) (r .ensures .1 (a .b .blocks) (a .b .rows) (s .rows) (h .rows-are)) d (at-if1 .if1 .taken) (t .result) _
           (t .ensures (s .rows) (s .free) (s .used) (h .rows-are) (h .blocks-are)),
     )
 
@@ -30,7 +30,7 @@ returns-2 c =
     let a = start .args in
     let r = at-row-of .row-of in (
       (omega arith, omega arith),
-      λ s h d. out-room (a .b) (a .disk .now) (a .flash .now) (a .addrs .now) (a .blocks .now) s h (a .a .0) (r .result) (r .ensures (a .b .blocks) (a .b .rows) (s .rows) (h .rows-are)) (c .before .before .if1 .left) (c .if2 .taken),
+      λ s h d. out-room (a .b) (a .disk .now) (a .flash .now) (a .addrs .now) (a .blocks .now) s h (a .a .0) (r .result) (r .ensures .1 (a .b .blocks) (a .b .rows) (s .rows) (h .rows-are)) (c .before .before .if1 .left) (c .if2 .taken),
     )
 
 sub-t24 : tie.Need-sub-t24
@@ -54,7 +54,7 @@ returns-3 c =
       (omega (arith, start .pre .0 .0, start .pre .0 .3 .0), w .ensures .0),
       λ s h d.
           let q = w .ensures .1 s h in
-          out-old (a .b) (a .disk .now) (a .flash .now) (a .addrs .now) (a .blocks .now) s h (w .result) _ _ q (a .a .0) (r .result) (r .ensures (a .b .blocks) (a .b .rows) (s .rows) (h .rows-are)) (at-if1 .if1 .left) (at-if2 .if2 .left) (start .pre .0 .0) (t .result) _
+          out-old (a .b) (a .disk .now) (a .flash .now) (a .addrs .now) (a .blocks .now) s h (w .result) _ _ q (a .a .0) (r .result) (r .ensures .1 (a .b .blocks) (a .b .rows) (s .rows) (h .rows-are)) (at-if1 .if1 .left) (at-if2 .if2 .left) (start .pre .0 .0) (t .result) _
           (t .ensures (cleanFirst (getD (s .rows) 0 noRow .dirty && true) (s .rows)) (s .free) (s .used) (addrs-after (a .b) (a .disk .now) (a .flash .now) (a .addrs .now) (a .blocks .now) s h (w .result) _ _ q) (h .blocks-are)),
     )
 

@@ -21,7 +21,7 @@ returns-2 c =
     let p = c .before .before in
     let at-if1 = p .before .before in
     let a = at-if1 .before .before .before .before .args in
-    ((λ B l free used gone h hb ds e. gone-known B (a .b .slots) (a .blocks .now) (take (a .b .held - 1) l) l free used hb (a .place) (c .before .knows .result) _ (p .block-fingerprint .ensures .0) (λ q. c .before .knows .ensures (a .b .blocks) (a .b .rows) l q h) (omega (arith, at-if1 .if1 .left)) gone e (c .if2 .taken)), λ f. refl)
+    ((λ B l free used gone h hb ds e. gone-known B (a .b .slots) (a .blocks .now) (take (a .b .held - 1) l) l free used hb (a .place) (c .before .knows .result) _ (p .block-fingerprint .ensures .0) (λ q. c .before .knows .ensures .1 (a .b .blocks) (a .b .rows) l q h) (omega (arith, at-if1 .if1 .left)) gone e (c .if2 .taken)), λ f. refl)
 
 returns-3 : tie.Need-returns-3
 returns-3 c =
@@ -34,8 +34,8 @@ returns-3 c =
     let start = at-if1 .before .before .before .before in
     let a = start .args in (
       (λ B l free used gone h hb ds e. c .before .before .to-front .ensures
-          ∙ gone-freed B (a .b .slots) (a .blocks .now) (take (a .b .held - 1) l) l free used hb (a .place) (at-knows .knows .result) _ (p .block-fingerprint .ensures .0) (λ q. at-knows .knows .ensures (a .b .blocks) (a .b .rows) l q h) (omega (arith, at-if1 .if1 .left)) gone e (at-if2 .if2 .left) ds
-          (sym (at-uncached .uncached .ensures B (a .b .blocks) (a .b .rows) (a .b .held) l free used h hb (omega arith)) ∙ at-if3 .if3 .taken)),
+          ∙ gone-freed B (a .b .slots) (a .blocks .now) (take (a .b .held - 1) l) l free used hb (a .place) (at-knows .knows .result) _ (p .block-fingerprint .ensures .0) (λ q. at-knows .knows .ensures .1 (a .b .blocks) (a .b .rows) l q h) (omega (arith, at-if1 .if1 .left)) gone e (at-if2 .if2 .left) ds
+          (sym (at-uncached .uncached .ensures .1 B (a .b .blocks) (a .b .rows) (a .b .held) l free used h hb (omega arith)) ∙ at-if3 .if3 .taken)),
       λ f. clash (ap full (sym (c .before .before .to-front .ensures)) ∙ f) (front-free (a .b .slots) (a .place) (a .blocks .now) (start .pre .0 .2 .2) (omega (arith, at-if1 .if1 .left))),
     )
 
@@ -44,7 +44,7 @@ returns-4 c =
     let start = c .before .before .before .before .before .before .before .before .before .before .before .before in
     let a = start .args in (
       (λ B l free used gone h hb ds e. gone-cached B (a .b .slots) (a .blocks .now) (take (a .b .held - 1) l) l free used hb (a .place) gone
-          (sym (c .before .uncached .ensures B (a .b .blocks) (a .b .rows) (a .b .held) l free used h hb (omega arith)) ∙ c .if3 .left)),
+          (sym (c .before .uncached .ensures .1 B (a .b .blocks) (a .b .rows) (a .b .held) l free used h hb (omega arith)) ∙ c .if3 .left)),
       λ f. refl,
     )
 

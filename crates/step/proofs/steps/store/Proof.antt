@@ -21,7 +21,7 @@ lose-requires c κs =
     let q = start .pre .1 .0 in
     let v = at-victim .victim in
     let w = at-slot-at .slot-at in
-    let et = v .ensures .1 (a .b .size) (a .b .blocks) (a .b .rows) (q .0 .rows) (q .0 .free) (q .0 .used) (q .1 .rows-are) (q .1 .blocks-are) in
+    let et = v .ensures .1 .1 (a .b .blocks) (a .b .rows) (q .0 .rows) (q .0 .free) (q .0 .used) (q .1 .rows-are) (q .1 .blocks-are) in
     let kb = at-below (a .b) (a .disk .now) (a .flash .now) (a .addrs .now) (a .blocks .now) (q .0) (q .1) (q .2) (start .pre .0 .0) (v .result) (w .result .0) et (w .ensures) in (
       (v .ensures .0, kb, start .pre .0 .4),
       (q .0, q .1, q .2, at-picked (a .b) (a .disk .now) (a .flash .now) (a .addrs .now) (a .blocks .now) (q .0) (q .1) (q .2) (start .pre .0 .0) (v .result) (w .result .0) et (w .ensures), at-slot (a .b) (a .disk .now) (a .flash .now) (a .addrs .now) (a .blocks .now) (q .0) (q .1) (q .2) (start .pre .0 .0) (v .result) (w .result .0) et (w .ensures)),
@@ -36,7 +36,7 @@ fill-requires c κs =
     let q = start .pre .1 .0 in
     let v = at-victim .victim in
     let w = at-slot-at .slot-at in
-    let et = v .ensures .1 (a .b .size) (a .b .blocks) (a .b .rows) (q .0 .rows) (q .0 .free) (q .0 .used) (q .1 .rows-are) (q .1 .blocks-are) in
+    let et = v .ensures .1 .1 (a .b .blocks) (a .b .rows) (q .0 .rows) (q .0 .free) (q .0 .used) (q .1 .rows-are) (q .1 .blocks-are) in
     let kb = at-below (a .b) (a .disk .now) (a .flash .now) (a .addrs .now) (a .blocks .now) (q .0) (q .1) (q .2) (start .pre .0 .0) (v .result) (w .result .0) et (w .ensures) in
     (v .ensures .0, rw (parts-length (a .b .size) (a .b .slots) (a .flash .now) (q .0 .flash) (q .1 .flash-is)) (block-ends (w .result .0) (a .b .slots) (a .b .size) kb), start .pre .0 .1, start .pre .0 .2, start .pre .0 .4 .2)
 
@@ -54,7 +54,7 @@ returns c =
     let g = at-fill .fill in (
       l .ensures .0,
       λ s f x h ds ef ex.
-          let et = v .ensures .1 (a .b .size) (a .b .blocks) (a .b .rows) (s .rows) (s .free) (s .used) (h .rows-are) (h .blocks-are) in
+          let et = v .ensures .1 .1 (a .b .blocks) (a .b .rows) (s .rows) (s .free) (s .used) (h .rows-are) (h .blocks-are) in
           let d0 = start .pre .0 .0 in
           let p = at-picked (a .b) (a .disk .now) (a .flash .now) (a .addrs .now) (a .blocks .now) s h ds d0 (v .result) (w .result .0) et (w .ensures) in
           let es = at-slot (a .b) (a .disk .now) (a .flash .now) (a .addrs .now) (a .blocks .now) s h ds d0 (v .result) (w .result .0) et (w .ensures) in

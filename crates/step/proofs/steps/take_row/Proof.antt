@@ -14,7 +14,7 @@ returns c =
     let start = p .before .before .before .before in
     let a = start .args in
     λ l free used h hb. (
-      at-place-of .place-of .ensures free used (getD l (a .i) noRow .fingerprint) hb (sym (p .address-fingerprint .ensures .0 ∙ fp-is (a .b .blocks) (a .b .rows) (a .b .held) (a .addrs .now) l h (a .i) (start .pre .0) noRow)),
+      at-place-of .place-of .ensures .1 free used (getD l (a .i) noRow .fingerprint) hb (sym (p .address-fingerprint .ensures .0 ∙ fp-is (a .b .blocks) (a .b .rows) (a .b .held) (a .addrs .now) l h (a .i) (start .pre .0) noRow)),
       c .before .before .remove-row .ensures ∙ removed (a .b .blocks) (a .b .rows) (a .b .held) (a .addrs .now) l h (a .i) (start .pre .0) noRow,
     )
 

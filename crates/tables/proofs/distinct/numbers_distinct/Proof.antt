@@ -3,7 +3,7 @@ use mathlib.Core.Path.{subst, _≡_, refl, sym, _∙_}
 use lib.ListN.{drop-of-length-le, length, drop}
 use Rattle.tables.specs.SoundLaws.{Read, Marked, marked-none, twice, once, marked, values-at, values-length}
 use Rattle.tables.specs.Bits.{bitAt}
-use Rattle.tables.specs.Sound.{distinct, numberOf}
+use Rattle.tables.specs.Sound.{distinct, numberIn}
 use Rattle.tables.specs.Rows.{rows, rowAt}
 use mathlib.Core.List.{map}
 use mathlib.Core.Bool.{true}
@@ -15,7 +15,7 @@ use Rattle.tables.proofs.distinct.numbers_distinct.Statement.{statement
 use Rattle.tables.proofs.distinct.numbers_distinct.Tie as tie
 
 abbrev Inv-loop : tie.InvT-loop
-Inv-loop t n which seen₀ k₀ seen k = (k ≤ n) × (length seen ≡ length seen₀) × (distinct (drop k (map (numberOf which) (rows n t))) ≡ true) × Marked (bitAt seen) (length seen * 8) (drop k (map (numberOf which) (rows n t)))
+Inv-loop t n which seen₀ k₀ seen k = (k ≤ n) × (length seen ≡ length seen₀) × (distinct (drop k (map (numberIn which) (rows n t))) ≡ true) × Marked (bitAt seen) (length seen * 8) (drop k (map (numberIn which) (rows n t)))
 
 abbrev μ-loop : tie.MeasureT-loop
 μ-loop t n which seen₀ k₀ seen k = k
@@ -24,24 +24,24 @@ loop-holds : tie.Need-loop-holds Inv-loop μ-loop
 unfolding distinct
 loop-holds c =
     let a = c .before .before .args in
-    let ws = map (numberOf (a .which)) (rows (a .n) (a .t .now)) in
-    let h : length ws ≤ a .n = omega (arith, values-length (numberOf (a .which)) (a .n) (a .t .now)) in
+    let ws = map (numberIn (a .which)) (rows (a .n) (a .t .now)) in
+    let h : length ws ≤ a .n = omega (arith, values-length (numberIn (a .which)) (a .n) (a .t .now)) in
     (search needs, refl, rw (drop-of-length-le ws h), marked-none (bitAt (a .seen .now)) (length (a .seen .now) * 8) ws (a .n) h (c .before .before .pre .1 .1))
 
 word : (c : tie.After-number-at Inv-loop μ-loop)
     → (let s = c .before .before .before .before .before .args in
-    Read (map (numberOf (s .which)) (rows (s .n) (s .t .now))) (length (c .before .before .loop .seen) * 8) (c .before .before .loop .k) (c .number-at .result))
+    Read (map (numberIn (s .which)) (rows (s .n) (s .t .now))) (length (c .before .before .loop .seen) * 8) (c .before .before .loop .k) (c .number-at .result))
 word c =
     let l = c .before .before in
     let s = l .before .before .before in
     let a = s .args in
     let k = l .loop .k in
     let h : k - 1 < a .n = omega arith in
-    let e : c .number-at .result ≡ numberOf (a .which) (rowAt (a .t .now) (k - 1)) = c .number-at .ensures in
+    let e : c .number-at .result ≡ numberIn (a .which) (rowAt (a .t .now) (k - 1)) = c .number-at .ensures in
     record {
       some = c .before .loop-test .taken;
-      within = omega (arith, values-length (numberOf (a .which)) (a .n) (a .t .now));
-      is = e ∙ sym (values-at (numberOf (a .which)) (a .n) (a .t .now) (k - 1) h);
+      within = omega (arith, values-length (numberIn (a .which)) (a .n) (a .t .now));
+      is = e ∙ sym (values-at (numberIn (a .which)) (a .n) (a .t .now) (k - 1) h);
       has = omega (arith, e, s .pre .1 .0 (k - 1) h, l .loop .inv .1);
     }
 
@@ -76,7 +76,7 @@ returns-2 c =
     let a = c .before .before .before .before .args in
     let e : c .before .loop .k ≡ 0 = omega arith in
     let i = c .before .loop .inv in
-    let ws = map (numberOf (a .which)) (rows (a .n) (a .t .now)) in
+    let ws = map (numberIn (a .which)) (rows (a .n) (a .t .now)) in
     (sym (subst (λ (k : ℕ). distinct (drop k ws) ≡ true) e (i .2)), i .1)
 
 pub numbers-distinct-spec : {M : Type 1} → statement M

@@ -6,7 +6,7 @@ use Prim.Native.Nat.{ℕ}
 use lib.ListN.{length-replicate, getD}
 use Rattle.tables.specs.SoundLaws.{filled-with}
 use Rattle.paper.specs.Cache.{readAs}
-use Rattle.paper.specs.Engine.{engine}
+use Rattle.parts.specs.Rep.{engine}
 use Rattle.serve.specs.Calls.{leaves}
 use borrow.Author.Needs.{needs}
 use Rattle.turns.proofs.read.read_missed.Statement.{statement}
@@ -30,8 +30,8 @@ returns c =
       w .ensures .0,
       λ s x lent h sd ex.
           w .ensures .1 s lent h sd
-          ∙ ap (λ t. leaves (a .b) lent (readAs (engine (a .b .size)) (a .b .rows) s (a .a .0)
-          (cond t (getD (s .disk) (a .a .0) (engine (a .b .size) .blank)) x) none)) (sym (y .if1 .taken)),
+          ∙ ap (λ t. leaves (a .b) lent (readAs (engine (a .b)) (a .b .rows) s (a .a .0)
+          (cond t (getD (s .disk) (a .a .0) (engine (a .b) .blank)) x) none)) (sym (y .if1 .taken)),
     )
 
 read-taken-requires : tie.Need-read-taken-requires
@@ -46,8 +46,8 @@ returns-2 c =
       w .ensures .0,
       λ s x lent h sd ex.
           w .ensures .1 s x lent h sd ex
-          ∙ ap (λ t. leaves (a .b) lent (readAs (engine (a .b .size)) (a .b .rows) s (a .a .0)
-          (cond t (getD (s .disk) (a .a .0) (engine (a .b .size) .blank)) x) none)) (sym (y .if1 .left)),
+          ∙ ap (λ t. leaves (a .b) lent (readAs (engine (a .b)) (a .b .rows) s (a .a .0)
+          (cond t (getD (s .disk) (a .a .0) (engine (a .b) .blank)) x) none)) (sym (y .if1 .left)),
     )
 
 pub read-missed-spec : {M : Type 1} → statement M

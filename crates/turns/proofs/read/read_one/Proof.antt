@@ -3,7 +3,7 @@ use mathlib.Core.Path.{_∙_, ap, sym}
 use mathlib.Core.Bool.{cond}
 use lib.ListN.{getD}
 use Rattle.paper.specs.Cache.{readAs}
-use Rattle.paper.specs.Engine.{engine}
+use Rattle.parts.specs.Rep.{engine}
 use Rattle.serve.specs.Calls.{leaves}
 use Rattle.serve.specs.ServeLaws.{found-hit, found-miss}
 use borrow.Author.Needs.{needs}
@@ -19,8 +19,8 @@ read-hit-requires c κs =
     let s = st .pre .1 .0 in
     let h = st .pre .1 .1 in
     let t = found-hit (a .b) (a .disk .now) (a .flash .now) (a .addrs .now) (a .blocks .now) s h (a .a .0) (r .row-of .result) (p .place-of-row .result)
-    (r .row-of .ensures (a .b .blocks) (a .b .rows) (s .rows) (h .rows-are))
-    (p .place-of-row .ensures (a .b .blocks) (a .b .rows) (s .rows) (s .free) (s .used) (h .rows-are) (h .blocks-are)) ((c .before .before .before .before) .if1 .taken) in
+    (r .row-of .ensures .1 (a .b .blocks) (a .b .rows) (s .rows) (h .rows-are))
+    (p .place-of-row .ensures .1 (a .b .blocks) (a .b .rows) (s .rows) (s .free) (s .used) (h .rows-are) (h .blocks-are)) ((c .before .before .before .before) .if1 .taken) in
     ((t .is-held, t .is-cached, st .pre .0), (a .disk .now, s, h, t))
 
 returns : tie.Need-returns
@@ -31,10 +31,10 @@ returns c =
     let w = (c .before .before .before .before .before .before) .read-hit in (
       w .ensures .0,
       λ s x lent h sd ex.
-          w .ensures .1 (a .disk .now) s (cond (a .first) (getD (s .disk) (a .a .0) (engine (a .b .size) .blank)) x) lent h sd
+          w .ensures .1 (a .disk .now) s (cond (a .first) (getD (s .disk) (a .a .0) (engine (a .b) .blank)) x) lent h sd
           (found-hit (a .b) (a .disk .now) (a .flash .now) (a .addrs .now) (a .blocks .now) s h (a .a .0) (r .row-of .result) (p .place-of-row .result)
-          (r .row-of .ensures (a .b .blocks) (a .b .rows) (s .rows) (h .rows-are))
-          (p .place-of-row .ensures (a .b .blocks) (a .b .rows) (s .rows) (s .free) (s .used) (h .rows-are) (h .blocks-are))
+          (r .row-of .ensures .1 (a .b .blocks) (a .b .rows) (s .rows) (h .rows-are))
+          (p .place-of-row .ensures .1 (a .b .blocks) (a .b .rows) (s .rows) (s .free) (s .used) (h .rows-are) (h .blocks-are))
           ((c .before .before .before .before .before .before .before .before .before .before .before) .if1 .taken)),
     )
 
@@ -47,11 +47,11 @@ returns-2 c =
       w .ensures .0,
       λ s x lent h sd ex.
           w .ensures .1 s x lent h sd ex
-          ∙ ap (λ o. leaves (a .b) lent (readAs (engine (a .b .size)) (a .b .rows) s (a .a .0)
-          (cond (a .first) (getD (s .disk) (a .a .0) (engine (a .b .size) .blank)) x) o))
+          ∙ ap (λ o. leaves (a .b) lent (readAs (engine (a .b)) (a .b .rows) s (a .a .0)
+          (cond (a .first) (getD (s .disk) (a .a .0) (engine (a .b) .blank)) x) o))
           (sym (found-miss (a .b) (a .disk .now) (a .flash .now) (a .addrs .now) (a .blocks .now) s h (a .a .0) (r .row-of .result) (p .place-of-row .result)
-          (r .row-of .ensures (a .b .blocks) (a .b .rows) (s .rows) (h .rows-are))
-          (p .place-of-row .ensures (a .b .blocks) (a .b .rows) (s .rows) (s .free) (s .used) (h .rows-are) (h .blocks-are))
+          (r .row-of .ensures .1 (a .b .blocks) (a .b .rows) (s .rows) (h .rows-are))
+          (p .place-of-row .ensures .1 (a .b .blocks) (a .b .rows) (s .rows) (s .free) (s .used) (h .rows-are) (h .blocks-are))
           ((c .before .before .before .before .before .before .before .before .before .before .before .before .before .before .before .before) .if1 .left))),
     )
 
