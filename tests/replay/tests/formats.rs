@@ -43,7 +43,7 @@ fn number(name: &str) -> u64 {
 #[test]
 fn the_numbers() {
     let page = read("docs/FORMATS.md");
-    let refusals = ["OUTSIDE", "WRONG_LENGTH", "NO_ADDRESS", "BAD_ADDRESSES", "BAD_BLOCKS", "DIRTY_UNCACHED", "COUNTER_FULL", "BAD_COUNT"];
+    let refusals = ["OUTSIDE", "WRONG_LENGTH", "NO_ADDRESS", "BAD_ADDRESSES", "BAD_BLOCKS", "DIRTY_UNCACHED", "COUNTER_FULL", "BAD_COUNT", "TOO_LARGE"];
     let mut told: Vec<u64> = page
         .split("## Refusals")
         .nth(1)
@@ -80,7 +80,7 @@ fn the_numbers() {
 #[test]
 fn the_lengths() {
     let page = read("docs/FORMATS.md");
-    for length in ["STATE", "LABEL", "ANSWER", "MANY_ANSWER", "ROW"] {
+    for length in ["STATE", "LABEL", "ANSWER", "MANY_ANSWER", "COUNTS", "ROW"] {
         assert!(page.contains(&format!(" {} bytes", number(length))), "{length}");
     }
     let (first, last) = (number("STATE_LABEL"), number("STATE") - 1);
@@ -91,5 +91,5 @@ fn the_lengths() {
     }
     let fields = format!("| bytes of a part | 0 to 3 | {} | {} to 6, in the manager's alone |", number("REPORT_DIRTY"), number("REPORT_SEAT"));
     assert!(number("REPORT_ADDRESS") == 0 && page.contains(&fields), "the fields of a report");
-    println!("5 lengths, the label in bytes {first} to {last} of the state, and the fields of a report");
+    println!("6 lengths, the label in bytes {first} to {last} of the state, and the fields of a report");
 }

@@ -1,4 +1,5 @@
 //! The service's C functions, on boxes in bytes.
+use model::exam::Question;
 use model::{Call, Folder, Lent, Report};
 
 type P = *const u8;
@@ -26,6 +27,7 @@ extern "C" {
     fn mindavehu_look(s: P, sl: usize, address: u32, d: P, dl: usize, f: P, fl: usize, a: P, al: usize, b: P, bl: usize, w: M, wl: usize) -> u32;
     fn mindavehu_manager_report(s: P, sl: usize, d: P, dl: usize, f: P, fl: usize, a: P, al: usize, b: P, bl: usize, r: M, rl: usize) -> u32;
     fn mindavehu_desk_report(s: P, sl: usize, d: P, dl: usize, f: P, fl: usize, a: P, al: usize, b: P, bl: usize, r: M, rl: usize) -> u32;
+    fn mindavehu_scores(b: usize, p: usize, m: usize, d: usize, l: P, ll: usize, disk: P, dl: usize, k: usize, c: M, cl: usize) -> u32;
 }
 
 /// The buffers of a call in their order: state, disk, flash, address table, block table, lent block, answer and, where a box has all of its own, the label
@@ -93,6 +95,20 @@ pub fn call_report(report: Report, lent: &mut Lent, bytes: &mut [u8]) -> u32 {
     report_on_slices(report, [state, disk, flash, addresses, blocks, bytes])
 }
 
+fn question_on_slices(q: &Question, label: &[u8], disk: &[u8], counts: &mut [u8]) -> u32 {
+    let Question { b, p, m, d, k, .. } = *q;
+    // SAFETY: each pointer comes with the length of its own slice.
+    unsafe { mindavehu_scores(b, p, m, d, label.as_ptr(), label.len(), disk.as_ptr(), disk.len(), k, counts.as_mut_ptr(), counts.len()) }
+}
+
+/// The counts of an exam question.
+pub fn call_question(q: &mut Question) -> u32 {
+    let mut counts = std::mem::take(&mut q.counts);
+    let number = question_on_slices(q, &q.label, &q.disk, &mut counts);
+    q.counts = counts;
+    number
+}
+
 const GUARD: usize = 32;
 
 /// Buffers copied to places `shift` bytes (below 32) off, between bytes that must keep their values.
@@ -157,5 +173,16 @@ pub fn call_report_guarded(report: Report, lent: &mut Lent, bytes: &mut [u8], sh
     let mut lifted = Lifted::new(&own, shift);
     let number = report_on_slices(report, lifted.slices());
     lifted.put_back(own, &format!("the report {report:?}"));
+    number
+}
+
+/// The same as `call_question` with every buffer lifted.
+pub fn call_question_guarded(q: &mut Question, shift: usize) -> u32 {
+    let given = q.clone();
+    let own: Buffers<3> = [&mut q.label, &mut q.disk, &mut q.counts];
+    let mut lifted = Lifted::new(&own, shift);
+    let [label, disk, counts] = lifted.slices();
+    let number = question_on_slices(&given, label, disk, counts);
+    lifted.put_back(own, "an exam question");
     number
 }
