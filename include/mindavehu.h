@@ -140,9 +140,9 @@ extern "C" {
 #endif
 
 /* The version of this header and of the library that belongs to it. Version 1 had a state of 72 bytes without a label, and opened a box without one; in
- * version 2 the layout of the state is another: the label follows the nine numbers; version 2.1 has mindavehu_scores besides. In version 3 each of the three writes takes a seat behind its address,
- * the address table keeps the seats in two bytes of a row that were zero before, and there are two reports. Boxes of version 2 are boxes of version 3 in which
- * every seat is 0. */
+ * version 2 the layout of the state is another: the label follows the nine numbers; version 2.1 has mindavehu_scores besides. In version 3 each of the
+ * three writes takes a seat behind its address, the address table keeps the seats in two bytes of a row that were zero before, and there are two reports.
+ * Boxes of version 2 are boxes of version 3 in which every seat is 0. */
 #define MINDAVEHU_VERSION "3.0.0"
 #define MINDAVEHU_VERSION_MAJOR 3
 #define MINDAVEHU_VERSION_MINOR 0
