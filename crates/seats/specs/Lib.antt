@@ -1,9 +1,12 @@
 -- What a reader must believe: what the desk sees of a run; the reports by example
 pub mod TwoRuns
 pub mod Reported
--- the theorem, two runs computed, and the reports' refusals
+-- the theorems, for D-LRU and for D-ARC; two runs computed; the reports' refusals; what a policy must promise for two runs
 pub mod TwoRunsLaws
+pub mod ArcTwoRuns
 pub mod TwoRunsWorked
 pub mod ReportLaws
+pub mod Blind
 -- lemmas
-pub mod Bare
+pub mod ArcBlind
+pub mod Alike
