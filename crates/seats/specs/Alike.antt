@@ -2,21 +2,22 @@
 -- those over its policy; then the desk sees the same of two runs.
 -- Assumes nothing.
 use mathlib.Core.Path.{_≡_, refl, sym, ap, ap₂, _∙_, subst₂}
-use mathlib.Core.Bool.{cond}
+use mathlib.Core.Bool.{Bool, _&&_, _||_, cond}
 use mathlib.Core.List.{List, [], _∷_, _++_, map}
 use mathlib.Core.Logic.{_≢_}
 use Prim.Native.Nat.{ℕ, _-_, _*_}
 use lib.Dec.{eqb}
-use lib.ListN.{length-map}
+use lib.ListN.{length, length-map}
 use borrow.Author.Tests.{eqb-true, eqb-false}
 use Rattle.tables.specs.Rows.{flat, zeros}
 use Rattle.paper.specs.Cache.{Numbers, Hashing, AddressRow, Box, Outcome, Counters, counted}
 use Rattle.paper.specs.KeyedLaws.{by-test}
 use Rattle.paper.specs.Engine.{Fixed, labelled}
-use Rattle.paper.specs.Lent.{Ask, refused, answered, callOf, aboutAsk, lentBlock, join, blockAfter, partAfter}
-use Rattle.paper.specs.Reports.{desk, reportRow, reportOf}
+use Rattle.paper.specs.Lent.{Ask, refused, answered, callOf, aboutAsk, addressOf, lentBlock, counts, join, blockAfter, partAfter}
+use Rattle.paper.specs.Lent.{Test, test, first, otherLength, wrongBlock, outside, over}
+use Rattle.paper.specs.Reports.{desk, width, reportRow, reportOf}
 use Rattle.paper.specs.Batch.{Batched, start, blocksIn}
-use Rattle.paper.specs.BatchLent.{Asking, one, many, report, BatchAnswer, batched}
+use Rattle.paper.specs.BatchLent.{Asking, one, many, report, badCount, anyOutside, BatchAnswer, batched}
 use Rattle.arc.specs.Policy.{Policy, Served, serveBy}
 use Rattle.arc.specs.Folder as Folder
 use Rattle.arc.specs.Folder.{FolderBy}
@@ -78,6 +79,33 @@ module _ {F : Type 0} {B : ℕ} where
   abbrev pub batchTold : Batched F (Fixed B) → Told
   batchTold r = folder (batched (r .hits) (r .flashWrites) (r .primaryWrites) (r .fetches)) (join (blocksIn (r .filled)))
 
+-- the number that a call gets, 0 where it is served: by the test for 1 or 11, the tests of the lent memory and the counters
+pub record Tests : Type 0 where
+  pub buffers : Bool
+  pub six : Bool
+  pub seven : Bool
+  pub eight : Bool
+
+abbrev tableTests : Tests → List Test → List Test
+tableTests b rest = test (b .six) 6 ∷ test (b .seven) 7 ∷ test (b .eight) 8 ∷ rest
+
+abbrev pub numberBy : Numbers → Test → Tests → Counters → Asking → ℕ
+numberBy N x b k (one q) =
+    first (x ∷ test (b .buffers || wrongBlock (N .B) (lentBlock q)) 2 ∷ test (outside (N .P) (addressOf q)) 3 ∷ tableTests b (test (counts q && over k) 9 ∷ []))
+numberBy N x b k (many l buffer) =
+    first (x ∷ test (b .buffers || otherLength buffer (length l * N .B)) 2 ∷ test (badCount l) 10 ∷ test (anyOutside (N .P) l) 3
+    ∷ tableTests b (test (over k) 9 ∷ []))
+numberBy N x b k (report w lent) = first (x ∷ test (b .buffers || otherLength lent (N .m * width w)) 2 ∷ tableTests b [])
+
+number-bare : (N : Numbers) (x : Test) (b : Tests) (k : Counters) (q : Asking) → numberBy N x b k (bareAsking q) ≡ numberBy N x b k q
+number-bare N x b k (one q) =
+    let l = ask-bare q .lent in
+    let a = ask-bare q .about in
+    λ i. first (x ∷ test (b .buffers || wrongBlock (N .B) (l i)) 2 ∷ test (outside (N .P) (a i .address)) 3
+    ∷ tableTests b (test (a i .counts && over k) 9 ∷ []))
+number-bare N x b k (many l buffer) = refl
+number-bare N x b k (report w lent) = refl
+
 refused-bare : (k : ℕ) (q : Asking) → refusedTold k (bareAsking q) ≡ refusedTold k q
 refused-bare k (one q) = ap (λ b. single (refused k) b []) (ask-bare q .lent)
 refused-bare k (many l buffer) = refl
@@ -111,21 +139,22 @@ module _ {S : Type 0} (N : Numbers) (pol : Policy (Fixed 32) (Fixed (N .B)) S) w
       record { kept = r .kept; box = r .batched .box; counters = r .batched .counters }
   servedState s (report w lent) = s
 
-  -- A kind of box whose calls are those over the policy. Of what two served calls leave with the same counters, every call gets the same number.
+  -- A kind of box whose calls are those over the policy. What two served calls leave passes the same tests, or both leave all as it was.
   pub record Serves {M : Type 0} (runs : Runs M) : Type 0 where
-    pub number : M → Asking → ℕ
     pub state : M → Held
+    pub tests : M → Tests
+    pub unfit : Test
+    pub number : M → Asking → ℕ
+    pub numbered : (t : M) (q : Asking) → number t q ≡ numberBy N unfit (tests t) ((state t) .counters) q
     pub counters : (t : M) → runs .counters t ≡ (state t) .counters
     pub tells : (t : M) (q : Asking) → number t q ≡ 0 → runs .tells t q ≡ servedTold (state t) q
     pub leaves : (t : M) (q : Asking) → number t q ≡ 0 → state (runs .next t q) ≡ servedState (state t) q
+    pub passes : (t u : M) (q : Asking) → tests t ≡ tests u → number t q ≡ 0 → number u (bareAsking q) ≡ 0
+        → tests (runs .next t q) ≡ tests (runs .next u (bareAsking q))
     pub refuses : (t : M) (q : Asking) → number t q ≢ 0 → runs .tells t q ≡ refusedTold (number t q) q
     pub keeps : (t : M) (q : Asking) → number t q ≢ 0 → runs .next t q ≡ t
     pub reports : (t : M) (lent : List ℕ)
         → runs .deskReport t lent ≡ cond (eqb (number t (report desk lent)) 0) (reportOf desk (N .m) ((state t) .box .rows)) lent
-    pub seatless : (t : M) (q : Asking) → number t (bareAsking q) ≡ number t q
-    pub numbers : (t u : M) (q : Asking) → ((a : Asking) → number t a ≡ number u a) → number t q ≡ 0 → number u (bareAsking q) ≡ 0
-        → (state (runs .next t q)) .counters ≡ (state (runs .next u (bareAsking q))) .counters
-        → (a : Asking) → number (runs .next t q) a ≡ number (runs .next u (bareAsking q)) a
 
   module _ (bl : Blind pol) where
     served-bare : (s : Held) (q : Ask) → servedBy (bareState s) (bareAsk q) ≡ bareServed (servedBy s q)
@@ -156,13 +185,13 @@ module _ {S : Type 0} (N : Numbers) (pol : Policy (Fixed 32) (Fixed (N .B)) S) w
     state-bare s (report w lent) = refl
 
     module _ {M : Type 0} (runs : Runs M) (sv : Serves runs) where
-      -- Two lent memories are alike: the same but for seats, and every call gets the same number in both.
+      -- Two lent memories are alike: the same but for seats, and they pass the same tests.
       record Like (t u : M) : Type 0 where
         state : bareState (sv .state t) ≡ bareState (sv .state u)
-        numbers : (q : Asking) → sv .number t q ≡ sv .number u q
+        tests : sv .tests t ≡ sv .tests u
 
       like-itself : (t : M) → Like t t
-      like-itself t = record { state = refl; numbers = λ q. refl }
+      like-itself t = record { state = refl; tests = refl }
 
       -- what is got without seats is the same of both
       same-for : {A : Type 0} (f g : Held → Asking → A) → ((s : Held) (q : Asking) → f (bareState s) (bareAsking q) ≡ g s q)
@@ -171,7 +200,12 @@ module _ {S : Type 0} (N : Numbers) (pol : Policy (Fixed 32) (Fixed (N .B)) S) w
           sym (e (sv .state t) q) ∙ ap₂ f (k .state) (sym (asking-twice q)) ∙ e (sv .state u) (bareAsking q)
 
       same-number : (t u : M) (q : Asking) → Like t u → sv .number t q ≡ sv .number u (bareAsking q)
-      same-number t u q k = k .numbers q ∙ sym (sv .seatless u q)
+      same-number t u q k =
+          let c = ap (λ (s : Held). s .counters) (k .state) in
+          sv .numbered t q
+          ∙ ap₂ (λ b c. numberBy N (sv .unfit) b c q) (k .tests) c
+          ∙ sym (number-bare N (sv .unfit) (sv .tests u) ((sv .state u) .counters) q)
+          ∙ sym (sv .numbered u (bareAsking q))
 
       tells-like : (t u : M) (q : Asking) → Like t u → runs .tells t q ≡ runs .tells u (bareAsking q)
       tells-like t u q k =
@@ -196,7 +230,7 @@ module _ {S : Type 0} (N : Numbers) (pol : Policy (Fixed 32) (Fixed (N .B)) S) w
           let s = ap bareState (sv .leaves t q z)
           ∙ same-for servedState (λ x a. bareState (servedState x a)) state-bare t u q k
           ∙ sym (ap bareState (sv .leaves u r z′)) in
-          record { state = s; numbers = sv .numbers t u q (k .numbers) z z′ (ap (λ x. x .counters) s) })
+          record { state = s; tests = sv .passes t u q (k .tests) z z′ })
           (λ y.
           let z = eqb-false (sv .number t q) 0 y in
           subst₂ Like (sym (sv .keeps t q z)) (sym (sv .keeps u r (λ w. z (n ∙ w)))) k)
@@ -206,7 +240,7 @@ module _ {S : Type 0} (N : Numbers) (pol : Policy (Fixed 32) (Fixed (N .B)) S) w
           let rows = sym (desk-bare (N .m) ((sv .state t) .box .rows))
           ∙ ap (λ (s : Held). reportOf desk (N .m) (s .box .rows)) (k .state)
           ∙ desk-bare (N .m) ((sv .state u) .box .rows) in
-          sv .reports t lent ∙ ap₂ (λ n x. cond (eqb n 0) x lent) (k .numbers (report desk lent)) rows ∙ sym (sv .reports u lent)
+          sv .reports t lent ∙ ap₂ (λ n x. cond (eqb n 0) x lent) (same-number t u (report desk lent) k) rows ∙ sym (sv .reports u lent)
 
       seen-like : (lent : List ℕ) (t u : M) (q : Asking) → Like t u → seen runs lent t q ≡ seen runs lent u (bareAsking q)
       seen-like lent t u q k =
@@ -226,6 +260,7 @@ module _ {S : Type 0} (N : Numbers) (pol : Policy (Fixed 32) (Fixed (N .B)) S) w
           ap₂ {C = List Seen} (λ x l. x ∷ l) (seen-like lent t u q k)
           (sees-like lent (runs .next t q) (runs .next u (bareAsking q)) qs (next-like t u q k))
 
-      pub runs-alike : (lent : List ℕ) (t : M) (qs rs : List Asking) → map bareAsking qs ≡ map bareAsking rs → deskSees runs lent t qs ≡ deskSees runs lent t rs
+      pub runs-alike : (lent : List ℕ) (t : M) (qs rs : List Asking) → map bareAsking qs ≡ map bareAsking rs
+          → deskSees runs lent t qs ≡ deskSees runs lent t rs
       runs-alike lent t qs rs e =
           sees-like lent t t qs (like-itself t) ∙ ap (deskSees runs lent t) e ∙ sym (sees-like lent t t rs (like-itself t))

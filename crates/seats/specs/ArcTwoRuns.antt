@@ -1,15 +1,16 @@
 -- The theorem of two runs for boxes that run D-ARC.
-use mathlib.Core.Path.{_≡_, refl, sym, ap, _∙_}
-use mathlib.Core.Bool.{_&&_, _||_}
-use mathlib.Core.List.{List, [], _∷_, map}
+use mathlib.Core.Path.{_≡_, refl, sym, ap, ap₂, _∙_}
+use mathlib.Core.Bool.{_||_}
+use mathlib.Core.List.{List, map}
 use mathlib.Core.Logic.{_≢_}
 use Prim.Native.Nat.{ℕ}
+use Rattle.tables.specs.Unsound.{addressesUnsound, blocksUnsound, dirtyUncached}
 use Rattle.paper.specs.Cache.{Numbers, Hashing}
 use Rattle.paper.specs.Engine.{Fixed, labelled}
-use Rattle.paper.specs.Lent.{Ask, calling, test, first, wrongBlock, outside, over}
+use Rattle.paper.specs.Lent.{test}
 use Rattle.paper.specs.BatchLent.{Asking, one, many, report}
-use Rattle.arc.specs.Arc.{Sizes, baseNumbers, Lists, arc}
-use Rattle.arc.specs.ArcLent.{ArcLent, unfitArc, wrongArcBuffers, arcTableTests, arcRefusal, arcServed}
+use Rattle.arc.specs.Arc.{Sizes, baseNumbers, mOf, Lists, arc}
+use Rattle.arc.specs.ArcLent.{ArcLent, unfitArc, listsUnsound, topUncached, topsIn, wrongArcBuffers, arcRefusal, arcServed}
 use Rattle.arc.specs.ArcFolder.{arcFolderRefusal, arcServedFolder}
 use Rattle.arc.specs.ArcReports.{arcReportRefusal, arcReported}
 use Rattle.arc.specs.ArcDemand.{listsOf, boxOf, arcNumber, arcNext}
@@ -17,7 +18,7 @@ use Rattle.arc.specs.ArcDemandLaws.{ArcPasses, served-is, arc-keeps, served-box
 use Rattle.arc.specs.ArcDemandLaws.{folder-served, arc-folder-keeps, folder-box, folder-lists, folder-counters, folder-passes}
 use Rattle.seats.specs.TwoRuns.{bareAsk, bareAsking, single, folder, number, arcTells, arcRuns, deskSees}
 use Rattle.seats.specs.ArcBlind.{arc-blind}
-use Rattle.seats.specs.Alike.{ask-bare, State, refusedTold, servedTold, servedState, Serves, runs-alike}
+use Rattle.seats.specs.Alike.{State, Tests, numberBy, refusedTold, servedTold, servedState, Serves, runs-alike}
 use Rattle.seats.specs.TwoRunsLaws.{same-buffers}
 
 module _ (Z : Sizes) where
@@ -30,62 +31,35 @@ module _ (Z : Sizes) where
   abbrev state : ArcLent → State (Fixed 32) (Fixed (Z .B)) Lists
   state t = record { kept = listsOf t; box = boxOf Z t; counters = t .base .counters }
 
-  -- of lent memory that passes, the numbers depend on the counters alone
-  same-numbers : (t u : ArcLent) (q : Asking) → ArcPasses Z t → ArcPasses Z u → t .base .counters ≡ u .base .counters → arcNumber Z t q ≡ arcNumber Z u q
+  abbrev tests : ArcLent → Tests
+  tests t =
+      let b = t .base in
+      record {
+        buffers = wrongArcBuffers Z t;
+        six = addressesUnsound (Z .P) (mOf Z) (b .n) (b .addresses) || listsUnsound Z ((boxOf Z t) .rows) (t .sizes) (t .lists);
+        seven = blocksUnsound (Z .C) (b .blocks);
+        eight = dirtyUncached (b .n) (Z .C) (b .addresses) (b .blocks) || topUncached H (boxOf Z t) (topsIn (t .sizes) (t .lists));
+      }
+
+  numbered : (t : ArcLent) (q : Asking) → arcNumber Z t q ≡ numberBy M (test (unfitArc Z) 11) (tests t) (t .base .counters) q
   unfolding arcRefusal arcFolderRefusal arcReportRefusal
-  same-numbers t u (one q) p p′ k =
-      let b = same-buffers M (t .base) (u .base) (p .base) (p′ .base) in
-      rw (
-        b,
-        p .width,
-        p′ .width,
-        p .base .addresses,
-        p .six,
-        p .base .blocks,
-        p .base .dirty,
-        p .eight,
-        p′ .base .addresses,
-        p′ .six,
-        p′ .base .blocks,
-        p′ .base .dirty,
-        p′ .eight,
-        k,
-      ) refl
-  same-numbers t u (many l buffer) p p′ k =
-      let b = same-buffers M (t .base) (u .base) (p .base) (p′ .base) in
-      rw (
-        b,
-        p .width,
-        p′ .width,
-        p .base .addresses,
-        p .six,
-        p .base .blocks,
-        p .base .dirty,
-        p .eight,
-        p′ .base .addresses,
-        p′ .six,
-        p′ .base .blocks,
-        p′ .base .dirty,
-        p′ .eight,
-        k,
-      ) refl
-  same-numbers t u (report w lent) p p′ k =
-      let b = same-buffers M (t .base) (u .base) (p .base) (p′ .base) in
-      rw (
-        b,
-        p .width,
-        p′ .width,
-        p .base .addresses,
-        p .six,
-        p .base .blocks,
-        p .base .dirty,
-        p .eight,
-        p′ .base .addresses,
-        p′ .six,
-        p′ .base .blocks,
-        p′ .base .dirty,
-        p′ .eight,
-      ) refl
+  numbered t (one q) = refl
+  numbered t (many l buffer) = refl
+  numbered t (report w lent) = refl
+
+  same-tests : (t u : ArcLent) → ArcPasses Z t → ArcPasses Z u → tests t ≡ tests u
+  same-tests t u p p′ =
+      let b = ap₂ _||_ (same-buffers M (t .base) (u .base) (p .base) (p′ .base)) (p .width ∙ sym (p′ .width)) in
+      let x = ap₂ _||_ (p .base .addresses ∙ sym (p′ .base .addresses)) (p .six ∙ sym (p′ .six)) in
+      let y = p .base .blocks ∙ sym (p′ .base .blocks) in
+      let z = ap₂ _||_ (p .base .dirty ∙ sym (p′ .base .dirty)) (p .eight ∙ sym (p′ .eight)) in
+      λ i. record { buffers = b i; six = x i; seven = y i; eight = z i }
+
+  passes : (t u : ArcLent) (q : Asking) → tests t ≡ tests u → arcNumber Z t q ≡ 0 → arcNumber Z u (bareAsking q) ≡ 0
+      → tests (arcNext Z t q) ≡ tests (arcNext Z u (bareAsking q))
+  passes t u (one q) k e f = same-tests (arcNext Z t (one q)) (arcNext Z u (one (bareAsk q))) (served-passes Z t q e) (served-passes Z u (bareAsk q) f)
+  passes t u (many l b) k e f = same-tests (arcNext Z t (many l b)) (arcNext Z u (many l b)) (folder-passes Z t l b e) (folder-passes Z u l b f)
+  passes t u (report w lent) k e f = k
 
   tells : (t : ArcLent) (q : Asking) → arcNumber Z t q ≡ 0 → arcTells Z t q ≡ servedTold M (arc H Z) (state t) q
   unfolding arcServed arcServedFolder
@@ -116,39 +90,22 @@ module _ (Z : Sizes) where
   stays t (many l buffer) z = ap (λ x. x .lent) (arc-folder-keeps Z t l buffer z)
   stays t (report w lent) z = refl
 
-  seatless : (t : ArcLent) (q : Asking) → arcNumber Z t (bareAsking q) ≡ arcNumber Z t q
-  unfolding arcRefusal
-  seatless t (one q) =
-      let l = ask-bare q .lent in
-      let a = ask-bare q .about in
-      λ i. first (test (unfitArc Z) 11 ∷ test (wrongArcBuffers Z t || wrongBlock (Z .B) (l i)) 2 ∷ test (outside (Z .P) (a i .address)) 3
-      ∷ arcTableTests Z t (test (a i .counts && over (t .base .counters)) 9 ∷ []))
-  seatless t (many l buffer) = refl
-  seatless t (report w lent) = refl
-
-  numbers : (t u : ArcLent) (q : Asking) → ((a : Asking) → arcNumber Z t a ≡ arcNumber Z u a) → arcNumber Z t q ≡ 0 → arcNumber Z u (bareAsking q) ≡ 0
-      → (arcNext Z t q) .base .counters ≡ (arcNext Z u (bareAsking q)) .base .counters
-      → (a : Asking) → arcNumber Z (arcNext Z t q) a ≡ arcNumber Z (arcNext Z u (bareAsking q)) a
-  numbers t u (one q) n e f k =
-      λ a. same-numbers (arcNext Z t (one q)) (arcNext Z u (one (bareAsk q))) a (served-passes Z t q e) (served-passes Z u (bareAsk q) f) k
-  numbers t u (many l b) n e f k =
-      λ a. same-numbers (arcNext Z t (many l b)) (arcNext Z u (many l b)) a (folder-passes Z t l b e) (folder-passes Z u l b f) k
-  numbers t u (report w lent) n e f k = n
-
   arc-runs : Serves M (arc H Z) (arcRuns Z)
   unfolding arcReported
   arc-runs =
       record {
-        number = arcNumber Z;
         state = state;
+        tests = tests;
+        unfit = test (unfitArc Z) 11;
+        number = arcNumber Z;
+        numbered = numbered;
         counters = λ t. refl;
         tells = tells;
         leaves = leaves;
+        passes = passes;
         refuses = refuses;
         keeps = stays;
         reports = λ t lent. refl;
-        seatless = seatless;
-        numbers = numbers;
       }
 
 -- From any lent memory, whatever is refused

@@ -1,12 +1,12 @@
 -- The theorem of two runs for boxes that run D-LRU: what the desk sees is the same, whatever seats the calls carry.
 use mathlib.Core.Path.{_≡_, refl, sym, ap, _∙_}
-use mathlib.Core.Bool.{_&&_, _||_}
-use mathlib.Core.List.{List, [], _∷_, map}
+use mathlib.Core.List.{List, map}
 use mathlib.Core.Logic.{_≢_}
 use Prim.Native.Nat.{ℕ}
+use Rattle.tables.specs.Unsound.{addressesUnsound, blocksUnsound, dirtyUncached}
 use Rattle.paper.specs.Cache.{Numbers, Hashing, counted}
 use Rattle.paper.specs.Engine.{Fixed, labelled}
-use Rattle.paper.specs.Lent.{Lent, Ask, calling, callOf, test, first, unfit, wrongBuffers, wrongBlock, outside, over, tableTests, refusal, served, boxIn, lentOf}
+use Rattle.paper.specs.Lent.{Lent, callOf, test, unfit, wrongBuffers, refusal, served, boxIn, lentOf}
 use Rattle.paper.specs.LentLaws.{Passes}
 use Rattle.paper.specs.RefusalLaws.{served-is, keeps}
 use Rattle.paper.specs.CallLaws.{served-lent, served-box, served-passes}
@@ -20,9 +20,9 @@ use Rattle.arc.specs.LruServes.{lru-serves}
 use Rattle.arc.specs.FolderLaws.{lru-folder}
 use Rattle.seats.specs.TwoRuns.{bareAsk, bareAsking, single, folder, number, lruTells, lruRuns, deskSees}
 use Rattle.seats.specs.Blind.{lru-blind}
-use Rattle.seats.specs.Alike.{ask-bare, State, refusedTold, outcomeTold, batchTold, servedTold, servedState, Serves, runs-alike}
+use Rattle.seats.specs.Alike.{State, Tests, numberBy, refusedTold, outcomeTold, batchTold, servedTold, servedState, Serves, runs-alike}
 
--- of lent memory that passes, the numbers depend on the counters alone
+-- lent memory that passes has the same lengths
 pub same-buffers : (N : Numbers) (t u : Lent) → Passes N t → Passes N u → wrongBuffers N t ≡ wrongBuffers N u
 unfolding wrongBuffers
 same-buffers N t u p p′ =
@@ -30,21 +30,41 @@ same-buffers N t u p p′ =
     let y = p′ .lengths in
     rw (x .disk, x .flash, x .addresses, x .blocks, y .disk, y .flash, y .addresses, y .blocks) refl
 
-same-numbers : (N : Numbers) (t u : Lent) (q : Asking) → Passes N t → Passes N u → t .counters ≡ u .counters → numberOf N t q ≡ numberOf N u q
-unfolding refusal batchRefusal reportRefusal
-same-numbers N t u (one q) p p′ k =
-    let b = same-buffers N t u p p′ in rw (b, k, p .addresses, p .blocks, p .dirty, p′ .addresses, p′ .blocks, p′ .dirty) refl
-same-numbers N t u (many l buffer) p p′ k =
-    let b = same-buffers N t u p p′ in rw (b, k, p .addresses, p .blocks, p .dirty, p′ .addresses, p′ .blocks, p′ .dirty) refl
-same-numbers N t u (report w lent) p p′ k =
-    let b = same-buffers N t u p p′ in rw (b, p .addresses, p .blocks, p .dirty, p′ .addresses, p′ .blocks, p′ .dirty) refl
-
 module _ (N : Numbers) where
   abbrev H : Hashing (Fixed 32) (Fixed (N .B))
   H = labelled N
 
   abbrev state : Lent → State (Fixed 32) (Fixed (N .B)) (Unit {0})
   state t = record { kept = tt; box = boxIn N t; counters = t .counters }
+
+  abbrev tests : Lent → Tests
+  tests t =
+      record {
+        buffers = wrongBuffers N t;
+        six = addressesUnsound (N .P) (N .m) (t .n) (t .addresses);
+        seven = blocksUnsound (N .d) (t .blocks);
+        eight = dirtyUncached (t .n) (N .d) (t .addresses) (t .blocks);
+      }
+
+  numbered : (t : Lent) (q : Asking) → numberOf N t q ≡ numberBy N (test (unfit N) 1) (tests t) (t .counters) q
+  unfolding refusal batchRefusal reportRefusal
+  numbered t (one q) = refl
+  numbered t (many l buffer) = refl
+  numbered t (report w lent) = refl
+
+  same-tests : (t u : Lent) → Passes N t → Passes N u → tests t ≡ tests u
+  same-tests t u p p′ =
+      let b = same-buffers N t u p p′ in
+      let x = p .addresses ∙ sym (p′ .addresses) in
+      let y = p .blocks ∙ sym (p′ .blocks) in
+      let z = p .dirty ∙ sym (p′ .dirty) in
+      λ i. record { buffers = b i; six = x i; seven = y i; eight = z i }
+
+  passes : (t u : Lent) (q : Asking) → tests t ≡ tests u → numberOf N t q ≡ 0 → numberOf N u (bareAsking q) ≡ 0
+      → tests (next N t q) ≡ tests (next N u (bareAsking q))
+  passes t u (one q) k e f = same-tests (next N t (one q)) (next N u (one (bareAsk q))) (served-passes N t q e) (served-passes N u (bareAsk q) f)
+  passes t u (many l b) k e f = same-tests (next N t (many l b)) (next N u (many l b)) (batch-passes N t l b e) (batch-passes N u l b f)
+  passes t u (report w lent) k e f = k
 
   tells : (t : Lent) (q : Asking) → numberOf N t q ≡ 0 → lruTells N t q ≡ servedTold N (lru H N) (state t) q
   unfolding served servedBatch
@@ -79,39 +99,22 @@ module _ (N : Numbers) where
   stays t (many l buffer) z = batch-keeps N t l buffer z .lent
   stays t (report w lent) z = refl
 
-  seatless : (t : Lent) (q : Asking) → numberOf N t (bareAsking q) ≡ numberOf N t q
-  unfolding refusal
-  seatless t (one q) =
-      let l = ask-bare q .lent in
-      let a = ask-bare q .about in
-      λ i. first (test (unfit N) 1 ∷ test (wrongBuffers N t || wrongBlock (N .B) (l i)) 2 ∷ test (outside (N .P) (a i .address)) 3
-      ∷ tableTests N t (test (a i .counts && over (t .counters)) 9 ∷ []))
-  seatless t (many l buffer) = refl
-  seatless t (report w lent) = refl
-
-  numbers : (t u : Lent) (q : Asking) → ((a : Asking) → numberOf N t a ≡ numberOf N u a) → numberOf N t q ≡ 0 → numberOf N u (bareAsking q) ≡ 0
-      → (next N t q) .counters ≡ (next N u (bareAsking q)) .counters
-      → (a : Asking) → numberOf N (next N t q) a ≡ numberOf N (next N u (bareAsking q)) a
-  numbers t u (one q) n e f k =
-      λ a. same-numbers N (next N t (one q)) (next N u (one (bareAsk q))) a (served-passes N t q e) (served-passes N u (bareAsk q) f) k
-  numbers t u (many l b) n e f k =
-      λ a. same-numbers N (next N t (many l b)) (next N u (many l b)) a (batch-passes N t l b e) (batch-passes N u l b f) k
-  numbers t u (report w lent) n e f k = n
-
   lru-runs : Serves N (lru H N) (lruRuns N)
   unfolding reported
   lru-runs =
       record {
-        number = numberOf N;
         state = state;
+        tests = tests;
+        unfit = test (unfit N) 1;
+        number = numberOf N;
+        numbered = numbered;
         counters = λ t. refl;
         tells = tells;
         leaves = leaves;
+        passes = passes;
         refuses = refuses;
         keeps = stays;
         reports = λ t lent. refl;
-        seatless = seatless;
-        numbers = numbers;
       }
 
 -- From any lent memory, whatever is refused
