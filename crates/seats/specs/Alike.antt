@@ -26,13 +26,13 @@ use Rattle.seats.specs.Blind.{bare, bares, bareBox, bareServed, bareFold
 
 -- ---- a call and the same call without its seat
 
-pub record AskBare (q : Ask) : Type 0 where
-  pub twice : bareAsk (bareAsk q) ≡ bareAsk q
-  pub lent : lentBlock (bareAsk q) ≡ lentBlock q
-  pub about : aboutAsk (bareAsk q) ≡ aboutAsk q
-  pub call : (B : ℕ) → callOf B (bareAsk q) ≡ bareCall (callOf B q)
+record AskBare (q : Ask) : Type 0 where
+  twice : bareAsk (bareAsk q) ≡ bareAsk q
+  lent : lentBlock (bareAsk q) ≡ lentBlock q
+  about : aboutAsk (bareAsk q) ≡ aboutAsk q
+  call : (B : ℕ) → callOf B (bareAsk q) ≡ bareCall (callOf B q)
 
-pub ask-bare : (q : Ask) → AskBare q
+ask-bare : (q : Ask) → AskBare q
 unfolding callOf
 ask-bare (Ask.read a l) = record { twice = refl; lent = refl; about = refl; call = λ B. refl }
 ask-bare (Ask.through a l z) = record { twice = refl; lent = refl; about = refl; call = λ B. refl }
@@ -79,7 +79,7 @@ module _ {F : Type 0} {B : ℕ} where
   abbrev pub batchTold : Batched F (Fixed B) → Told
   batchTold r = folder (batched (r .hits) (r .flashWrites) (r .primaryWrites) (r .fetches)) (join (blocksIn (r .filled)))
 
--- the number that a call gets, 0 where it is served: by the test for 1 or 11, the tests of the lent memory and the counters
+-- what the tests of lent memory say: those for 6, 7 and 8, and for 2 of all that passes from call to call
 pub record Tests : Type 0 where
   pub buffers : Bool
   pub six : Bool
@@ -89,6 +89,7 @@ pub record Tests : Type 0 where
 abbrev tableTests : Tests → List Test → List Test
 tableTests b rest = test (b .six) 6 ∷ test (b .seven) 7 ∷ test (b .eight) 8 ∷ rest
 
+-- the number that a call gets, 0 where it is served: by the test for 1 or 11, by these and by the counters
 abbrev pub numberBy : Numbers → Test → Tests → Counters → Asking → ℕ
 numberBy N x b k (one q) =
     first (x ∷ test (b .buffers || wrongBlock (N .B) (lentBlock q)) 2 ∷ test (outside (N .P) (addressOf q)) 3 ∷ tableTests b (test (counts q && over k) 9 ∷ []))
