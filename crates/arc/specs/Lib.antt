@@ -1,5 +1,5 @@
 -- What a reader must believe, in this order: the calls over a policy, D-ARC's lists and step, worked states, the lists in lent bytes and the refusals,
--- worked refusals, demand 3 for D-ARC boxes, and what the desk sees.
+-- worked refusals, and demand 3 for D-ARC boxes.
 pub mod Policy
 pub mod Folder
 pub mod Arc
@@ -9,10 +9,8 @@ pub mod ArcFolder
 pub mod ArcReports
 pub mod ArcRefused
 pub mod ArcDemand
-pub mod ArcDesk
 -- the theorems: demand 3 of every list in bytes; D-LRU's calls over its policy; what a policy must promise and what follows; D-ARC's laws of every
--- list of calls; the loop and the lists in the request's words; few writes; the refusals, exactly; two runs that differ in their seats, and what a
--- policy must promise for it
+-- list of calls; the loop and the lists in the request's words; few writes; the refusals, exactly
 pub mod ArcDemandLaws
 pub mod LruServes
 pub mod Promise
@@ -21,8 +19,6 @@ pub mod ArcLaws
 pub mod ArcSays
 pub mod ArcFew
 pub mod ArcExactly
-pub mod ArcTwoRuns
-pub mod Blind
 -- lemmas
 pub mod Tally
 pub mod PlainRows
@@ -32,7 +28,6 @@ pub mod ArcStore
 pub mod ArcStep
 pub mod ArcFair
 pub mod ArcLentLaws
-pub mod ArcBlind
 -- for code on lent bytes: the test for 6 in one pass, and the moves of the lists end to end
 pub mod ArcTicks
 pub mod ArcEnds

@@ -23,7 +23,7 @@ use Rattle.paper.specs.Batch as Batch
 use Rattle.paper.specs.BatchLent as BatchLent
 use Rattle.paper.specs.BatchLent.{Asking, one, many, report, batched}
 use Rattle.paper.specs.Demand3.{next}
-use Rattle.seats.specs.TwoRuns.{single, folder, number, Told, Seen, deskSees}
+use Rattle.seats.specs.TwoRuns.{single, folder, number, Told, lruRuns, Seen, deskSees}
 use Rattle.seats.specs.TwoRunsLaws.{two-runs}
 
 abbrev filled : ℕ → List ℕ
@@ -53,7 +53,7 @@ sees w l r h f p = record { told = w; report = l; counters = counters r h f p }
 pub runs-by-example :
     (reported small (after sound (calls 2055)) manager (replicate 14 0) ≡ 1 ∷ 0 ∷ 0 ∷ 0 ∷ 1 ∷ 7 ∷ 8 ∷ 0 ∷ 0 ∷ 0 ∷ 0 ∷ 1 ∷ 7 ∷ 8 ∷ [])
     × (reported small (after sound (calls 263)) manager (replicate 14 0) ≡ 1 ∷ 0 ∷ 0 ∷ 0 ∷ 1 ∷ 7 ∷ 8 ∷ 0 ∷ 0 ∷ 0 ∷ 0 ∷ 1 ∷ 7 ∷ 1 ∷ [])
-    × (deskSees small (replicate 10 0) sound (calls 2055)
+    × (deskSees (lruRuns small) (replicate 10 0) sound (calls 2055)
     ≡ sees (single (answered newBlock 1 0) (some (filled 5)) []) (1 ∷ 0 ∷ 0 ∷ 0 ∷ 1 ∷ 0 ∷ 0 ∷ 0 ∷ 0 ∷ 1 ∷ []) 0 0 1 0
     ∷ sees (single (answered hit 0 0) (some (filled 8)) []) (0 ∷ 0 ∷ 0 ∷ 0 ∷ 1 ∷ 1 ∷ 0 ∷ 0 ∷ 0 ∷ 1 ∷ []) 1 1 1 0
     ∷ sees (single (answered fromCache 0 0) none (filled 8)) (0 ∷ 0 ∷ 0 ∷ 0 ∷ 1 ∷ 1 ∷ 0 ∷ 0 ∷ 0 ∷ 1 ∷ []) 1 1 1 0
@@ -62,7 +62,7 @@ pub runs-by-example :
     ∷ sees (number 2) (1 ∷ 0 ∷ 0 ∷ 0 ∷ 1 ∷ 0 ∷ 0 ∷ 0 ∷ 0 ∷ 1 ∷ []) 2 2 1 0
     ∷ sees (single (refused 3) (some (filled 5)) []) (1 ∷ 0 ∷ 0 ∷ 0 ∷ 1 ∷ 0 ∷ 0 ∷ 0 ∷ 0 ∷ 1 ∷ []) 2 2 1 0
     ∷ [])
-    × (deskSees small (replicate 10 0) sound (calls 263) ≡ deskSees small (replicate 10 0) sound (calls 2055))
+    × (deskSees (lruRuns small) (replicate 10 0) sound (calls 263) ≡ deskSees (lruRuns small) (replicate 10 0) sound (calls 2055))
 unfolding Ch Maj Σ0 Σ1 σ0 σ1 K H0 M Sha256.next W T1 T2 round rounds sum8 compress blocks bytes32 bytes64 padded pad digest sha256 Lent.refusal
     Lent.call Lent.split Lent.unfit Lent.wrongBuffers Lent.over Lent.served Lent.kept Lent.boxIn Lent.lentOf Lent.freeSlots Lent.usedRows Lent.callOf
     Engine.fit Rows.rows Rows.flat Rows.zeros Records.addressBytes Records.blockBytes Records.readAddress Records.readBlock Records.addressTable

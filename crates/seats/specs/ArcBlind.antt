@@ -8,13 +8,13 @@ use lib.Dec.{eqb, leb, ltb}
 use lib.ListN.{length}
 use Rattle.paper.specs.Cache.{Hashing, Seat, AddressRow, Box, Request, Stepped, rowOf, newest, cached, copied, copies, oldestUnknown}
 use Rattle.paper.specs.Cache.{takenUsed, stored}
 use Rattle.arc.specs.Policy.{Ran}
 use Rattle.arc.specs.Arc.{Sizes, Lists, Was, inT1, inT2, inB1, inB2, inB3, unheld, isNil, takesT1, onTop, topRows, rowOut, evicted, b1Evicted}
 use Rattle.arc.specs.Arc.{b2Evicted, b3Evicted, listed, b1b3, b2b3, t1b1, t2b2, roomInB, replace, manage, check, victimOf, isSome, hasRow}
 use Rattle.arc.specs.Arc.{cleared, takenBy, storedIn, blockNewest, inserted, parted, checked, joined, toT2, joinT1, joinT2, wasB2, listOf}
 use Rattle.arc.specs.Arc.{arcStepAs, arcStep, arc}
-use Rattle.arc.specs.Blind.{noSeat, bare, bares, bareBox, bareRequest, bareStepped, bareRan, Blind, through-cond, row-bare, without-bare, append-bare}
-use Rattle.arc.specs.Blind.{unknown-bare, stored-bare}
+use Rattle.seats.specs.Blind.{noSeat, bare, bares, bareBox, bareRequest, bareStepped, bareRan, Blind, through-cond, row-bare, without-bare, append-bare}
+use Rattle.seats.specs.Blind.{unknown-bare, stored-bare}
 
 top-bare : {F : Type 0} (l : Lists) (rows : List (AddressRow F)) → topRows l (bares rows) ≡ bares (topRows l rows)
 unfolding topRows
