@@ -71,13 +71,14 @@ fn dirty_value(b: BoxRecord, a: SourceAddress, addrs: &[u8], g: &[u8]) -> u8
 // The seat that a read of `a` leaves where it misses: that of the row of `a`, 0 where `a` is not held.
 fn seat_of(b: BoxRecord, a: SourceAddress, addrs: &[u8]) -> u16
     requires { ⌜ (b .held ≤ b .rows) × (length (now addrs) ≡ tableBytes (b .rows)) ⌝ }
-    ensures { λ r. ⌜ ((l : List (AddressRow (Fixed 32))) → Addrs (b .blocks) (b .rows) (b .held) (now (addrs .entry)) l → bytes2 r ≡ seatIn (rowOf (a .0) l)) ⌝ }
+    ensures { λ r. ⌜ ((l : List (AddressRow (Fixed 32))) → Addrs (b .blocks) (b .rows) (b .held) (now (addrs .entry)) l
+        → bytes2 r ≡ seatIn (rowOf (a .0) l)) ⌝ }
 {
     let i = rows::row_of(addrs, b.held, a);
-    if b.held <= i {
-        return 0;
+    if i < b.held {
+        return row::seat_at(addrs, i);
     }
-    row::seat_at(addrs, i)
+    0
 }
 
 // Write back.
