@@ -107,6 +107,17 @@ module _ (N : Numbers) (block : List ℕ) (fit : unfit N ≡ false) (label : len
       = (omega (arith, w .0, g .reads .1), omega (arith, w .1, g .hits .1), omega (arith, w .2, g .flashWrites .1), omega (arith, w .3, g .primaryWrites .1)) in
       (e, none-refused l ((call N u (Ask.read a block)) .lent) (c + 1025) (next-written N u (one (Ask.read a block)) r) more (b .1) (omega arith))
 
+-- no read of a list that is counted is refused: from a fresh box over the question's disk, over any flash and tables of their lengths, each read lent any
+-- block of B bytes
+pub list-served : (N : Numbers) (t : Lent) (k room : ℕ) (block : List ℕ) → questionRefusal N (t .disk) k room ≡ 0 → refusal N t opening ≡ 0
+    → length block ≡ N .B → (l : List ℕ) → length l ≡ k → All (λ a. a < N .P) l → NoneRefused N (opened N t) (readsOf block l)
+unfolding fresh
+list-served N t k room block z opens whole l e w =
+    let p = posed N (t .disk) k room z in
+    let k8 = p .short in
+    none-refused N block (exactly-opening N t .gives-0 .0 opens .0) (p .label) whole l (opened N t) 0 (opened-written N t opens)
+    (rw (opened-is N t opens) (omega arith, omega arith, omega arith, omega arith)) w (omega arith)
+
 many-same : {A : Type 0} (s t : A → Bool) (xs : List A) → All (λ x. s x ≡ t x) xs → howMany s xs ≡ howMany t xs
 many-same s t [] w = refl
 many-same s t (x ∷ xs) w = ap₂ (λ n b. n + cond b 1 0) (many-same s t xs (w .1)) (w .0)
@@ -115,22 +126,16 @@ many-same s t (x ∷ xs) w = ap₂ (λ n b. n + cond b 1 0) (many-same s t xs (w
 abbrev pub engineHits : Numbers → Lent → (block : List ℕ) → List ℕ → ℕ
 engineHits N t block l = howMany isHit (words N (opened N t) (readsOf block l))
 
--- each count of a question is the number of lists to which the engine answers that many hits: a fresh box over the question's disk, over any flash and
--- tables of their lengths, each read lent any block of B bytes
+-- each count of a question is the number of lists to which the engine answers that many hits
 pub engine-scores : (N : Numbers) (t : Lent) (k room : ℕ) (block : List ℕ) → questionRefusal N (t .disk) k room ≡ 0 → refusal N t opening ≡ 0
     → length block ≡ N .B
     → (question N (t .disk) k room) .counts ≡ map (λ h. howMany (λ l. eqb (engineHits N t block l) h) (lists (N .P) k)) nine
-unfolding scores withHits fresh
+unfolding scores withHits
 engine-scores N t k room block z opens whole =
     let H = labelled N in
-    let x = exactly-opening N t .gives-0 .0 opens in
-    let p = posed N (t .disk) k room z in
-    let k8 = p .short in
     let hit-as : (l : List ℕ) → (length l ≡ k) × All (λ a. a < N .P) l → hits (H .same) (N .m) (N .d) (contentIn N t) start l ≡ engineHits N t block l
     = λ l w. ap (hits (H .same) (N .m) (N .d) (contentIn N t) start) (sym (addresses-back block l))
-    ∙ sym (engine-hits N t (readsOf block l) opens
-    (none-refused N block (x .0) (p .label) whole l (opened N t) 0 (opened-written N t opens)
-    (rw (opened-is N t opens) (omega arith, omega arith, omega arith, omega arith)) (w .1) (omega (arith, w .0)))) in
+    ∙ sym (engine-hits N t (readsOf block l) opens (list-served N t k room block z opens whole l (w .0) (w .1))) in
     let each : (h : ℕ) → howMany (λ l. eqb (hits (H .same) (N .m) (N .d) (contentIn N t) start l) h) (lists (N .P) k)
     ≡ howMany (λ l. eqb (engineHits N t block l) h) (lists (N .P) k)
     = λ h. many-same (λ l. eqb (hits (H .same) (N .m) (N .d) (contentIn N t) start l) h) (λ l. eqb (engineHits N t block l) h) (lists (N .P) k)
