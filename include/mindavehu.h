@@ -21,12 +21,15 @@
  *   asked      count          the addresses, 1 to 64 of them; this length alone is a number of uint32_t, not of bytes
  *   buffer     count x B      the blocks read: block i of it is that at asked[i]
  *   answer     32             the hits, the flash writes, the primary writes and the fetches: 8 bytes each, little-endian
+ * The call for an exam question takes no box: B, P, m and d as numbers, the label and the disk, and
+ *   counts     72             how many lists have 0, 1, up to 8 hits: 8 bytes each, little-endian
  *
  * The result of each function is the number of a refusal, or MINDAVEHU_SERVED. A refused call changes no buffer, but for a refused
- * opening, which writes n = 0 and a label of zeros into the state. A state that is not 136 bytes, or an answer that is not 24 (of the call for a list:
- * not 32), gives MINDAVEHU_WRONG_LENGTH before anything else is looked at, and nothing at all is changed.
+ * opening, which writes n = 0 and a label of zeros into the state, and a refused exam question, which writes nine counts of 0. A state that is not 136
+ * bytes, or an answer that is not 24 (of the call for a list: not 32), gives MINDAVEHU_WRONG_LENGTH before anything else is looked at, and nothing at all
+ * is changed.
  * Where several refusals apply, the first of 1, 2, 10, 3, 6, 7, 8, 9 is told. Only the call for a list has 10. Flush has no 3, look no 9, opening
- * only 1 and 2.
+ * only 1 and 2, an exam question only 1, 2 and 17.
  *
  * The caller's duties, which no call can check:
  *   - each pointer is to that many bytes (asked: to that many uint32_t), readable, and writable where it is not const; none is NULL, even at
@@ -122,20 +125,22 @@ extern "C" {
 #endif
 
 /* The version of this header and of the library that belongs to it. Version 1 had a state of 72 bytes without a label, and opened a box without one; in
- * version 2 the layout of the state is another: the label follows the nine numbers. */
-#define MINDAVEHU_VERSION "2.0.0"
+ * version 2 the layout of the state is another: the label follows the nine numbers. Version 2.1 has mindavehu_scores besides. */
+#define MINDAVEHU_VERSION "2.1.0"
 #define MINDAVEHU_VERSION_MAJOR 2
-#define MINDAVEHU_VERSION_MINOR 0
+#define MINDAVEHU_VERSION_MINOR 1
 #define MINDAVEHU_VERSION_PATCH 0
 
 /* The most bytes of stack that a call needs. */
 #define MINDAVEHU_STACK 24576
 
-/* Lengths in bytes: of the state, of a label, of an answer, of the answer of the call for a list, and of a row of either table. */
+/* Lengths in bytes: of the state, of a label, of an answer, of the answer of the call for a list, of the counts of an exam question, and of a row of
+ * either table. */
 #define MINDAVEHU_STATE 136
 #define MINDAVEHU_LABEL 64
 #define MINDAVEHU_ANSWER 24
 #define MINDAVEHU_MANY_ANSWER 32
+#define MINDAVEHU_COUNTS 72
 #define MINDAVEHU_ROW 40
 
 /* The length in bytes of each other buffer, by the box's numbers and the number of addresses in a list. */
@@ -149,6 +154,11 @@ extern "C" {
 /* The most addresses in a list. */
 #define MINDAVEHU_MANY_MOST 64
 
+/* What an exam question takes: B, the most P and the most reads k. */
+#define MINDAVEHU_SCORES_B 64
+#define MINDAVEHU_SCORES_P 4
+#define MINDAVEHU_SCORES_K 8
+
 /* What a function returns. (4 and 5 are the replay program's own.) */
 #define MINDAVEHU_SERVED 0
 #define MINDAVEHU_OUTSIDE 1          /* B, P, m or d outside its set */
@@ -159,6 +169,7 @@ extern "C" {
 #define MINDAVEHU_DIRTY_UNCACHED 8   /* a dirty address without its block */
 #define MINDAVEHU_COUNTER_FULL 9     /* a counter above 2 to the power 63 */
 #define MINDAVEHU_BAD_COUNT 10       /* a list of no address, or of more than 64 */
+#define MINDAVEHU_TOO_LARGE 17       /* an exam question: P is above 4, B is not 64 or k is above 8 */
 
 /* The words of an answer. */
 #define MINDAVEHU_HIT 1    /* a read: the block was in the cache */
@@ -221,6 +232,7 @@ static inline const char *mindavehu_refusal_text(uint32_t refusal)
     case MINDAVEHU_DIRTY_UNCACHED: return "a dirty address is without its block";
     case MINDAVEHU_COUNTER_FULL: return "a counter is above 2 to the power 63";
     case MINDAVEHU_BAD_COUNT: return "the list has no address, or more than 64";
+    case MINDAVEHU_TOO_LARGE: return "P is above 4, B is not 64 or k is above 8";
     default: return "no refusal has this number";
     }
 }
@@ -327,6 +339,15 @@ uint32_t mindavehu_look(const uint8_t *state, size_t state_length, uint32_t addr
                         const uint8_t *addresses, size_t addresses_length,
                         const uint8_t *blocks, size_t blocks_length,
                         uint8_t *answer, size_t answer_length);
+
+/* How hard an exam question is: counts, over all lists of k reads (k from 0 to 8) from a fresh box of these numbers and this label over the disk, how many
+ * have 0, 1, up to 8 hits. Count h starts at byte 8 x h of `counts` (mindavehu_get(counts, 8 * h)); those beyond k are 0, and their total is P to the power k.
+ * Refused with 1, 2 or 17: `counts`, where it has its 72 bytes, gets nine counts of 0; with another length, which gives 2 unless 1 comes first, it is left
+ * as it is. B is to be 64 and P at most 4. */
+uint32_t mindavehu_scores(size_t B, size_t P, size_t m, size_t d,
+                          const uint8_t *label, size_t label_length,
+                          const uint8_t *disk, size_t disk_length,
+                          size_t k, uint8_t *counts, size_t counts_length);
 
 /* The buffers of a box in one struct: those that the caller lends, and the state and the answers, which the struct has itself. */
 struct mindavehu_box {

@@ -89,6 +89,15 @@ static void *looks(void *unused)
     return unused;
 }
 
+/* Eight reads of four addresses. */
+static void *asks(void *unused)
+{
+    static uint8_t counts[MINDAVEHU_COUNTS];
+    mindavehu_scores(MINDAVEHU_SCORES_B, MINDAVEHU_SCORES_P, 3, 2, label, sizeof label, disk, MINDAVEHU_DISK_LENGTH(MINDAVEHU_SCORES_B, MINDAVEHU_SCORES_P),
+                     MINDAVEHU_SCORES_K, counts, sizeof counts);
+    return unused;
+}
+
 /* The bytes of its stack that a thread changed. */
 static long used(void *(*call)(void *))
 {
@@ -112,7 +121,7 @@ int main(void)
 {
     static const struct { const char *name; void *(*call)(void *); } calls[] = {
         {"open", opens}, {"write back", writes_back}, {"read", reads}, {"folder", folders}, {"flush in parts", flushes_in_parts}, {"flush", flushes},
-        {"look", looks}, {"write invalidate", invalidates}, {"write through", writes_through},
+        {"look", looks}, {"write invalidate", invalidates}, {"write through", writes_through}, {"exam question", asks},
     };
     long none = used(nothing);
     disk = calloc(P, B);

@@ -1,5 +1,5 @@
 /* The struct of the header beside the functions with all parameters: the same calls on two boxes leave the same bytes, answers and results. Then the lengths
- * by the macros, and the texts of refusals and words.
+ * by the macros, an exam question, and the texts of refusals and words.
  * Prints what it checked, or the line that failed. */
 #include <stdio.h>
 #include <stdlib.h>
@@ -128,15 +128,34 @@ static void the_lengths(void)
     EXPECT(MINDAVEHU_DISK_LENGTH(4096, 65536) == (size_t)4096 * 65536);
 }
 
+/* Two addresses, one of each held: of the four lists of two reads two have a hit. A refused question leaves zeros, one with other lengths nothing. */
+static void an_exam_question(void)
+{
+    static uint8_t bytes[2 * MINDAVEHU_SCORES_B], counts[MINDAVEHU_COUNTS + 1];
+    bytes[0] = 1;
+    memset(counts, 7, sizeof counts);
+    EXPECT(mindavehu_scores(64, 2, 1, 1, label, sizeof label, bytes, sizeof bytes, 2, counts, MINDAVEHU_COUNTS) == MINDAVEHU_SERVED);
+    for (size_t h = 0; h <= MINDAVEHU_SCORES_K; h++)
+        EXPECT(mindavehu_get(counts, 8 * h) == (h < 2 ? 2 : 0));
+    EXPECT(mindavehu_scores(64, 2, 1, 1, label, sizeof label, bytes, sizeof bytes, 9, counts, MINDAVEHU_COUNTS) == MINDAVEHU_TOO_LARGE);
+    EXPECT(mindavehu_get(counts, 0) == 0 && counts[MINDAVEHU_COUNTS] == 7);
+    memset(counts, 7, sizeof counts);
+    EXPECT(mindavehu_scores(64, 2, 1, 1, label, sizeof label, bytes, sizeof bytes, 2, counts, sizeof counts) == MINDAVEHU_WRONG_LENGTH);
+    EXPECT(mindavehu_scores(64, 2, 0, 1, label, sizeof label, bytes, sizeof bytes, 2, counts, sizeof counts) == MINDAVEHU_OUTSIDE);
+    for (size_t k = 0; k < sizeof counts; k++)
+        EXPECT(counts[k] == 7);
+}
+
 static void the_texts(void)
 {
     static const char *const words[] = {"hit", "miss", "same", "new", "cache", "disk", "done"};
     for (unsigned k = 0; k < 7; k++)
         EXPECT(strcmp(mindavehu_word_name(k + 1), words[k]) == 0);
     EXPECT(strcmp(mindavehu_word_name(0), "no word has this number") == 0 && strcmp(mindavehu_word_name(8), "no word has this number") == 0);
-    for (uint32_t k = 0; k <= 10; k++)
-        for (uint32_t i = 0; i <= 11; i++)
-            EXPECT((strcmp(mindavehu_refusal_text(k), mindavehu_refusal_text(i)) == 0) == (k == i));
+    static const uint32_t refusals[] = {0, 1, 2, 3, 4, 5, 6, 7, 8, 9, 10, MINDAVEHU_TOO_LARGE, 11};
+    for (size_t k = 0; k < 12; k++)
+        for (size_t i = 0; i < 13; i++)
+            EXPECT((strcmp(mindavehu_refusal_text(refusals[k]), mindavehu_refusal_text(refusals[i])) == 0) == (k == i));
     EXPECT(strcmp(mindavehu_refusal_text(MINDAVEHU_SERVED), "served") == 0);
     EXPECT(strcmp(mindavehu_refusal_text(MINDAVEHU_NO_ADDRESS), "the address is P or more") == 0);
     EXPECT(strcmp(mindavehu_refusal_text(11), "no refusal has this number") == 0);
@@ -146,7 +165,8 @@ int main(void)
 {
     the_same_calls();
     the_lengths();
+    an_exam_question();
     the_texts();
-    printf("box: %d calls by the struct and by all parameters the same, lengths and texts: %u checks\n", CALLS, checks);
+    printf("box: %d calls by the struct and by all parameters the same, lengths, an exam question and texts: %u checks\n", CALLS, checks);
     return 0;
 }

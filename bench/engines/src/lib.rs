@@ -2,12 +2,14 @@
 //!
 //! `maps` and `array` make the service's refusals with an index of the block rows that they build in each call: a hash map of the standard library,
 //! and an array made by hand. `persistent` refuses nothing and keeps its maps from call to call: it shows what the refusals and the lent tables cost.
+//! `scores` counts the lists of an exam question.
 pub mod array;
 mod checks;
 mod engine;
 mod layout;
 pub mod maps;
 pub mod persistent;
+pub mod scores;
 
 /// The number of a refusal, 0 where there is none.
 fn number_of(result: Result<(), u32>) -> u32 {

@@ -240,3 +240,24 @@ fn folders() {
     println!("20000 folders on crafted tables by two engines agree with the model (seed {seed}); numbers {numbers:?}, {missed_repeats} repeats that miss");
     assert!([0, 1, 2, 3, 6, 7, 10].iter().all(|number| numbers[*number] > 50) && missed_repeats > 1_000, "hardly met: {numbers:?}, {missed_repeats}");
 }
+
+/// Exam questions, right and wrong: the number and the counts are the model's.
+#[test]
+fn exam_questions() {
+    let mut random = Random(127);
+    let mut refused = 0;
+    for _ in 0..3_000 {
+        let [p, m, d, k] = [1 + random.below(5), random.below(6), 1 + random.below(5), random.below(6)];
+        let contents: Vec<u8> = (0..p).map(|_| random.below(3) as u8).collect();
+        let disk = contents.iter().flat_map(|byte| vec![*byte; 64]).collect();
+        let k = if random.below(20) == 0 { 9 } else { k };
+        let [label, counts] = [64, 72].map(|length| vec![7; length - (random.below(20) == 0) as usize]);
+        let mut expected = model::exam::Question { b: 64, p, m, d, label, disk, k, counts };
+        let mut q = expected.clone();
+        let number = model::exam::carry_out_question(&mut expected);
+        assert_eq!(engines::scores::scores([64, p, m, d], &q.label, &q.disk, k, &mut q.counts), number, "{expected:?}");
+        assert_eq!(q, expected);
+        refused += (number != 0) as usize;
+    }
+    assert!((300..2_700).contains(&refused), "{refused} refused");
+}

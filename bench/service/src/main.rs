@@ -3,6 +3,7 @@
 mod boxes;
 mod many;
 mod measure;
+mod scores;
 #[cfg(not(feature = "double"))]
 mod service;
 
@@ -114,6 +115,8 @@ const MOST_AT_WORST: f64 = 140_000.0;
 /// How many times as fast as 64 single calls one call for 64 hits is to be, and one with misses: not slower, but for what two runs differ by.
 const LEAST_OF_HITS: f64 = 5.0;
 const LEAST_OF_MISSES: f64 = 0.97;
+/// The most milliseconds of an exam question.
+const MOST_OF_QUESTION: f64 = 5.0;
 
 fn print_what_is_measured() {
     let sha = if cfg!(feature = "soft") { "portable code (`force-soft`)" } else { "the processor's SHA instructions where it has them" };
@@ -155,6 +158,7 @@ fn main() {
     let by_hand = SAME.iter().flat_map(|same| HELD.map(|held| crafted(Shape { b: 64, ..LARGE }, *same, held))).collect();
     let by_hand = Group::measured(by_hand, 0);
     let folders = many::all(&large.boxes[FULL]);
+    let questions = scores::all();
     growth();
 
     println!("\nBounds:");
@@ -185,6 +189,11 @@ fn main() {
         bounds.line(&what, format!("{:.2}", folder.speed()), folder.speed() >= least);
     }
 
+    for one in &questions {
+        let what = format!("an exam question of 65,536 lists, m {}, d {}: milliseconds, at most {MOST_OF_QUESTION}:", one.m, one.d);
+        bounds.line(&what, format!("{:.2}", one.service / 1e6), one.service <= MOST_OF_QUESTION * 1e6);
+    }
+
     println!("\nMicroseconds of a call by the service / by {}, and how many times as fast the service is:\n", ENGINES[1]);
     println!("| a call, microseconds: service / peer (speed over the peer's) | {} |\n|---|{}", SCENARIOS[..COLUMNS].join(" | "), "---:|".repeat(COLUMNS));
     let rows = [(&large, FULL), (&large, HALF_FULL), (&large, EMPTY), (&small, SMALL), (&small, SINGLE), (&large, ONE_BUCKET)];
@@ -196,6 +205,11 @@ fn main() {
     println!("\nMicroseconds of 64 reads by the service:\n");
     println!("| {}: 64 reads, microseconds | one call | 64 calls | speed over that of 64 calls |\n|---|---:|---:|---:|", large.boxes[FULL].name);
     folders.iter().for_each(|folder| println!("| {} | {} | {} | {:.2} |", folder.name, micro(folder.many), micro(folder.single), folder.speed()));
+    println!("\nMilliseconds of an exam question, over all lists of eight reads of four addresses:\n");
+    println!("| an exam question, P 4, k 8: 65,536 lists, milliseconds | service | plain Rust | speed over that of plain Rust |\n|---|---:|---:|---:|");
+    for one in &questions {
+        println!("| m {}, d {} | {:.2} | {:.2} | {:.2} |", one.m, one.d, one.service / 1e6, one.plain / 1e6, one.speed());
+    }
     if !bounds.kept {
         std::process::exit(1);
     }

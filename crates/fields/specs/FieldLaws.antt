@@ -1,18 +1,22 @@
 -- What is written into the state and the answer is what is read there, and nothing else is changed. Assumes nothing.
 use mathlib.Core.Path.{_≡_, refl, sym, ap, _∙_}
 use mathlib.Core.List.{List, _++_}
-use Prim.Native.Nat.{ℕ, _+_, _-_, _*_, _/_, _%_, _^_, _≤_, _<_}
+use Prim.Native.Nat.{ℕ, zero, suc, _+_, _-_, _*_, _/_, _%_, _^_, _≤_, _<_}
 use native.Mathlib.Nat.{div-add-mod}
 use native.Mathlib.Omega.{arith}
+use lib.Dec.{eqb}
 use lib.ListN.{length, take, drop, getD, List·getD-append}
 use lib.Seq.{length-take-le, getD-append-add, getD-take, getD-drop}
+use borrow.Author.Tests.{eqb-true, eqb-false, eq-eqb, ne-eqb}
 use Rattle.tables.specs.Rows.{le8}
 use Rattle.block.specs.Blocks.{part, splice}
 use Rattle.block.specs.Laws.{length-splice, part-splice, part-past}
+use Rattle.paper.specs.KeyedLaws.{by-test}
 use Rattle.paper.specs.Cache.{Counters}
+use Rattle.exam.specs.Contract.{countsBytes}
 use Rattle.parts.specs.Rep.{withHeld}
 use Rattle.refusals.specs.Given.{countersOf}
-use Rattle.fields.specs.Fields.{lowBytes, get8, put8, stateBytes, recordIn, countersIn, putState, putLabel, putAnswer}
+use Rattle.fields.specs.Fields.{lowBytes, get8, put8, stateBytes, recordIn, countersIn, putState, putLabel, putAnswer, putCounts, countsAfter}
 
 -- ---- a list written over another
 
@@ -251,3 +255,33 @@ module _ (word second third : ℕ) (l : List ℕ) (h : length l ≡ 24) where
   pub third-read : third < 2 ^ 64 → get8 (putAnswer word second third l) 16 ≡ third
   unfolding putAnswer
   third-read b = get8-put8 16 third m₂ (omega (arith, k₂)) b
+
+-- ---- the counts of an exam question
+
+module _ (c s : List ℕ) (l : length s ≡ countsBytes) where
+  length-putCounts : (n : ℕ) → n ≤ 9 → length (putCounts n c s) ≡ countsBytes
+  unfolding putCounts
+  length-putCounts zero b = l
+  length-putCounts (suc n) b =
+      let rest = length-putCounts n (omega arith) in
+      length-put8 (n * 8) (getD c n 0) (putCounts n c s) (omega (arith, rest)) ∙ rest
+
+  -- each is read where it is written
+  written-read : (n h : ℕ) → n ≤ 9 → h < n → getD c h 0 < 2 ^ 64 → get8 (putCounts n c s) (h * 8) ≡ getD c h 0
+  unfolding putCounts
+  written-read zero h b i v = absurd (omega arith)
+  written-read (suc n) h b i v =
+      let rest = length-putCounts n (omega arith) in
+      by-test (eqb h n)
+      (λ e. let q = eqb-true h n e in rw q (get8-put8 (n * 8) (getD c n 0) (putCounts n c s) (omega (arith, rest)) (rw q at v)))
+      (λ e. let q = eqb-false h n e in
+      get8-before (n * 8) (getD c n 0) (putCounts n c s) (omega (arith, rest)) (h * 8) (omega arith) ∙ written-read n h (omega arith) (omega arith) v)
+
+  pub count-read : (h : ℕ) → h < 9 → getD c h 0 < 2 ^ 64 → get8 (countsAfter c s) (h * 8) ≡ getD c h 0
+  unfolding countsAfter
+  count-read h b v = rw (eq-eqb (length s) countsBytes l) (written-read 9 h (omega arith) b v)
+
+-- with another length nothing is written
+pub counts-kept : (c s : List ℕ) → (length s ≡ countsBytes → ⊥) → countsAfter c s ≡ s
+unfolding countsAfter
+counts-kept c s n = rw (ne-eqb (length s) countsBytes n) refl

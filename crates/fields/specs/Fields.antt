@@ -1,14 +1,15 @@
 -- Numbers in bytes: the fields of the state and of an answer. Assumes nothing.
 use mathlib.Core.List.{List, [], _∷_}
-use mathlib.Core.Bool.{Bool, _&&_}
-use Prim.Native.Nat.{ℕ, zero, suc, _/_, _%_}
+use mathlib.Core.Bool.{Bool, _&&_, cond}
+use Prim.Native.Nat.{ℕ, zero, suc, _*_, _/_, _%_}
 use lib.Dec.{eqb}
-use lib.ListN.{length}
+use lib.ListN.{length, getD}
 use Rattle.tables.specs.Rows.{le8}
 use Rattle.block.specs.Blocks.{part, splice}
 use Rattle.counters.specs.declared.Counters as Code
 use Rattle.paper.specs.Cache.{Counters, Word, hit, miss, sameBlock, newBlock, fromCache, fromDisk, done}
 use Rattle.parts.specs.declared.BoxRecord.{BoxRecord}
+use Rattle.exam.specs.Contract.{countsBytes}
 
 -- the n bytes of a number, lowest first
 abbrev pub lowBytes : ℕ → ℕ → List ℕ
@@ -49,6 +50,15 @@ putAnswer word second third l = put8 16 third (put8 8 second (put8 0 word l))
 -- the answer of a folder read, 32 bytes: the hits, the flash writes, the primary writes and the fetches
 unfoldable pub putMany : (hits flash primary fetches : ℕ) → List ℕ → List ℕ
 putMany hits flash primary fetches l = put8 24 fetches (put8 16 primary (put8 8 flash (put8 0 hits l)))
+
+-- the nine counts of an exam question, one after the other; the first n of them written
+unfoldable pub putCounts : ℕ → (counts s : List ℕ) → List ℕ
+putCounts zero c s = s
+putCounts (suc h) c s = put8 (h * 8) (getD c h 0) (putCounts h c s)
+
+-- what is lent for the counts with them written; with another length it is left as it is
+unfoldable pub countsAfter : (counts s : List ℕ) → List ℕ
+countsAfter c s = cond (eqb (length s) countsBytes) (putCounts 9 c s) s
 
 -- the numbers of the words
 abbrev pub wordNumber : Word → ℕ

@@ -19,7 +19,7 @@ ghost use Rattle.policy.specs.Contract.{wordOf, answerOf, manyAnswerOf};
 ghost use Rattle.open.specs.Contract.{openingNumber};
 ghost use Rattle.block.specs.Blocks.{part, splice};
 ghost use Rattle.tables.specs.Rows.{le8};
-ghost use Rattle.fields.specs.Fields.{lowBytes, stateBytes, recordIn, countersIn, put8, putState, putLabel, putAnswer, putMany, wordNumber, fitting};
+ghost use Rattle.fields.specs.Fields.{lowBytes, stateBytes, recordIn, countersIn, put8, putState, putLabel, putAnswer, putMany, countsAfter, wordNumber, fitting};
 ghost use Rattle.fields.specs.Noted.{noted, notedMany, stateOpened, startOf, notedPlace};
 
 // A byte, widened.
@@ -145,6 +145,20 @@ pub fn put_many(answer: &mut [u8], hits: usize, flash: usize, primary: usize, fe
     put8(answer, 8, flash as u64);
     put8(answer, 16, primary as u64);
     put8(answer, 24, fetches as u64);
+}
+
+// Writes the nine counts of an exam question into what is lent for them; where that has another length, nothing.
+pub fn put_counts(s: &mut [u8], c: [u64; 9])
+    ensures { λ _. ⌜ now (s .exit) ≡ countsAfter c (now (s .entry)) ⌝ }
+{
+    if s.len() != exam::COUNTS {
+        return;
+    }
+    let mut h = 0;
+    while h < 9 {
+        put8(s, h * 8, c[h]);
+        h += 1;
+    }
 }
 
 // The number of a word.

@@ -45,7 +45,7 @@ pub(crate) fn unopened(number: u32, b: BoxRecord, c: Counters) -> Begun
 }
 
 // The record with the label `label`.
-pub(crate) fn with_label(b: BoxRecord, label: &[u8]) -> BoxRecord
+pub fn with_label(b: BoxRecord, label: &[u8]) -> BoxRecord
     requires { ⌜ length (now label) ≡ 64 ⌝ }
     ensures { λ r. ⌜ r ≡ record {
       size = b .size;

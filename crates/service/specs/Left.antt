@@ -8,6 +8,7 @@ use Prim.Native.Nat.{ℕ}
 use lib.Dec.{eqb}
 use lib.ListN.{length}
 use Rattle.block.specs.Blocks.{part}
+use Rattle.paper.specs.Cache.{Numbers}
 use Rattle.paper.specs.Lent.{Lent, Ask, Answer, refused, answered, After, lentBlock, call}
 use Rattle.paper.specs.BatchLent.{BatchAfter, callBatch}
 use Rattle.parts.specs.declared.BoxRecord.{BoxRecord}
@@ -15,7 +16,8 @@ use Rattle.parts.specs.Rep.{numbersOf, emptyBox}
 use Rattle.refusals.specs.Given.{countersOf, lent}
 use Rattle.open.specs.Contract.{Opened, opens}
 use Rattle.look.specs.Look.{whereIs}
-use Rattle.fields.specs.Fields.{get8, recordIn, countersIn, wordNumber, fitting, stateBytes}
+use Rattle.exam.specs.Contract.{question}
+use Rattle.fields.specs.Fields.{get8, recordIn, countersIn, countsAfter, wordNumber, fitting, stateBytes}
 use Rattle.fields.specs.Noted.{answerNumber, stateAfter, answerAfter, manyNumberOf, manyStateAfter, manyAnswerAfter, stateOpened, LeftLook, notedPlace}
 
 -- what is lent, of the state's bytes and the four buffers
@@ -141,3 +143,15 @@ pub record Shows (number : ℕ) (answer : List ℕ) (t : Lent) (x : After) : Typ
   pub number-is : number ≡ answerNumber (x .answer)
   pub word-is : number ≡ 0 → get8 answer 0 ≡ wordIn (x .answer)
   pub part-is : number ≡ 0 → shown (t .flash) (t .disk) answer ≡ x .part
+
+-- ---- an exam question
+
+-- what it leaves: the number it returns and what is lent for the counts
+pub record LeftScores : Type 0 where
+  pub number : ℕ
+  pub counts : List ℕ
+
+unfoldable pub leavesScores : Numbers → (disk : List ℕ) (k : ℕ) (counts : List ℕ) → LeftScores
+leavesScores N disk k s =
+    let q = question N disk k (length s) in
+    record { number = q .number; counts = countsAfter (q .counts) s }

@@ -4,3 +4,5 @@ pub mod Left
 pub mod Carried
 -- a whole list of C calls from an opening: each is the paper's, and demand 3 holds of the list
 pub mod Listed
+-- what is read of an exam question's counts
+pub mod Scored

@@ -9,7 +9,7 @@ ghost use Rattle.paper.specs.Lent.{Ask, call};
 ghost use Rattle.parts.specs.Rep.{numbersOf};
 ghost use Rattle.policy.specs.Contract.{askOf};
 ghost use Rattle.fields.specs.Fields.{recordIn, fitting};
-ghost use Rattle.service.specs.Left.{lentIn, leaving, leaves, leavesMany, leavesOpen, leavesLook, Shows};
+ghost use Rattle.service.specs.Left.{lentIn, leaving, leaves, leavesMany, leavesOpen, leavesLook, Shows, leavesScores};
 
 // Reads the block at `address` into `block`.
 #[no_mangle]
@@ -312,4 +312,25 @@ pub extern "C" fn mindavehu_open(
         c,
     );
     fields::write_opening(state, o)
+}
+
+// Counts over all lists of `k` reads, from a fresh box of these numbers and this label over `disk`, how many have 0, 1, up to 8 hits, into `counts`.
+#[no_mangle]
+pub extern "C" fn mindavehu_scores(
+    size: usize,
+    blocks: usize,
+    rows: usize,
+    slots: usize,
+    label: &[u8],
+    disk: &[u8],
+    k: usize,
+    counts: &mut [u8],
+) -> u32
+    ensures { λ r. ⌜ record { number = r; counts = now (counts .exit) }
+        ≡ leavesScores (record { B = size; P = blocks; m = rows; d = slots; label = now (label .entry) }) (now (disk .entry)) k (now (counts .entry)) ⌝ }
+{
+    let t = exam::scores(size, blocks, rows, slots, label, disk, k, counts.len());
+    let c = t.counts;
+    fields::put_counts(counts, c);
+    t.number
 }

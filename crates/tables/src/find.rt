@@ -22,7 +22,7 @@ pub(crate) fn same_words(f: &[u8], g: &[u8]) -> bool
 }
 
 // The same, with the first words compared where the call stands: different fingerprints nearly always differ there already.
-pub(crate) fn same_fingerprint(f: &[u8], g: &[u8]) -> bool
+pub fn same_fingerprint(f: &[u8], g: &[u8]) -> bool
     requires { ⌜ IsPrint (now f) × IsPrint (now g) ⌝ }
     ensures { λ r. ⌜ r ≡ same (now (f .entry)) (now (g .entry)) ⌝ }
 {

@@ -37,6 +37,7 @@ impl PlainDisk {
 }
 
 /// D-LRU as it is printed: two lists, oldest first. An address has the content that it had on the disk at first.
+#[derive(Clone)]
 pub struct PrintedDlru {
     m: usize,
     d: usize,

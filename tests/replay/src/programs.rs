@@ -1,4 +1,4 @@
-//! The built programs: the proved replay, and the trainer's program of the states, which is compiled here through the header.
+//! The built programs: the proved replay, and the trainer's programs of the states and of exam questions, which are compiled here through the header.
 use std::io::{ErrorKind, Write};
 use std::path::{Path, PathBuf};
 use std::process::{Child, Command, Output, Stdio};
@@ -37,7 +37,7 @@ impl Program {
         Program { path, words: vec![] }
     }
 
-    /// The program of the states, with the compiler's options and its own.
+    /// A program of the trainer, with the compiler's options and its own words.
     pub fn states(build: &'static Build, words: &[&str]) -> Program {
         Program { path: build.path().to_owned(), words: words.iter().map(|word| word.to_string()).collect() }
     }
@@ -115,15 +115,26 @@ pub fn commands(name: &str, names: &[&str]) -> PathBuf {
 /// What the script ./replay and an installed tree need beside the C library.
 pub const PLAIN_COMMANDS: [&str; 5] = ["bash", "cat", "env", "readlink", "sed"];
 
-/// A build of trainer/states.c, made once in each test program.
+/// A build of a program of trainer/, made once in each test program.
 pub struct Build {
+    source: &'static str,
     name: &'static str,
     flags: &'static [&'static str],
     path: OnceLock<PathBuf>,
 }
 
-pub static PLAIN: Build = Build { name: "states", flags: &[], path: OnceLock::new() };
-pub static SANITIZED: Build = Build { name: "states-sanitized", flags: &["-fsanitize=address,undefined", "-fno-sanitize-recover=all"], path: OnceLock::new() };
+const SANITIZERS: &[&str] = &["-fsanitize=address,undefined", "-fno-sanitize-recover=all"];
+
+impl Build {
+    const fn of(source: &'static str, name: &'static str, flags: &'static [&'static str]) -> Build {
+        Build { source, name, flags, path: OnceLock::new() }
+    }
+}
+
+pub static PLAIN: Build = Build::of("trainer/states.c", "states", &[]);
+pub static SANITIZED: Build = Build::of("trainer/states.c", "states-sanitized", SANITIZERS);
+pub static EXAM: Build = Build::of("trainer/exam.c", "exam", &[]);
+pub static EXAM_SANITIZED: Build = Build::of("trainer/exam.c", "exam-sanitized", SANITIZERS);
 
 impl Build {
     fn gcc(&self, source: &Path, more: &[&Path], output: &Path) -> (bool, String) {
@@ -148,8 +159,8 @@ impl Build {
         self.path.get_or_init(|| {
             let output = root().join("target/tests").join(self.name);
             let library = root().join("target/staticlib/libservice.a");
-            let (built, said) = self.gcc(&root().join("trainer/states.c"), &[&library], &output);
-            assert!(built, "trainer/states.c does not compile:\n{said}");
+            let (built, said) = self.gcc(&root().join(self.source), &[&library], &output);
+            assert!(built, "{} does not compile:\n{said}", self.source);
             output
         })
     }

@@ -40,7 +40,7 @@ fn number(name: &str) -> u64 {
 #[test]
 fn the_numbers() {
     let page = read("docs/FORMATS.md");
-    let refusals = ["OUTSIDE", "WRONG_LENGTH", "NO_ADDRESS", "BAD_ADDRESSES", "BAD_BLOCKS", "DIRTY_UNCACHED", "COUNTER_FULL", "BAD_COUNT"];
+    let refusals = ["OUTSIDE", "WRONG_LENGTH", "NO_ADDRESS", "BAD_ADDRESSES", "BAD_BLOCKS", "DIRTY_UNCACHED", "COUNTER_FULL", "BAD_COUNT", "TOO_LARGE"];
     let mut told: Vec<u64> = page
         .split("## Refusals")
         .nth(1)
@@ -77,11 +77,11 @@ fn the_numbers() {
 #[test]
 fn the_lengths() {
     let page = read("docs/FORMATS.md");
-    for length in ["STATE", "LABEL", "ANSWER", "MANY_ANSWER", "ROW"] {
+    for length in ["STATE", "LABEL", "ANSWER", "MANY_ANSWER", "COUNTS", "ROW"] {
         assert!(page.contains(&format!(" {} bytes", number(length))), "{length}");
     }
     let (first, last) = (number("STATE_LABEL"), number("STATE") - 1);
     assert_eq!((number("STATE"), number("LABEL")), (STATE as u64, LABEL as u64));
     assert!(last + 1 - first == number("LABEL") && page.contains(&format!("Bytes {first} to {last} are the label")), "the label's place");
-    println!("5 lengths, and the label in bytes {first} to {last} of the state");
+    println!("6 lengths, and the label in bytes {first} to {last} of the state");
 }

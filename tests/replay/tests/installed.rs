@@ -56,6 +56,7 @@ fn what_is_there() {
     assert_eq!(found, files(&root().join("dist")), "the copy and dist/");
     let wanted = [
         "bin/replay",
+        "bin/exam",
         "include/mindavehu.h",
         "lib/libmindavehu.a",
         "lib/pkgconfig/mindavehu.pc",
@@ -64,6 +65,7 @@ fn what_is_there() {
     ];
     for name in wanted.iter().chain(&[
         "share/man/man1/replay.1",
+        "share/man/man1/exam.1",
         "share/mindavehu/lessons/week.txt",
         "share/mindavehu/docs/week.html",
         "share/mindavehu/docs/FORMATS.md",
@@ -112,6 +114,18 @@ fn the_week_without_a_toolchain() {
     println!("{}", version.replace('\n', ", "));
 }
 
+/// The exam's command of the tree prints what that of the checkout does.
+#[test]
+fn exam_questions_without_a_toolchain() {
+    let path = commands("exam-no-toolchain", &PLAIN_COMMANDS);
+    let words = ["--list", "2", "3", "64", "4", "3", "2", "5"];
+    let done = Command::new(tree().join("bin/exam")).args(words).env_clear().env("PATH", &path).stdin(Stdio::null()).output().unwrap();
+    let own = Command::new(root().join("exam")).args(words).stdin(Stdio::null()).output().unwrap();
+    assert!(done.status.success() && done.stderr.is_empty() && own.status.success(), "{}", String::from_utf8_lossy(&done.stderr));
+    assert!(done.stdout == own.stdout && !done.stdout.is_empty());
+    println!("{}", String::from_utf8_lossy(&done.stdout).lines().next().unwrap());
+}
+
 /// The page needs python3: without it that is said, and with it the page is the one of docs/.
 #[test]
 fn the_page() {
@@ -127,7 +141,7 @@ fn the_page() {
 /// The programs need the C library and nothing else that is loaded.
 #[test]
 fn the_c_library_alone() {
-    for name in ["replay_cli", "states", "mark"] {
+    for name in ["replay_cli", "states", "exam", "mark"] {
         let done = Command::new("ldd").arg(tree().join("libexec/mindavehu").join(name)).output().unwrap();
         let said = String::from_utf8(done.stdout).unwrap() + &String::from_utf8_lossy(&done.stderr);
         let others: Vec<&str> = said
@@ -136,7 +150,7 @@ fn the_c_library_alone() {
             .collect();
         assert!(others.is_empty() && !said.is_empty(), "{name}: {said}");
     }
-    println!("three programs, and the C library alone");
+    println!("four programs, and the C library alone");
 }
 
 fn pkg_config(words: &[&str]) -> String {
@@ -166,7 +180,7 @@ fn from_c_by_pkg_config() {
     }
 }
 
-/// Every option that --help names is in the manual page, and the other way round.
+/// Every option that --help names is in the command's manual page, and the other way round.
 #[test]
 fn the_manual_page() {
     let options = |text: &str| {
@@ -179,9 +193,13 @@ fn the_manual_page() {
         found.dedup();
         found
     };
-    let page = std::fs::read_to_string(tree().join("share/man/man1/replay.1")).unwrap().replace("\\-", "-");
-    let help = String::from_utf8(Command::new(root().join("replay")).arg("--help").output().unwrap().stdout).unwrap();
-    assert_eq!(options(&page), options(&help));
-    assert!(options(&page).len() >= 9 && !page.contains("@VERSION@"));
-    println!("the manual page: {}", options(&page).join(" "));
+    for (name, least) in [("replay", 9), ("exam", 3)] {
+        let page = std::fs::read_to_string(tree().join(format!("share/man/man1/{name}.1"))).unwrap().replace("\\-", "-");
+        // Of ./replay the exam's help names options too, each behind its name.
+        let help = String::from_utf8(Command::new(root().join(name)).arg("--help").output().unwrap().stdout).unwrap();
+        let own = if name == "exam" { help.replace("./replay --build", "").replace("./replay --disk", "") } else { help };
+        assert_eq!(options(&page), options(&own), "{name}");
+        assert!(options(&page).len() >= least && !page.contains("@VERSION@"));
+        println!("the manual page of {name}: {}", options(&page).join(" "));
+    }
 }

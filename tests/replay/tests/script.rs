@@ -168,7 +168,7 @@ fn the_version() {
 /// A checkout in which nothing is built: the script, what it compiles, and the crates by their names.
 fn unbuilt(name: &str) -> std::path::PathBuf {
     let place = folder(name);
-    for file in ["replay", "crates.txt", "include/mindavehu.h", "trainer/states.c", "trainer/mark.c"] {
+    for file in ["replay", "exam", "crates.txt", "include/mindavehu.h", "trainer/states.c", "trainer/exam.c", "trainer/mark.c"] {
         std::fs::create_dir_all(place.join(file).parent().unwrap()).unwrap();
         std::fs::copy(root().join(file), place.join(file)).unwrap();
     }
@@ -238,6 +238,8 @@ fn built_at_once() {
         let done = with_commands(&place.join("replay"), &path, &[words, &[list.to_str().unwrap()]].concat());
         assert!(done.status.success() && done.stderr.is_empty() && !done.stdout.is_empty(), "{words:?}: {}", String::from_utf8_lossy(&done.stderr));
     }
+    let done = with_commands(&place.join("exam"), &path, &["64", "2", "1", "1", "2"]);
+    assert!(done.status.success() && done.stderr.is_empty() && !done.stdout.is_empty(), "exam: {}", String::from_utf8_lossy(&done.stderr));
     println!("--build, and nothing is left to prove then");
 }
 

@@ -1,4 +1,5 @@
 //! The service's C functions, on boxes in bytes.
+use model::exam::Question;
 use model::{Call, Folder, Lent};
 
 type P = *const u8;
@@ -24,6 +25,7 @@ extern "C" {
     fn mindavehu_flush(s: M, sl: usize, d: M, dl: usize, f: P, fl: usize, a: M, al: usize, b: P, bl: usize, w: M, wl: usize) -> u32;
     fn mindavehu_flush_some(s: M, sl: usize, most: usize, d: M, dl: usize, f: P, fl: usize, a: M, al: usize, b: P, bl: usize, w: M, wl: usize) -> u32;
     fn mindavehu_look(s: P, sl: usize, address: u32, d: P, dl: usize, f: P, fl: usize, a: P, al: usize, b: P, bl: usize, w: M, wl: usize) -> u32;
+    fn mindavehu_scores(b: usize, p: usize, m: usize, d: usize, l: P, ll: usize, disk: P, dl: usize, k: usize, c: M, cl: usize) -> u32;
 }
 
 /// The buffers of a call in their order: state, disk, flash, address table, block table, lent block, answer and, where a box has all of its own, the label
@@ -70,6 +72,20 @@ pub fn call(call: Call, address: u32, lent: &mut Lent) -> u32 {
 pub fn call_many(lent: &mut Lent, folder: &mut Folder) -> u32 {
     let Lent { state, disk, flash, addresses, blocks, .. } = lent;
     many_on_slices(&folder.asked, [state, disk, flash, addresses, blocks, &mut folder.buffer, &mut folder.answer])
+}
+
+fn question_on_slices(q: &Question, label: &[u8], disk: &[u8], counts: &mut [u8]) -> u32 {
+    let Question { b, p, m, d, k, .. } = *q;
+    // SAFETY: each pointer comes with the length of its own slice.
+    unsafe { mindavehu_scores(b, p, m, d, label.as_ptr(), label.len(), disk.as_ptr(), disk.len(), k, counts.as_mut_ptr(), counts.len()) }
+}
+
+/// The counts of an exam question.
+pub fn call_question(q: &mut Question) -> u32 {
+    let mut counts = std::mem::take(&mut q.counts);
+    let number = question_on_slices(q, &q.label, &q.disk, &mut counts);
+    q.counts = counts;
+    number
 }
 
 const GUARD: usize = 32;
@@ -126,5 +142,16 @@ pub fn call_many_guarded(lent: &mut Lent, folder: &mut Folder, shift: usize) -> 
     let wide = [&vec![u32::MAX; start][..], &folder.asked, &[u32::MAX; 4]].concat();
     let number = many_on_slices(&wide[start..start + folder.asked.len()], lifted.slices());
     lifted.put_back(own, "one call for a folder");
+    number
+}
+
+/// The same as `call_question` with every buffer lifted.
+pub fn call_question_guarded(q: &mut Question, shift: usize) -> u32 {
+    let given = q.clone();
+    let own: Buffers<3> = [&mut q.label, &mut q.disk, &mut q.counts];
+    let mut lifted = Lifted::new(&own, shift);
+    let [label, disk, counts] = lifted.slices();
+    let number = question_on_slices(&given, label, disk, counts);
+    lifted.put_back(own, "an exam question");
     number
 }

@@ -1,4 +1,4 @@
-//! The engine with maps behind the service's C names.
+//! The engine with maps, and the search in plain Rust, behind the service's C names.
 use std::slice::{from_raw_parts, from_raw_parts_mut};
 
 type P = *const u8;
@@ -124,4 +124,9 @@ unsafe extern "C" fn mindavehu_look(s: P, sl: usize, address: u32, d: P, dl: usi
         from_raw_parts(b, bl),
         from_raw_parts_mut(w, wl),
     )
+}
+
+#[no_mangle]
+unsafe extern "C" fn mindavehu_scores(b: usize, p: usize, m: usize, d: usize, l: P, ll: usize, disk: P, dl: usize, k: usize, c: M, cl: usize) -> u32 {
+    engines::scores::scores([b, p, m, d], from_raw_parts(l, ll), from_raw_parts(disk, dl), k, from_raw_parts_mut(c, cl))
 }

@@ -1,0 +1,5 @@
+pub mod SmallLaws
+pub mod Searching
+pub mod Simulated
+pub mod ContentLaws
+pub mod Answers
