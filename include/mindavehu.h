@@ -15,6 +15,7 @@
  *   block      B              the one block that a read fills or a write takes
  *   answer     24             the word, the flash writes and the primary writes: 8 bytes each, little-endian
  *                             (a look: the word, the byte where the part starts, the part's length)
+ *   report     m x 7 or m x 5 the manager's report or the desk's: a part of 7 or 5 bytes for each held address, then zeros
  * for an opening, beside the state, the disk, the flash and the tables:
  *   label      64             the office's label, any bytes: a served opening puts it into the state, from which all other calls take it
  * and for the one call that reads a list of addresses, in place of the block and of that answer:
@@ -28,14 +29,19 @@
  * opening, which writes n = 0 and a label of zeros into the state, and a refused exam question, which writes nine counts of 0. A state that is not 136
  * bytes, or an answer that is not 24 (of the call for a list: not 32), gives MINDAVEHU_WRONG_LENGTH before anything else is looked at, and nothing at all
  * is changed.
- * Where several refusals apply, the first of 1, 2, 10, 3, 6, 7, 8, 9 is told. Only the call for a list has 10. Flush has no 3, look no 9, opening
- * only 1 and 2, an exam question only 1, 2 and 17.
+ * Where several refusals apply, the first of 1, 2, 10, 3, 6, 7, 8, 9 is told. Only the call for a list has 10. Flush has no 3, look no 9, a report neither,
+ * opening only 1 and 2, an exam question only 1, 2 and 17.
+ *
+ * Seats. Each write is given the number of the seat that makes it, and a held address has the number of the seat that wrote it last; 0 where a read has
+ * brought it and no seat has written it since. The office manager may be shown the manager's report, which has the seats. The desk may be shown the desk's
+ * report and every answer, block and counter: nothing of these depends on a seat. Two runs from one box, with the same calls but other seats, refused calls
+ * included, give the desk the same. The address table has the seats too, so whoever may not see them is not shown that either.
  *
  * The caller's duties, which no call can check:
  *   - each pointer is to that many bytes (asked: to that many uint32_t), readable, and writable where it is not const; none is NULL, even at
  *     length 0;
  *   - the buffers of one call do not overlap, unless both are const (so the label of an opening is not that in its own state);
- *   - nobody else reads or writes them while a call runs (a look only reads all but its answer, so looks may run beside each other);
+ *   - nobody else reads or writes them while a call runs (a look and a report only read all but what they answer, so these may run beside each other);
  *   - between calls the buffers are kept as they were left. Other bytes do no harm to the program: a damaged table is refused with
  *     6, 7 or 8, and sound tables of another history are served as what they say.
  * The fingerprint of a block is SHA-256 over the box's label followed by the block. Blocks are told apart by it alone: two blocks with one fingerprint
@@ -53,6 +59,7 @@
  *     enum { B = 64, P = 8, M = 3, D = 2 };
  *     static uint8_t disk[MINDAVEHU_DISK_LENGTH(B, P)], flash[MINDAVEHU_FLASH_LENGTH(B, D)], block[MINDAVEHU_BLOCK_LENGTH(B)];
  *     static uint8_t addresses[MINDAVEHU_ADDRESSES_LENGTH(M)], blocks[MINDAVEHU_BLOCKS_LENGTH(D)];
+ *     static uint8_t manager[MINDAVEHU_MANAGER_REPORT_LENGTH(M)], desk[MINDAVEHU_DESK_REPORT_LENGTH(M)];
  *     static const uint8_t label[MINDAVEHU_LABEL] = "Office 7";
  *
  *     int main(void)
@@ -62,13 +69,19 @@
  *         if (mindavehu_box_open(&box, label, sizeof label, B, P, M, D) != MINDAVEHU_SERVED)
  *             return 1;
  *         memset(block, 7, sizeof block);
- *         if (mindavehu_box_write_back(&box, 5, block, sizeof block) != MINDAVEHU_SERVED)
+ *         if (mindavehu_box_write_back(&box, 5, 17, block, sizeof block) != MINDAVEHU_SERVED)
  *             return 1;
  *         memset(block, 0, sizeof block);
  *         if (mindavehu_box_read(&box, 5, block, sizeof block) != MINDAVEHU_SERVED)
  *             return 1;
  *         printf("%s, byte %d\n", mindavehu_word_name(mindavehu_get(box.answer, MINDAVEHU_WORD)), block[0]);
  *         printf("%s\n", mindavehu_refusal_text(mindavehu_box_read(&box, P, block, sizeof block)));
+ *         if (mindavehu_box_manager_report(&box, manager, sizeof manager) != MINDAVEHU_SERVED
+ *             || mindavehu_box_desk_report(&box, desk, sizeof desk) != MINDAVEHU_SERVED)
+ *             return 1;
+ *         printf("the manager sees address %u, dirty %d, seat %u\n", (unsigned)mindavehu_report_address(manager),
+ *                manager[MINDAVEHU_REPORT_DIRTY], mindavehu_report_seat(manager));
+ *         printf("the desk sees address %u, dirty %d\n", (unsigned)mindavehu_report_address(desk), desk[MINDAVEHU_REPORT_DIRTY]);
  *         return mindavehu_box_flush(&box) != MINDAVEHU_SERVED;
  *     }
  *
@@ -76,6 +89,8 @@
  *
  *     hit, byte 7
  *     the address is P or more
+ *     the manager sees address 5, dirty 1, seat 17
+ *     the desk sees address 5, dirty 1
  *
  * The same box without the struct, and a folder of three pages, one of them twice, opened with one call:
  *
@@ -98,7 +113,7 @@
  *                            addresses, sizeof addresses, blocks, sizeof blocks) != MINDAVEHU_SERVED)
  *             return 1;
  *         memset(block, 7, sizeof block);
- *         if (mindavehu_write_back(state, sizeof state, 5, disk, sizeof disk, flash, sizeof flash, addresses, sizeof addresses,
+ *         if (mindavehu_write_back(state, sizeof state, 5, 17, disk, sizeof disk, flash, sizeof flash, addresses, sizeof addresses,
  *                                  blocks, sizeof blocks, block, sizeof block, answer, sizeof answer) != MINDAVEHU_SERVED)
  *             return 1;
  *         if (mindavehu_read_many(state, sizeof state, asked, 4, disk, sizeof disk, flash, sizeof flash, addresses, sizeof addresses,
@@ -125,23 +140,27 @@ extern "C" {
 #endif
 
 /* The version of this header and of the library that belongs to it. Version 1 had a state of 72 bytes without a label, and opened a box without one; in
- * version 2 the layout of the state is another: the label follows the nine numbers. Version 2.1 has mindavehu_scores besides. */
-#define MINDAVEHU_VERSION "2.1.0"
-#define MINDAVEHU_VERSION_MAJOR 2
-#define MINDAVEHU_VERSION_MINOR 1
+ * version 2 the layout of the state is another: the label follows the nine numbers; version 2.1 has mindavehu_scores besides. In version 3 each of the
+ * three writes takes a seat behind its address, the address table keeps the seats in two bytes of a row that were zero before, and there are two reports.
+ * Boxes of version 2 are boxes of version 3 in which every seat is 0. */
+#define MINDAVEHU_VERSION "3.0.0"
+#define MINDAVEHU_VERSION_MAJOR 3
+#define MINDAVEHU_VERSION_MINOR 0
 #define MINDAVEHU_VERSION_PATCH 0
 
 /* The most bytes of stack that a call needs. */
 #define MINDAVEHU_STACK 24576
 
-/* Lengths in bytes: of the state, of a label, of an answer, of the answer of the call for a list, of the counts of an exam question, and of a row of
- * either table. */
+/* Lengths in bytes: of the state, of a label, of an answer, of the answer of the call for a list, of the counts of an exam question, of a row of either
+ * table, and of the part of each held address in the manager's report and in the desk's. */
 #define MINDAVEHU_STATE 136
 #define MINDAVEHU_LABEL 64
 #define MINDAVEHU_ANSWER 24
 #define MINDAVEHU_MANY_ANSWER 32
 #define MINDAVEHU_COUNTS 72
 #define MINDAVEHU_ROW 40
+#define MINDAVEHU_MANAGER_PART 7
+#define MINDAVEHU_DESK_PART 5
 
 /* The length in bytes of each other buffer, by the box's numbers and the number of addresses in a list. */
 #define MINDAVEHU_DISK_LENGTH(B, P) ((size_t)(P) * (size_t)(B))
@@ -150,6 +169,8 @@ extern "C" {
 #define MINDAVEHU_BLOCKS_LENGTH(d) ((size_t)(d) * MINDAVEHU_ROW)
 #define MINDAVEHU_BLOCK_LENGTH(B) ((size_t)(B))
 #define MINDAVEHU_BUFFER_LENGTH(B, count) ((size_t)(count) * (size_t)(B))
+#define MINDAVEHU_MANAGER_REPORT_LENGTH(m) ((size_t)(m) * MINDAVEHU_MANAGER_PART)
+#define MINDAVEHU_DESK_REPORT_LENGTH(m) ((size_t)(m) * MINDAVEHU_DESK_PART)
 
 /* The most addresses in a list. */
 #define MINDAVEHU_MANY_MOST 64
@@ -202,6 +223,12 @@ extern "C" {
 #define MINDAVEHU_MANY_HITS 0
 #define MINDAVEHU_FETCHES 24
 
+/* The fields of a report's part, by the byte where each starts: the address, 4 bytes, the dirty byte, 1 or 0, and, of the manager's report alone, the seat, 2
+ * bytes; little-endian. */
+#define MINDAVEHU_REPORT_ADDRESS 0
+#define MINDAVEHU_REPORT_DIRTY 4
+#define MINDAVEHU_REPORT_SEAT 5
+
 /* A field of the state or of an answer, read and written. */
 static inline uint64_t mindavehu_get(const uint8_t *bytes, size_t field)
 {
@@ -215,6 +242,18 @@ static inline void mindavehu_put(uint8_t *bytes, size_t field, uint64_t value)
 {
     for (size_t i = 0; i < 8; i++, value >>= 8)
         bytes[field + i] = (uint8_t)value;
+}
+
+/* The address of a report's part, and the seat of a part of the manager's report. */
+static inline uint32_t mindavehu_report_address(const uint8_t *part)
+{
+    part += MINDAVEHU_REPORT_ADDRESS;
+    return (uint32_t)part[3] << 24 | (uint32_t)part[2] << 16 | (uint32_t)part[1] << 8 | part[0];
+}
+
+static inline uint16_t mindavehu_report_seat(const uint8_t *part)
+{
+    return (uint16_t)(part[MINDAVEHU_REPORT_SEAT + 1] << 8 | part[MINDAVEHU_REPORT_SEAT]);
 }
 
 /* What a refusal means, in words, and the word of an answer as a replay prints it. Of another number: that it is none. */
@@ -284,8 +323,8 @@ uint32_t mindavehu_read_many(uint8_t *state, size_t state_length,
                              uint8_t *buffer, size_t buffer_length,
                              uint8_t *answer, size_t answer_length);
 
-/* Write through: `block` goes to the disk at the address, and into the cache. Answers SAME or NEW. */
-uint32_t mindavehu_write_through(uint8_t *state, size_t state_length, uint32_t address,
+/* Write through: `block` goes to the disk at the address, and into the cache. Answers SAME or NEW. The address has the call's seat then. */
+uint32_t mindavehu_write_through(uint8_t *state, size_t state_length, uint32_t address, uint16_t seat,
                                  uint8_t *disk, size_t disk_length,
                                  uint8_t *flash, size_t flash_length,
                                  uint8_t *addresses, size_t addresses_length,
@@ -294,8 +333,8 @@ uint32_t mindavehu_write_through(uint8_t *state, size_t state_length, uint32_t a
                                  uint8_t *answer, size_t answer_length);
 
 /* Write back: `block` goes into the cache, and to the disk when it leaves the cache or at a flush. An address that is held, clean,
- * with the same content stays clean, and nothing is copied for it later. Answers SAME or NEW. */
-uint32_t mindavehu_write_back(uint8_t *state, size_t state_length, uint32_t address,
+ * with the same content stays clean, and nothing is copied for it later. Answers SAME or NEW. The address has the call's seat then, clean or not. */
+uint32_t mindavehu_write_back(uint8_t *state, size_t state_length, uint32_t address, uint16_t seat,
                               uint8_t *disk, size_t disk_length,
                               uint8_t *flash, size_t flash_length,
                               uint8_t *addresses, size_t addresses_length,
@@ -304,8 +343,8 @@ uint32_t mindavehu_write_back(uint8_t *state, size_t state_length, uint32_t addr
                               uint8_t *answer, size_t answer_length);
 
 /* Write invalidate: `block` goes to the disk at the address, and the address leaves the cache. The flash is lent as to the other
- * writes; it is as it was afterwards. Answers SAME or NEW. */
-uint32_t mindavehu_write_invalidate(uint8_t *state, size_t state_length, uint32_t address,
+ * writes; it is as it was afterwards. Answers SAME or NEW. The seat is kept nowhere. */
+uint32_t mindavehu_write_invalidate(uint8_t *state, size_t state_length, uint32_t address, uint16_t seat,
                                     uint8_t *disk, size_t disk_length,
                                     uint8_t *flash, size_t flash_length,
                                     uint8_t *addresses, size_t addresses_length,
@@ -339,6 +378,23 @@ uint32_t mindavehu_look(const uint8_t *state, size_t state_length, uint32_t addr
                         const uint8_t *addresses, size_t addresses_length,
                         const uint8_t *blocks, size_t blocks_length,
                         uint8_t *answer, size_t answer_length);
+
+/* The manager's report: address, dirty byte and seat of each held address, oldest use first, then zeros. The state's n is the number of parts. Nothing else is
+ * changed and nothing is counted; a refused report keeps its bytes. */
+uint32_t mindavehu_manager_report(const uint8_t *state, size_t state_length,
+                                  const uint8_t *disk, size_t disk_length,
+                                  const uint8_t *flash, size_t flash_length,
+                                  const uint8_t *addresses, size_t addresses_length,
+                                  const uint8_t *blocks, size_t blocks_length,
+                                  uint8_t *report, size_t report_length);
+
+/* The desk's report: the same without the seats. */
+uint32_t mindavehu_desk_report(const uint8_t *state, size_t state_length,
+                               const uint8_t *disk, size_t disk_length,
+                               const uint8_t *flash, size_t flash_length,
+                               const uint8_t *addresses, size_t addresses_length,
+                               const uint8_t *blocks, size_t blocks_length,
+                               uint8_t *report, size_t report_length);
 
 /* How hard an exam question is: counts, over all lists of k reads (k from 0 to 8) from a fresh box of these numbers and this label over the disk, how many
  * have 0, 1, up to 8 hits. Count h starts at byte 8 x h of `counts` (mindavehu_get(counts, 8 * h)); those beyond k are 0, and their total is P to the power k.
@@ -396,19 +452,22 @@ static inline uint32_t mindavehu_box_read_many(struct mindavehu_box *box, const 
     return mindavehu_read_many(MINDAVEHU_BOX_STATE, asked, count, MINDAVEHU_BOX_MEMORY, buffer, buffer_length, box->many, sizeof box->many);
 }
 
-static inline uint32_t mindavehu_box_write_through(struct mindavehu_box *box, uint32_t address, const uint8_t *block, size_t block_length)
+static inline uint32_t mindavehu_box_write_through(struct mindavehu_box *box, uint32_t address, uint16_t seat, const uint8_t *block,
+                                                   size_t block_length)
 {
-    return mindavehu_write_through(MINDAVEHU_BOX_STATE, address, MINDAVEHU_BOX_MEMORY, block, block_length, MINDAVEHU_BOX_ANSWER);
+    return mindavehu_write_through(MINDAVEHU_BOX_STATE, address, seat, MINDAVEHU_BOX_MEMORY, block, block_length, MINDAVEHU_BOX_ANSWER);
 }
 
-static inline uint32_t mindavehu_box_write_back(struct mindavehu_box *box, uint32_t address, const uint8_t *block, size_t block_length)
+static inline uint32_t mindavehu_box_write_back(struct mindavehu_box *box, uint32_t address, uint16_t seat, const uint8_t *block,
+                                                size_t block_length)
 {
-    return mindavehu_write_back(MINDAVEHU_BOX_STATE, address, MINDAVEHU_BOX_MEMORY, block, block_length, MINDAVEHU_BOX_ANSWER);
+    return mindavehu_write_back(MINDAVEHU_BOX_STATE, address, seat, MINDAVEHU_BOX_MEMORY, block, block_length, MINDAVEHU_BOX_ANSWER);
 }
 
-static inline uint32_t mindavehu_box_write_invalidate(struct mindavehu_box *box, uint32_t address, const uint8_t *block, size_t block_length)
+static inline uint32_t mindavehu_box_write_invalidate(struct mindavehu_box *box, uint32_t address, uint16_t seat, const uint8_t *block,
+                                                      size_t block_length)
 {
-    return mindavehu_write_invalidate(MINDAVEHU_BOX_STATE, address, MINDAVEHU_BOX_MEMORY, block, block_length, MINDAVEHU_BOX_ANSWER);
+    return mindavehu_write_invalidate(MINDAVEHU_BOX_STATE, address, seat, MINDAVEHU_BOX_MEMORY, block, block_length, MINDAVEHU_BOX_ANSWER);
 }
 
 static inline uint32_t mindavehu_box_flush(struct mindavehu_box *box)
@@ -424,6 +483,16 @@ static inline uint32_t mindavehu_box_flush_some(struct mindavehu_box *box, size_
 static inline uint32_t mindavehu_box_look(struct mindavehu_box *box, uint32_t address)
 {
     return mindavehu_look(MINDAVEHU_BOX_STATE, address, MINDAVEHU_BOX_MEMORY, MINDAVEHU_BOX_ANSWER);
+}
+
+static inline uint32_t mindavehu_box_manager_report(const struct mindavehu_box *box, uint8_t *report, size_t report_length)
+{
+    return mindavehu_manager_report(MINDAVEHU_BOX_STATE, MINDAVEHU_BOX_MEMORY, report, report_length);
+}
+
+static inline uint32_t mindavehu_box_desk_report(const struct mindavehu_box *box, uint8_t *report, size_t report_length)
+{
+    return mindavehu_desk_report(MINDAVEHU_BOX_STATE, MINDAVEHU_BOX_MEMORY, report, report_length);
 }
 
 #undef MINDAVEHU_BOX_STATE

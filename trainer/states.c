@@ -27,6 +27,14 @@
  * With --parts, a line `F k` is a flush of at most k dirty addresses, oldest use first; k is printed where the others have their address. A replay
  * knows no such line: without --parts it is refused with 4.
  *
+ * With --seats, a write may have the number of the seat that makes it as its last word, `B a hh s`, a decimal from 0 to 65535 (0 where there is none). Both
+ * reports are printed in place of the state, from the engine's own bytes: what the manager sees, each held address with the seat that wrote it last, and what
+ * the desk sees, the addresses alone. A replay knows no such write: without --seats it is refused with 4.
+ *
+ *     1 B 1 new 1 0
+ *         manager: 1* seat 7
+ *         desk: 1*
+ *
  * With --folder ADDRESSES (decimals with commas between them; an empty word for none), the folder of these addresses is opened after the list, twice
  * from the same box: with one call, and read by read. Both ways are printed, with the content of each block read, and whether they leave the same:
  *
@@ -75,7 +83,7 @@ static uint8_t state[MINDAVEHU_STATE], answer[MINDAVEHU_ANSWER];
 static uint8_t disk[MOST_BYTES], flash[MOST_BYTES], block[MOST_B];
 static uint8_t addresses[MOST_M * MINDAVEHU_ROW], blocks[MOST_D * MINDAVEHU_ROW];
 static size_t B, P, m, d;
-static int full, parts, explains, counting;
+static int full, parts, seats, explains, counting;
 
 /* A replay's label is all zeros. */
 static const uint8_t label[MINDAVEHU_LABEL] = {0};
@@ -105,11 +113,12 @@ struct line {
     size_t length;
 };
 
-/* A call: its letter, its address as it is printed, or the most that a flush in parts copies, and the byte that a written block is filled with. */
+/* A call: its letter, its address as it is printed, or the most that a flush in parts copies, and of a write the byte that its block is filled with and its
+ * seat. */
 struct call {
     char letter;
     int has_address;
-    uint32_t address, content;
+    uint32_t address, content, seat;
 };
 
 #define TABLES addresses, m *MINDAVEHU_ROW, blocks, d *MINDAVEHU_ROW
@@ -252,6 +261,9 @@ static int is_call(const struct line *line, struct call *call)
         return 0;
     if (strchr("TBI", call->letter) && !(take_text(line, &at, " ") && take_hexadecimal(line, &at, &call->content)))
         return 0;
+    if (seats && strchr("TBI", call->letter) && at < line->length
+        && !(take_text(line, &at, " ") && take_decimal(line, &at, &call->seat) && call->seat <= UINT16_MAX))
+        return 0;
     return at == line->length;
 }
 
@@ -277,16 +289,17 @@ static uint32_t open_box(const uint32_t numbers[4])
 static uint32_t carry_out(const struct call *call)
 {
     uint32_t a = call->address;
+    uint16_t seat = (uint16_t)call->seat;
     memset(block, (int)call->content, B);
     switch (call->letter) {
     case 'R':
         return mindavehu_read(STATE, a, MEMORY, block, B, ANSWER);
     case 'T':
-        return mindavehu_write_through(STATE, a, MEMORY, block, B, ANSWER);
+        return mindavehu_write_through(STATE, a, seat, MEMORY, block, B, ANSWER);
     case 'B':
-        return mindavehu_write_back(STATE, a, MEMORY, block, B, ANSWER);
+        return mindavehu_write_back(STATE, a, seat, MEMORY, block, B, ANSWER);
     case 'I':
-        return mindavehu_write_invalidate(STATE, a, MEMORY, block, B, ANSWER);
+        return mindavehu_write_invalidate(STATE, a, seat, MEMORY, block, B, ANSWER);
     case 'L':
         return mindavehu_look(STATE, a, MEMORY, ANSWER);
     default:
@@ -316,9 +329,31 @@ static unsigned content_of(const uint8_t *row)
     return disk[number_at(row) * B];
 }
 
+/* What the manager sees and what the desk sees, each from the bytes of its report. */
+static void print_reports(void)
+{
+    static uint8_t manager[MINDAVEHU_MANAGER_REPORT_LENGTH(MOST_M)], desk[MINDAVEHU_DESK_REPORT_LENGTH(MOST_M)];
+    size_t held = mindavehu_get(state, MINDAVEHU_N);
+    if (mindavehu_manager_report(STATE, MEMORY, manager, MINDAVEHU_MANAGER_REPORT_LENGTH(m)) != MINDAVEHU_SERVED
+        || mindavehu_desk_report(STATE, MEMORY, desk, MINDAVEHU_DESK_REPORT_LENGTH(m)) != MINDAVEHU_SERVED)
+        abort();
+    printf("    manager:%s", held ? "" : " none");
+    for (const uint8_t *part = manager; part < manager + held * MINDAVEHU_MANAGER_PART; part += MINDAVEHU_MANAGER_PART)
+        printf("%s %u%s seat %u", part == manager ? "" : ",", (unsigned)mindavehu_report_address(part), part[MINDAVEHU_REPORT_DIRTY] ? "*" : "",
+               mindavehu_report_seat(part));
+    printf("\n    desk:%s", held ? "" : " none");
+    for (const uint8_t *part = desk; part < desk + held * MINDAVEHU_DESK_PART; part += MINDAVEHU_DESK_PART)
+        printf("%s %u%s", part == desk ? "" : ",", (unsigned)mindavehu_report_address(part), part[MINDAVEHU_REPORT_DIRTY] ? "*" : "");
+    printf("\n");
+}
+
 static void print_state(void)
 {
     size_t held = mindavehu_get(state, MINDAVEHU_N);
+    if (seats) {
+        print_reports();
+        return;
+    }
     printf("    ");
     for (size_t k = 0; k < held; k++) {
         const uint8_t *row = addresses + k * MINDAVEHU_ROW;
@@ -848,6 +883,7 @@ int main(int count, char **words)
 {
     full = is_option(count, words, 1, "--full");
     parts = is_option(count, words, 1, "--parts");
+    seats = is_option(count, words, 1, "--seats");
     explains = is_option(count, words, full ? 2 : 1, "--explain");
     counting = is_option(count, words, 1, "--counts");
     has_folder = is_option(count, words, 1, "--folder") && count == 3;
@@ -861,8 +897,9 @@ int main(int count, char **words)
             fprintf(stderr, "states: --folder takes at most %d addresses with commas between them, such as 2,5,2: %s\n", MOST_FOLDER, words[2]);
             return 2;
         }
-    } else if (count > 1 + full + parts + explains) {
-        fprintf(stderr, "states: unknown option %s; there are --full, --parts, --explain, --full --explain, --counts and --folder ADDRESSES\n", words[1]);
+    } else if (count > 1 + full + parts + seats + explains) {
+        fprintf(stderr, "states: unknown option %s; there are --full, --parts, --seats, --explain, --full --explain, --counts and --folder ADDRESSES\n",
+                words[1]);
         return 2;
     }
     replay();

@@ -11,6 +11,7 @@ enum { B = 4096, P = 2048, M = 1024, D = 256, STACK = 1 << 20, PAINT = 0xA5 };
 
 static uint8_t buffer[MINDAVEHU_MANY_MOST * B], many[MINDAVEHU_MANY_ANSWER];
 static uint8_t state[MINDAVEHU_STATE], answer[MINDAVEHU_ANSWER], addresses[M * MINDAVEHU_ROW], blocks[D * MINDAVEHU_ROW], block[B];
+static uint8_t manager[MINDAVEHU_MANAGER_REPORT_LENGTH(M)], desk[MINDAVEHU_DESK_REPORT_LENGTH(M)];
 static const uint8_t label[MINDAVEHU_LABEL] = "Office 7";
 static uint8_t *disk, *flash;
 
@@ -31,7 +32,7 @@ static void *writes_back(void *unused)
     for (unsigned k = 0; k < 1500; k++) {
         memset(block, (int)(k % 251), B);
         block[0] = (uint8_t)(k >> 8);
-        mindavehu_write_back(state, sizeof state, k, MEMORY, BLOCK);
+        mindavehu_write_back(state, sizeof state, k, (uint16_t)k, MEMORY, BLOCK);
     }
     return unused;
 }
@@ -40,7 +41,7 @@ static void *writes_through(void *unused)
 {
     for (unsigned k = 0; k < 800; k++) {
         memset(block, (int)(k % 101), B);
-        mindavehu_write_through(state, sizeof state, k, MEMORY, BLOCK);
+        mindavehu_write_through(state, sizeof state, k, (uint16_t)k, MEMORY, BLOCK);
     }
     return unused;
 }
@@ -48,7 +49,7 @@ static void *writes_through(void *unused)
 static void *invalidates(void *unused)
 {
     for (unsigned k = 0; k < 800; k++)
-        mindavehu_write_invalidate(state, sizeof state, k, MEMORY, BLOCK);
+        mindavehu_write_invalidate(state, sizeof state, k, (uint16_t)k, MEMORY, BLOCK);
     return unused;
 }
 
@@ -89,6 +90,18 @@ static void *looks(void *unused)
     return unused;
 }
 
+static void *manager_reports(void *unused)
+{
+    mindavehu_manager_report(state, sizeof state, MEMORY, manager, sizeof manager);
+    return unused;
+}
+
+static void *desk_reports(void *unused)
+{
+    mindavehu_desk_report(state, sizeof state, MEMORY, desk, sizeof desk);
+    return unused;
+}
+
 /* Eight reads of four addresses. */
 static void *asks(void *unused)
 {
@@ -121,7 +134,8 @@ int main(void)
 {
     static const struct { const char *name; void *(*call)(void *); } calls[] = {
         {"open", opens}, {"write back", writes_back}, {"read", reads}, {"folder", folders}, {"flush in parts", flushes_in_parts}, {"flush", flushes},
-        {"look", looks}, {"write invalidate", invalidates}, {"write through", writes_through}, {"exam question", asks},
+        {"look", looks}, {"manager's report", manager_reports}, {"desk's report", desk_reports}, {"write invalidate", invalidates},
+        {"write through", writes_through}, {"exam question", asks},
     };
     long none = used(nothing);
     disk = calloc(P, B);

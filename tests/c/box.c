@@ -7,18 +7,21 @@
 #include "mindavehu.h"
 #include "expect.h"
 
-enum { B = 128, P = 16, M = 5, D = 3, COUNT = 4, CALLS = 4000 };
+enum { B = 128, P = 16, M = 5, D = 3, COUNT = 4, CALLS = 5000, KINDS = 10 };
 
 /* The memory of a box, the bytes behind the state and the answers included. */
 struct memory {
     uint8_t disk[MINDAVEHU_DISK_LENGTH(B, P)], flash[MINDAVEHU_FLASH_LENGTH(B, D)], addresses[MINDAVEHU_ADDRESSES_LENGTH(M)];
     uint8_t blocks[MINDAVEHU_BLOCKS_LENGTH(D)], block[MINDAVEHU_BLOCK_LENGTH(B)], buffer[MINDAVEHU_BUFFER_LENGTH(B, COUNT)];
     uint8_t state[MINDAVEHU_STATE], answer[MINDAVEHU_ANSWER], many[MINDAVEHU_MANY_ANSWER];
+    uint8_t manager[MINDAVEHU_MANAGER_REPORT_LENGTH(M)], desk[MINDAVEHU_DESK_REPORT_LENGTH(M)];
 };
 
 static struct memory one, other;
 static struct mindavehu_box box;
 static const uint8_t label[MINDAVEHU_LABEL] = "Office 7";
+/* Seats above 255 in the manager's reports. */
+static unsigned seen;
 
 #define STATE other.state, sizeof other.state
 #define MEMORY other.disk, sizeof other.disk, other.flash, sizeof other.flash, other.addresses, sizeof other.addresses, other.blocks, sizeof other.blocks
@@ -44,6 +47,7 @@ static void expect_same(void)
 static uint32_t call(unsigned kind)
 {
     uint32_t a = random_below(P + 1), asked[COUNT], first, second;
+    uint16_t seat = (uint16_t)random_below(65536);
     size_t length = B - (random_below(20) == 0), most = random_below(3);
     memset(one.block, (int)random_below(6), B);
     memcpy(other.block, one.block, B);
@@ -54,13 +58,14 @@ static uint32_t call(unsigned kind)
         first = mindavehu_box_read(&box, a, one.block, length), second = mindavehu_read(STATE, a, MEMORY, BLOCK, ANSWER);
         break;
     case 1:
-        first = mindavehu_box_write_through(&box, a, one.block, length), second = mindavehu_write_through(STATE, a, MEMORY, BLOCK, ANSWER);
+        first = mindavehu_box_write_through(&box, a, seat, one.block, length), second = mindavehu_write_through(STATE, a, seat, MEMORY, BLOCK, ANSWER);
         break;
     case 2:
-        first = mindavehu_box_write_back(&box, a, one.block, length), second = mindavehu_write_back(STATE, a, MEMORY, BLOCK, ANSWER);
+        first = mindavehu_box_write_back(&box, a, seat, one.block, length), second = mindavehu_write_back(STATE, a, seat, MEMORY, BLOCK, ANSWER);
         break;
     case 3:
-        first = mindavehu_box_write_invalidate(&box, a, one.block, length), second = mindavehu_write_invalidate(STATE, a, MEMORY, BLOCK, ANSWER);
+        first = mindavehu_box_write_invalidate(&box, a, seat, one.block, length);
+        second = mindavehu_write_invalidate(STATE, a, seat, MEMORY, BLOCK, ANSWER);
         break;
     case 4:
         first = mindavehu_box_look(&box, a), second = mindavehu_look(STATE, a, MEMORY, ANSWER);
@@ -71,19 +76,29 @@ static uint32_t call(unsigned kind)
     case 6:
         first = mindavehu_box_flush(&box), second = mindavehu_flush(STATE, MEMORY, ANSWER);
         break;
+    case 7:
+        first = mindavehu_box_manager_report(&box, one.manager, sizeof one.manager - (length < B));
+        second = mindavehu_manager_report(STATE, MEMORY, other.manager, sizeof other.manager - (length < B));
+        break;
+    case 8:
+        first = mindavehu_box_desk_report(&box, one.desk, sizeof one.desk - (length < B));
+        second = mindavehu_desk_report(STATE, MEMORY, other.desk, sizeof other.desk - (length < B));
+        break;
     default:
         first = mindavehu_box_read_many(&box, asked, COUNT, one.buffer, sizeof one.buffer);
         second = mindavehu_read_many(STATE, asked, COUNT, MEMORY, other.buffer, sizeof other.buffer, other.many, sizeof other.many);
     }
     EXPECT(first == second);
     expect_same();
+    for (size_t k = 0; k < M; k++)
+        seen += mindavehu_report_seat(one.manager + k * MINDAVEHU_MANAGER_PART) > 255;
     return first;
 }
 
 static void the_same_calls(void)
 {
     static const unsigned numbers[] = {B, P, M, D};
-    unsigned served[8] = {0}, refused = 0;
+    unsigned served[KINDS] = {0}, refused = 0;
     for (size_t k = 0; k < P; k++)
         memset(one.disk + k * B, (int)k % 6, B);
     memcpy(other.disk, one.disk, sizeof other.disk);
@@ -95,14 +110,15 @@ static void the_same_calls(void)
     EXPECT(memcmp(box.state + MINDAVEHU_STATE_LABEL, label, sizeof label) == 0);
     expect_same();
     for (int k = 0; k < CALLS; k++) {
-        unsigned kind = random_below(8);
+        unsigned kind = random_below(KINDS);
         if (call(kind) == MINDAVEHU_SERVED)
             served[kind]++;
         else
             refused++;
     }
-    for (unsigned kind = 0; kind < 8; kind++)
+    for (unsigned kind = 0; kind < KINDS; kind++)
         EXPECT(served[kind] > CALLS / 20);
+    EXPECT(seen);
     EXPECT(refused > CALLS / 40);
 }
 

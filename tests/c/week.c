@@ -1,5 +1,5 @@
 /* A week of calls through the header: the document's replay (E1), write back and sharing, eviction, flush, whole and in parts, looks, a folder opened
- * with one call, two offices with equal pages, and refusals.
+ * with one call, two offices with equal pages, seats and both reports, and refusals.
  * Prints what it checked, or the line that failed. */
 #include <stdio.h>
 #include <stdlib.h>
@@ -67,20 +67,24 @@ static uint32_t read_block(struct box *b, uint32_t a)
     memset(b->block, 0xEE, b->block_length);
     return mindavehu_read(STATE(b), a, MEMORY(b), BLOCK(b), ANSWER(b));
 }
+
+/* The seat that makes the next writes. */
+static uint16_t seat = 7;
+
 static uint32_t through(struct box *b, uint32_t a, int byte)
 {
     memset(b->block, byte, b->block_length);
-    return mindavehu_write_through(STATE(b), a, MEMORY(b), BLOCK(b), ANSWER(b));
+    return mindavehu_write_through(STATE(b), a, seat, MEMORY(b), BLOCK(b), ANSWER(b));
 }
 static uint32_t back(struct box *b, uint32_t a, int byte)
 {
     memset(b->block, byte, b->block_length);
-    return mindavehu_write_back(STATE(b), a, MEMORY(b), BLOCK(b), ANSWER(b));
+    return mindavehu_write_back(STATE(b), a, seat, MEMORY(b), BLOCK(b), ANSWER(b));
 }
 static uint32_t invalidate(struct box *b, uint32_t a, int byte)
 {
     memset(b->block, byte, b->block_length);
-    return mindavehu_write_invalidate(STATE(b), a, MEMORY(b), BLOCK(b), ANSWER(b));
+    return mindavehu_write_invalidate(STATE(b), a, seat, MEMORY(b), BLOCK(b), ANSWER(b));
 }
 static uint32_t flush(struct box *b) { return mindavehu_flush(STATE(b), MEMORY(b), ANSWER(b)); }
 static uint32_t flush_some(struct box *b, size_t most) { return mindavehu_flush_some(STATE(b), most, MEMORY(b), ANSWER(b)); }
@@ -359,7 +363,7 @@ static void refusals(void)
     KEPT(&b, mindavehu_flush_some(b.state, 135, 1, MEMORY(&b), ANSWER(&b)), MINDAVEHU_WRONG_LENGTH);
     KEPT(&b, mindavehu_look(STATE(&b), 1, MEMORY(&b), b.answer, 0), MINDAVEHU_WRONG_LENGTH);
     KEPT(&b, mindavehu_open(b.state, 72, b.block, 64, MEMORY(&b)), MINDAVEHU_WRONG_LENGTH);
-    KEPT(&b, mindavehu_write_back(STATE(&b), 1, MEMORY(&b), b.block, 63, ANSWER(&b)), MINDAVEHU_WRONG_LENGTH);
+    KEPT(&b, mindavehu_write_back(STATE(&b), 1, seat, MEMORY(&b), b.block, 63, ANSWER(&b)), MINDAVEHU_WRONG_LENGTH);
     mindavehu_put(b.state, MINDAVEHU_READS, (1ull << 63) + 1);
     KEPT(&b, mindavehu_read(STATE(&b), 1, MEMORY(&b), BLOCK(&b), ANSWER(&b)), MINDAVEHU_COUNTER_FULL);
     EXPECT(look(&b, 1) == 0);
@@ -373,7 +377,7 @@ static void refusals(void)
     mindavehu_put(b.state, MINDAVEHU_N, 4);
     KEPT(&b, mindavehu_look(STATE(&b), 1, MEMORY(&b), ANSWER(&b)), MINDAVEHU_BAD_ADDRESSES);
     mindavehu_put(b.state, MINDAVEHU_B, 96);
-    KEPT(&b, mindavehu_write_through(STATE(&b), 1, MEMORY(&b), BLOCK(&b), ANSWER(&b)), MINDAVEHU_OUTSIDE);
+    KEPT(&b, mindavehu_write_through(STATE(&b), 1, seat, MEMORY(&b), BLOCK(&b), ANSWER(&b)), MINDAVEHU_OUTSIDE);
     mindavehu_put(b.state, MINDAVEHU_HITS, 77);
     EXPECT(open_box(&b) == MINDAVEHU_OUTSIDE);
     EXPECT(mindavehu_get(b.state, MINDAVEHU_N) == 0 && mindavehu_get(b.state, MINDAVEHU_HITS) == 77 && mindavehu_get(b.state, MINDAVEHU_B) == 96);
@@ -381,6 +385,127 @@ static void refusals(void)
     mindavehu_put(b.state, MINDAVEHU_B, 64);
     EXPECT(open_box(&b) == 0 && counted(&b, 0, 0, 0, 0) && filled(b.addresses, b.addresses_length, 0));
     drop(&b);
+}
+
+/* Both reports of a box of three addresses, each its own piece of the heap. */
+struct reports {
+    uint8_t *manager, *desk;
+};
+
+#define MANAGER(r) (r)->manager, MINDAVEHU_MANAGER_REPORT_LENGTH(3)
+#define DESK(r) (r)->desk, MINDAVEHU_DESK_REPORT_LENGTH(3)
+
+static struct reports make_reports(void)
+{
+    struct reports r = {piece(MINDAVEHU_MANAGER_REPORT_LENGTH(3)), piece(MINDAVEHU_DESK_REPORT_LENGTH(3))};
+    memset(r.manager, 0xEE, MINDAVEHU_MANAGER_REPORT_LENGTH(3));
+    memset(r.desk, 0xEE, MINDAVEHU_DESK_REPORT_LENGTH(3));
+    return r;
+}
+
+static void drop_reports(struct reports *r)
+{
+    free(r->manager), free(r->desk);
+}
+
+static uint32_t manager_report(struct box *b, struct reports *r) { return mindavehu_manager_report(STATE(b), MEMORY(b), MANAGER(r)); }
+static uint32_t desk_report(struct box *b, struct reports *r) { return mindavehu_desk_report(STATE(b), MEMORY(b), DESK(r)); }
+
+/* Whether the reports say this of the row with this number. */
+static int reported(const struct reports *r, size_t row, uint32_t a, int dirty, uint16_t by)
+{
+    const uint8_t *manager = r->manager + row * MINDAVEHU_MANAGER_PART, *desk = r->desk + row * MINDAVEHU_DESK_PART;
+    return mindavehu_report_address(manager) == a && manager[MINDAVEHU_REPORT_DIRTY] == dirty && mindavehu_report_seat(manager) == by
+        && mindavehu_report_address(desk) == a && desk[MINDAVEHU_REPORT_DIRTY] == dirty;
+}
+
+/* Seats: a write sets it, a read keeps it, a read of an address that is not held sets 0. Reports change nothing and count nothing. */
+static void seats(void)
+{
+    static const uint16_t edges[] = {0, 1, 255, 256, 65535};
+    for (size_t k = 0; k < sizeof edges / sizeof *edges; k++) {
+        struct box b = make(64, 8, 3, 2);
+        struct reports r = make_reports();
+        EXPECT(open_box(&b) == 0);
+        KEPT(&b, manager_report(&b, &r), MINDAVEHU_SERVED);
+        KEPT(&b, desk_report(&b, &r), MINDAVEHU_SERVED);
+        EXPECT(filled(r.manager, 21, 0) && filled(r.desk, 15, 0));
+        seat = edges[k];
+        EXPECT(back(&b, 5, 1) == 0 && read_block(&b, 6) == 0);
+        seat = (uint16_t)(edges[k] + 77);
+        EXPECT(through(&b, 7, 7) == 0 && read_block(&b, 5) == 0);
+        mindavehu_put(b.state, MINDAVEHU_READS, UINT64_MAX);
+        KEPT(&b, manager_report(&b, &r), MINDAVEHU_SERVED);
+        KEPT(&b, desk_report(&b, &r), MINDAVEHU_SERVED);
+        EXPECT(reported(&r, 0, 6, 0, 0) && reported(&r, 1, 7, 0, seat) && reported(&r, 2, 5, 0, edges[k]));
+        EXPECT(r.manager[2 * 7 + 5] == edges[k] % 256 && r.manager[2 * 7 + 6] == edges[k] / 256);
+        mindavehu_put(b.state, MINDAVEHU_READS, 0);
+        EXPECT(back(&b, 6, 9) == 0 && invalidate(&b, 7, 3) == 0 && manager_report(&b, &r) == 0 && desk_report(&b, &r) == 0);
+        EXPECT(reported(&r, 0, 5, 0, edges[k]) && reported(&r, 1, 6, 1, seat) && filled(r.manager + 14, 7, 0) && filled(r.desk + 10, 5, 0));
+        drop(&b), drop_reports(&r);
+    }
+    seat = 7;
+}
+
+/* Whether a refused report has kept its bytes. */
+#define REPORT_KEPT(b, r, length, number)                                                                             \
+    do {                                                                                                              \
+        KEPT(b, mindavehu_manager_report(STATE(b), MEMORY(b), (r)->manager, (length) * MINDAVEHU_MANAGER_PART), number); \
+        KEPT(b, mindavehu_desk_report(STATE(b), MEMORY(b), (r)->desk, (length) * MINDAVEHU_DESK_PART), number);          \
+        EXPECT(filled((r)->manager, 21, 0xEE) && filled((r)->desk, 15, 0xEE));                                          \
+    } while (0)
+
+/* The refusals of the reports, from the last check to the first. Any seat is sound; the byte behind it is zero. */
+static void report_refusals(void)
+{
+    struct box b = make(64, 8, 3, 2);
+    struct reports r = make_reports();
+    EXPECT(open_box(&b) == 0 && back(&b, 3, 1) == 0);
+    b.blocks[MINDAVEHU_ROW] ^= 1;
+    REPORT_KEPT(&b, &r, 3, MINDAVEHU_DIRTY_UNCACHED);
+    b.blocks[37] = 1;
+    REPORT_KEPT(&b, &r, 3, MINDAVEHU_BAD_BLOCKS);
+    b.addresses[39] = 1;
+    REPORT_KEPT(&b, &r, 3, MINDAVEHU_BAD_ADDRESSES);
+    REPORT_KEPT(&b, &r, 2, MINDAVEHU_WRONG_LENGTH);
+    KEPT(&b, mindavehu_manager_report(STATE(&b), MEMORY(&b), r.manager, MINDAVEHU_DESK_REPORT_LENGTH(3)), MINDAVEHU_WRONG_LENGTH);
+    b.flash_length--;
+    REPORT_KEPT(&b, &r, 3, MINDAVEHU_WRONG_LENGTH);
+    mindavehu_put(b.state, MINDAVEHU_M, 1025);
+    REPORT_KEPT(&b, &r, 2, MINDAVEHU_OUTSIDE);
+    KEPT(&b, mindavehu_manager_report(b.state, 135, MEMORY(&b), MANAGER(&r)), MINDAVEHU_WRONG_LENGTH);
+    KEPT(&b, mindavehu_desk_report(b.state, 72, MEMORY(&b), DESK(&r)), MINDAVEHU_WRONG_LENGTH);
+    b.flash_length++;
+    EXPECT(filled(r.manager, 21, 0xEE) && filled(r.desk, 15, 0xEE));
+    drop(&b), drop_reports(&r);
+    b = make(64, 8, 3, 2), r = make_reports();
+    EXPECT(open_box(&b) == 0 && back(&b, 3, 1) == 0);
+    b.addresses[37] = 0x34, b.addresses[38] = 0x12;
+    EXPECT(read_block(&b, 3) == 0 && manager_report(&b, &r) == 0 && desk_report(&b, &r) == 0 && reported(&r, 0, 3, 1, 0x1234));
+    b.addresses[MINDAVEHU_ROW + 37] = 1;
+    KEPT(&b, manager_report(&b, &r), MINDAVEHU_BAD_ADDRESSES);
+    drop(&b), drop_reports(&r);
+}
+
+/* Two runs with other seats: the desk sees the same, the manager does not. */
+static void two_runs(void)
+{
+    struct box one = make(64, 8, 3, 2), two = make(64, 8, 3, 2), *boxes[2] = {&one, &two};
+    struct reports first = make_reports(), second = make_reports(), *reports[2] = {&first, &second};
+    for (size_t k = 0; k < 2; k++) {
+        struct box *b = boxes[k];
+        EXPECT(open_box(b) == 0);
+        seat = k ? 300 : 7;
+        EXPECT(back(b, 1, 9) == 0 && through(b, 2, 9) == 0 && back(b, 8, 9) == MINDAVEHU_NO_ADDRESS);
+        seat = k ? 7 : 300;
+        EXPECT(back(b, 1, 9) == 0 && invalidate(b, 4, 9) == 0 && read_block(b, 2) == 0);
+        EXPECT(manager_report(b, reports[k]) == 0 && desk_report(b, reports[k]) == 0);
+    }
+    EXPECT(same(first.desk, second.desk, 15) && !same(first.manager, second.manager, 21));
+    EXPECT(same(one.state, two.state, MINDAVEHU_STATE) && same(one.answer, two.answer, MINDAVEHU_ANSWER) && same(one.block, two.block, 64));
+    EXPECT(same(one.disk, two.disk, one.disk_length) && same(one.flash, two.flash, one.flash_length) && same(one.blocks, two.blocks, one.blocks_length));
+    seat = 7;
+    drop(&one), drop(&two), drop_reports(&first), drop_reports(&second);
 }
 
 /* The same for a folder: the buffers of the box, the folder's buffer and its answer. */
@@ -439,6 +564,9 @@ int main(void)
     offices();
     labels();
     refusals();
+    seats();
+    report_refusals();
+    two_runs();
     folder_refusals();
     printf("week: %u facts hold\n", checks);
     return 0;

@@ -33,7 +33,7 @@ fn held_sound<const WORDS: usize>(p: usize, held: &[u8]) -> bool {
     let mut seen = [0u64; WORDS];
     rows(held).all(|row| {
         let a = address(row) as usize;
-        a < p && tail_ok(row) && {
+        a < p && held_tail_ok(row) && {
             let (word, bit) = (&mut seen[a / 64], 1 << (a % 64));
             let new = *word & bit == 0;
             *word |= bit;
@@ -54,7 +54,7 @@ fn blocks_sound<I: Index>(d: usize, blocks: &[u8], index: &mut I) -> bool {
     rows(blocks).enumerate().all(|(k, row)| {
         let slot = slot(row);
         any_used |= is_used(row);
-        let alone = tail_ok(row) && slot < d && !std::mem::replace(&mut slots[slot], true);
+        let alone = block_tail_ok(row) && slot < d && !std::mem::replace(&mut slots[slot], true);
         alone && if is_used(row) { index.add(blocks, k) } else { !any_used && all_zero(cached_fingerprint(row)) }
     })
 }

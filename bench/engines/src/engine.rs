@@ -98,7 +98,8 @@ struct Taken<'a, I> {
 
 impl<I: Index> Taken<'_, I> {
     /// The step of a request. Answers flash writes and primary writes.
-    fn step(&mut self, a: u32, held: Option<usize>, g: &Fingerprint, cached: Option<usize>, block: &[u8], dirty: bool) -> (u64, u64) {
+    #[allow(clippy::too_many_arguments)]
+    fn step(&mut self, a: u32, held: Option<usize>, g: &Fingerprint, cached: Option<usize>, block: &[u8], dirty: bool, seat: u16) -> (u64, u64) {
         let Sizes { b, m, mut n, .. } = self.sizes;
         let mut primary_writes = 0;
         let mut cached = cached;
@@ -124,7 +125,7 @@ impl<I: Index> Taken<'_, I> {
                 cached = cached.map(|k| if k < place { k + 1 } else { k });
             }
         }
-        add(self.addresses, n, a, g, dirty);
+        add(self.addresses, n, a, g, dirty, seat);
         n += 1;
         set_number(self.state, 4, n as u64);
 
@@ -221,7 +222,9 @@ fn read_one<I: Index>(mut taken: Taken<I>, a: u32, block: &mut [u8], given: Opti
             (MISS, g, taken.index.find(taken.blocks, &g), false)
         }
     };
-    let (flash_writes, primary_writes) = taken.step(a, held, &g, cached, block, dirty);
+    // A read keeps the seat of a held address; one that is not held gets 0.
+    let seat = old.map_or(0, |old| seat(&old));
+    let (flash_writes, primary_writes) = taken.step(a, held, &g, cached, block, dirty, seat);
     (word, flash_writes, primary_writes)
 }
 
@@ -304,6 +307,7 @@ pub fn read_many<I: Index>(
 pub fn write<I: Index>(
     state: &mut [u8],
     a: u32,
+    seat: u16,
     disk: &mut [u8],
     flash: &mut [u8],
     addresses: &mut [u8],
@@ -323,7 +327,7 @@ pub fn write<I: Index>(
     }
     let unchanged = held.is_some_and(|k| !is_dirty(row(addresses, k)) && *held_fingerprint(row(addresses, k)) == g);
     let mut taken = Taken { sizes, index: &index, state, disk, flash, addresses, blocks };
-    let (flash_writes, primary_writes) = taken.step(a, held, &g, cached, block, dirty && !unchanged);
+    let (flash_writes, primary_writes) = taken.step(a, held, &g, cached, block, dirty && !unchanged, seat);
     done(state, answer, word, flash_writes, primary_writes + !dirty as u64)
 }
 
@@ -388,4 +392,24 @@ pub fn look<I: Index>(state: &[u8], a: u32, disk: &[u8], flash: &[u8], addresses
         Some(place) => fill(answer, CACHE, (slot(row(blocks, place)) * sizes.b) as u64, sizes.b as u64),
         None => fill(answer, DISK, a as u64 * sizes.b as u64, sizes.b as u64),
     }
+}
+
+/// Address and dirty byte of each held row, oldest first, each with its seat where `seats` says so; zeros follow. Nothing else is changed.
+pub fn report<I: Index>(state: &[u8], disk: &[u8], flash: &[u8], addresses: &[u8], blocks: &[u8], report: &mut [u8], seats: bool) -> Result<(), u32> {
+    if state.len() != STATE {
+        return Err(2);
+    }
+    let sizes = numbers(state, [disk.len(), flash.len(), addresses.len(), blocks.len()], None, None)?;
+    let length = if seats { 7 } else { 5 };
+    if report.len() != sizes.m * length {
+        return Err(2);
+    }
+    check(&sizes, addresses, blocks, &mut I::default())?;
+    report.fill(0);
+    for (into, row) in report.chunks_exact_mut(length).zip(rows(&addresses[..sizes.n * ROW])) {
+        into[..4].copy_from_slice(&row[..4]);
+        // The dirty byte, and the two of the seat behind it.
+        into[4..].copy_from_slice(&row[36..32 + length]);
+    }
+    Ok(())
 }

@@ -58,8 +58,13 @@ pub fn rows(table: &[u8]) -> impl Iterator<Item = &Row> {
     table.chunks_exact(ROW).map(|row| row.try_into().unwrap())
 }
 
-/// Whether the last four bytes are a mark, 0 or 1, and three zeros.
-pub fn tail_ok(row: &Row) -> bool {
+/// Whether the last four bytes of an address row are a mark, 0 or 1, two bytes of any seat, and a zero.
+pub fn held_tail_ok(row: &Row) -> bool {
+    row[36] <= 1 && row[39] == 0
+}
+
+/// Whether the last four bytes of a block row are a mark, 0 or 1, and three zeros.
+pub fn block_tail_ok(row: &Row) -> bool {
     u32::from_le_bytes(row[36..].try_into().unwrap()) <= 1
 }
 
@@ -76,17 +81,22 @@ pub fn is_dirty(row: &Row) -> bool {
     row[36] == 1
 }
 
+pub fn seat(row: &Row) -> u16 {
+    u16::from_le_bytes(row[37..39].try_into().unwrap())
+}
+
 /// Takes a held row out; those behind it move up and a zero row comes after them.
 pub fn take_out(addresses: &mut [u8], n: usize, k: usize) {
     addresses.copy_within((k + 1) * ROW..n * ROW, k * ROW);
     addresses[(n - 1) * ROW..n * ROW].fill(0);
 }
 
-pub fn add(addresses: &mut [u8], n: usize, a: u32, g: &Fingerprint, dirty: bool) {
+pub fn add(addresses: &mut [u8], n: usize, a: u32, g: &Fingerprint, dirty: bool, seat: u16) {
     let row = &mut addresses[n * ROW..(n + 1) * ROW];
     row[..4].copy_from_slice(&a.to_le_bytes());
     row[4..36].copy_from_slice(g);
     row[36] = dirty as u8;
+    row[37..39].copy_from_slice(&seat.to_le_bytes());
 }
 
 // Block rows.

@@ -1,4 +1,5 @@
-//! Unproved engines with the interface of the service, to measure it beside. Each works on lent bytes as the service does.
+//! Unproved engines with the interface of the service, to measure it beside. Each works on lent bytes as the service does. The seat of a write invalidate goes
+//! nowhere, as the address leaves the table.
 //!
 //! `maps` and `array` make the service's refusals with an index of the block rows that they build in each call: a hash map of the standard library,
 //! and an array made by hand. `persistent` refuses nothing and keeps its maps from call to call: it shows what the refusals and the lent tables cost.
@@ -52,6 +53,7 @@ macro_rules! calls {
         pub fn write_through(
             state: &mut [u8],
             address: u32,
+            seat: u16,
             disk: &mut [u8],
             flash: &mut [u8],
             addresses: &mut [u8],
@@ -59,12 +61,13 @@ macro_rules! calls {
             block: &[u8],
             answer: &mut [u8],
         ) -> u32 {
-            crate::number_of(crate::engine::write::<$index>(state, address, disk, flash, addresses, blocks, block, answer, false))
+            crate::number_of(crate::engine::write::<$index>(state, address, seat, disk, flash, addresses, blocks, block, answer, false))
         }
         #[allow(clippy::too_many_arguments)]
         pub fn write_back(
             state: &mut [u8],
             address: u32,
+            seat: u16,
             disk: &mut [u8],
             flash: &mut [u8],
             addresses: &mut [u8],
@@ -72,12 +75,13 @@ macro_rules! calls {
             block: &[u8],
             answer: &mut [u8],
         ) -> u32 {
-            crate::number_of(crate::engine::write::<$index>(state, address, disk, flash, addresses, blocks, block, answer, true))
+            crate::number_of(crate::engine::write::<$index>(state, address, seat, disk, flash, addresses, blocks, block, answer, true))
         }
         #[allow(clippy::too_many_arguments)]
         pub fn write_invalidate(
             state: &mut [u8],
             address: u32,
+            _seat: u16,
             disk: &mut [u8],
             flash: &[u8],
             addresses: &mut [u8],
@@ -95,6 +99,12 @@ macro_rules! calls {
         }
         pub fn look(state: &[u8], address: u32, disk: &[u8], flash: &[u8], addresses: &[u8], blocks: &[u8], answer: &mut [u8]) -> u32 {
             crate::number_of(crate::engine::look::<$index>(state, address, disk, flash, addresses, blocks, answer))
+        }
+        pub fn manager_report(state: &[u8], disk: &[u8], flash: &[u8], addresses: &[u8], blocks: &[u8], report: &mut [u8]) -> u32 {
+            crate::number_of(crate::engine::report::<$index>(state, disk, flash, addresses, blocks, report, true))
+        }
+        pub fn desk_report(state: &[u8], disk: &[u8], flash: &[u8], addresses: &[u8], blocks: &[u8], report: &mut [u8]) -> u32 {
+            crate::number_of(crate::engine::report::<$index>(state, disk, flash, addresses, blocks, report, false))
         }
     };
 }

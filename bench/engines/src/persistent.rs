@@ -7,6 +7,7 @@ use std::collections::{BTreeMap, HashMap};
 struct Held {
     fingerprint: Fingerprint,
     dirty: bool,
+    seat: u16,
     stamp: u64,
 }
 
@@ -64,7 +65,7 @@ impl Persistent {
         }
         for k in 0..n {
             let row = row(addresses, k);
-            engine.add(address(row), *held_fingerprint(row), is_dirty(row));
+            engine.add(address(row), *held_fingerprint(row), is_dirty(row), seat(row));
         }
         engine
     }
@@ -77,7 +78,8 @@ impl Persistent {
         }
         addresses.fill(0);
         for (k, a) in self.addresses.values().enumerate() {
-            add(addresses, k, *a, &self.held[a].fingerprint, self.held[a].dirty);
+            let Held { fingerprint, dirty, seat, .. } = &self.held[a];
+            add(addresses, k, *a, fingerprint, *dirty, *seat);
         }
         blocks.fill(0);
         let free = self.free.iter().rev().map(|slot| ([0; 32], *slot, 0));
@@ -94,9 +96,9 @@ impl Persistent {
         self.clock
     }
 
-    fn add(&mut self, a: u32, g: Fingerprint, dirty: bool) {
+    fn add(&mut self, a: u32, g: Fingerprint, dirty: bool, seat: u16) {
         let stamp = self.stamp();
-        self.held.insert(a, Held { fingerprint: g, dirty, stamp });
+        self.held.insert(a, Held { fingerprint: g, dirty, seat, stamp });
         self.addresses.insert(stamp, a);
         self.users.entry(g).or_default().push(a);
         match self.cached.get(&g) {
@@ -148,7 +150,8 @@ impl Persistent {
         disk[a as usize * b..(a as usize + 1) * b].copy_from_slice(&flash[slot * b..(slot + 1) * b]);
     }
 
-    fn step(&mut self, a: u32, g: Fingerprint, block: &[u8], dirty: bool, disk: &mut [u8], flash: &mut [u8]) -> [u64; 2] {
+    #[allow(clippy::too_many_arguments)]
+    fn step(&mut self, a: u32, g: Fingerprint, block: &[u8], dirty: bool, seat: u16, disk: &mut [u8], flash: &mut [u8]) -> [u64; 2] {
         let mut primary_writes = 0;
         let mut q = None;
         if self.held.contains_key(&a) {
@@ -161,7 +164,7 @@ impl Persistent {
             }
             q = Some(self.take_out(oldest));
         }
-        self.add(a, g, dirty);
+        self.add(a, g, dirty, seat);
         if let Some(q) = q {
             let newest_has_none = !self.cached.contains_key(&g);
             if self.cached.contains_key(&q) && !self.users.contains_key(&q) && self.rows_without_block > newest_has_none as usize {
@@ -212,7 +215,8 @@ impl Persistent {
                 (2, fingerprint(&self.label, block), false)
             }
         };
-        let writes = self.step(a, g, block, dirty, disk, flash);
+        let seat = self.held.get(&a).map_or(0, |row| row.seat);
+        let writes = self.step(a, g, block, dirty, seat, disk, flash);
         self.done(answer, word, writes)
     }
 
@@ -220,19 +224,19 @@ impl Persistent {
         3 + !self.cached.contains_key(g) as u64
     }
 
-    pub fn write_through(&mut self, a: u32, disk: &mut [u8], flash: &mut [u8], block: &[u8], answer: &mut [u8]) -> u32 {
+    pub fn write_through(&mut self, a: u32, seat: u16, disk: &mut [u8], flash: &mut [u8], block: &[u8], answer: &mut [u8]) -> u32 {
         let g = fingerprint(&self.label, block);
         let word = self.same_or_new(&g);
         disk[a as usize * self.b..(a as usize + 1) * self.b].copy_from_slice(block);
-        let [flash_writes, primary_writes] = self.step(a, g, block, false, disk, flash);
+        let [flash_writes, primary_writes] = self.step(a, g, block, false, seat, disk, flash);
         self.done(answer, word, [flash_writes, primary_writes + 1])
     }
 
-    pub fn write_back(&mut self, a: u32, disk: &mut [u8], flash: &mut [u8], block: &[u8], answer: &mut [u8]) -> u32 {
+    pub fn write_back(&mut self, a: u32, seat: u16, disk: &mut [u8], flash: &mut [u8], block: &[u8], answer: &mut [u8]) -> u32 {
         let g = fingerprint(&self.label, block);
         let word = self.same_or_new(&g);
         let unchanged = self.held.get(&a).is_some_and(|row| !row.dirty && row.fingerprint == g);
-        let writes = self.step(a, g, block, !unchanged, disk, flash);
+        let writes = self.step(a, g, block, !unchanged, seat, disk, flash);
         self.done(answer, word, writes)
     }
 

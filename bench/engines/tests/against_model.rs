@@ -2,7 +2,7 @@
 use common::Random;
 use engines::persistent::Persistent;
 use engines::{array, maps};
-use model::{carry_out, carry_out_many, Call, Folder, Label, Lent, ManyAnswer, Numbers, CALLS, LABEL, ROW, STATE};
+use model::{carry_out, carry_out_many, carry_out_report, Call, Folder, Label, Lent, ManyAnswer, Numbers, Report, CALLS, LABEL, REPORTS, ROW, STATE};
 
 /// A call by the functions of an engine's module.
 macro_rules! by {
@@ -11,9 +11,9 @@ macro_rules! by {
         match $call {
             Call::Open => $engine::open(state, label, disk, flash, addresses, blocks),
             Call::Read => $engine::read(state, $a, disk, flash, addresses, blocks, block, answer),
-            Call::Through => $engine::write_through(state, $a, disk, flash, addresses, blocks, block, answer),
-            Call::Back => $engine::write_back(state, $a, disk, flash, addresses, blocks, block, answer),
-            Call::Invalidate => $engine::write_invalidate(state, $a, disk, flash, addresses, blocks, block, answer),
+            Call::Through(seat) => $engine::write_through(state, $a, seat, disk, flash, addresses, blocks, block, answer),
+            Call::Back(seat) => $engine::write_back(state, $a, seat, disk, flash, addresses, blocks, block, answer),
+            Call::Invalidate(seat) => $engine::write_invalidate(state, $a, seat, disk, flash, addresses, blocks, block, answer),
             Call::Flush => $engine::flush(state, disk, flash, addresses, blocks, answer),
             Call::FlushSome(most) => $engine::flush_some(state, most, disk, flash, addresses, blocks, answer),
             Call::Look => $engine::look(state, $a, disk, flash, addresses, blocks, answer),
@@ -30,14 +30,42 @@ macro_rules! many_by {
     }};
 }
 
+/// A report by the functions of an engine's module: the number and the bytes.
+macro_rules! report_by {
+    ($engine:ident, $report:expr, $lent:expr, $bytes:expr) => {{
+        let Lent { state, disk, flash, addresses, blocks, .. } = $lent;
+        let mut bytes = $bytes.clone();
+        let number = match $report {
+            Report::Manager => $engine::manager_report(state, disk, flash, addresses, blocks, &mut bytes),
+            Report::Desk => $engine::desk_report(state, disk, flash, addresses, blocks, &mut bytes),
+        };
+        (number, bytes)
+    }};
+}
+
+/// Both reports of both engines are the model's, into bytes of the right length or of another. Gives the number of the last.
+fn reports(random: &mut Random, lent: &Lent, context: &str) -> u32 {
+    let mut number = 0;
+    for report in REPORTS {
+        let m = if lent.state.len() == STATE { lent.numbers().m.min(1_024) as usize } else { 3 };
+        let length = (m * report.row() + (random.below(20) == 0) as usize).saturating_sub((random.below(20) == 0) as usize);
+        let bytes = random.bytes(length);
+        let mut expected = bytes.clone();
+        number = carry_out_report(report, lent, &mut expected);
+        assert_eq!(report_by!(maps, report, lent, bytes), (number, expected.clone()), "maps, {report:?}, {context}");
+        assert_eq!(report_by!(array, report, lent, bytes), (number, expected), "array, {report:?}, {context}");
+    }
+    number
+}
+
 fn by_persistent(engine: &mut Persistent, call: Call, a: u32, lent: &mut Lent) -> u32 {
     let Lent { state, disk, flash, addresses, blocks, block, answer, .. } = lent;
     let number = match call {
         Call::Open => panic!("made by load"),
         Call::Read => engine.read(a, disk, flash, block, answer),
-        Call::Through => engine.write_through(a, disk, flash, block, answer),
-        Call::Back => engine.write_back(a, disk, flash, block, answer),
-        Call::Invalidate => engine.write_invalidate(a, disk, block, answer),
+        Call::Through(seat) => engine.write_through(a, seat, disk, flash, block, answer),
+        Call::Back(seat) => engine.write_back(a, seat, disk, flash, block, answer),
+        Call::Invalidate(_) => engine.write_invalidate(a, disk, block, answer),
         Call::Flush => engine.flush(disk, flash, answer),
         Call::FlushSome(most) => engine.flush_some(most, disk, flash, answer),
         Call::Look => engine.look(a, answer),
@@ -96,7 +124,7 @@ fn broken_copy(random: &mut Random, lent: &Lent) -> Lent {
 fn lists_and_broken_boxes() {
     let seed = 21;
     let mut random = Random(seed);
-    let (mut calls, mut broken, mut numbers) = (0, 0, [0; 10]);
+    let (mut calls, mut broken, mut numbers, mut reported) = (0, 0, [0; 10], [0; 10]);
     for round in 0..300 {
         let b = [64, 128, 256][random.below(3)];
         // A few large tables among the small ones.
@@ -111,7 +139,7 @@ fn lists_and_broken_boxes() {
         let mut three = expected.clone();
         let mut persistent = Persistent::load(&three.state, &three.addresses, &three.blocks);
         for turn in 0..200 {
-            let call = CALLS[1 + random.below(7)];
+            let call = CALLS[1 + random.below(7)].by_seat(random.number() as u16);
             let a = random.below(p + 1) as u32;
             let context = format!("{call:?} {a}, turn {turn} of round {round}, seed {seed}");
             expected.block = vec![random.below(contents) as u8; b];
@@ -121,6 +149,7 @@ fn lists_and_broken_boxes() {
             if random.below(8) < 5 {
                 let mut bad = broken_copy(&mut random, &expected);
                 let call = CALLS[random.below(8)];
+                reported[reports(&mut random, &bad, &format!("broken, {context}")) as usize] += 1;
                 let [mut first, mut second] = [bad.clone(), bad.clone()];
                 let number = carry_out(call, a, &mut bad);
                 is(by!(maps, call, a, &mut first), &first, number, &bad, &format!("maps, broken, {context}"));
@@ -134,10 +163,13 @@ fn lists_and_broken_boxes() {
             if number == 0 {
                 is(by_persistent(&mut persistent, call, a, &mut three), &three, 0, &expected, &format!("persistent, {context}"));
             }
+            reported[reports(&mut random, &expected, &context) as usize] += 1;
             calls += 1;
         }
     }
     println!("{calls} calls by three engines and {broken} broken boxes by two agree with the model (seed {seed}); numbers {numbers:?}");
+    println!("  reports after each call and on each broken box, by two engines: numbers {reported:?}");
+    assert!([0, 1, 2, 6, 7].iter().all(|number| reported[*number] > 100), "a refusal of a report is hardly met: {reported:?}");
 }
 
 /// A sound box of any fingerprints that agree in their first `same` bytes. About half of the held rows are dirty, and some clean ones have no block.
@@ -155,6 +187,7 @@ fn crafted(random: &mut Random, same: usize) -> Lent {
         row[..4].copy_from_slice(&((k * 7 % p.max(n)) as u32).to_le_bytes());
         row[4..36].copy_from_slice(&prints[print]);
         row[36] = (print < used && random.below(2) == 0) as u8;
+        row[37..39].copy_from_slice(&(random.number() as u16).to_le_bytes());
     }
     lent.blocks.fill(0);
     for (k, row) in lent.blocks.chunks_exact_mut(ROW).enumerate() {
@@ -185,7 +218,7 @@ fn fingerprints_with_one_beginning() {
             2 => expected.addresses[random.below(m) * ROW + 36] = 1,
             _ => {}
         }
-        let call = CALLS[1 + random.below(7)];
+        let call = CALLS[1 + random.below(7)].by_seat(random.number() as u16);
         let a = random.below(expected.disk.len() / 64 + 1) as u32;
         let [mut one, mut two] = [expected.clone(), expected.clone()];
         let number = carry_out(call, a, &mut expected);

@@ -36,12 +36,12 @@ macro_rules! run_list {
         for (steps, best) in $list.steps.chunks($list.part).zip($best) {
             let start = Instant::now();
             for (kind, a, content) in steps {
-                let content = &$list.contents[*content];
+                let (content, seat) = written($list, *content);
                 let refused = match kind {
                     Kind::Read => $engine::read(state, *a, disk, flash, addresses, blocks, block, answer),
-                    Kind::Through => $engine::write_through(state, *a, disk, flash, addresses, blocks, content, answer),
-                    Kind::Back => $engine::write_back(state, *a, disk, flash, addresses, blocks, content, answer),
-                    Kind::Invalidate => $engine::write_invalidate(state, *a, disk, flash, addresses, blocks, content, answer),
+                    Kind::Through => $engine::write_through(state, *a, seat, disk, flash, addresses, blocks, content, answer),
+                    Kind::Back => $engine::write_back(state, *a, seat, disk, flash, addresses, blocks, content, answer),
+                    Kind::Invalidate => $engine::write_invalidate(state, *a, seat, disk, flash, addresses, blocks, content, answer),
                     Kind::Flush => $engine::flush(state, disk, flash, addresses, blocks, answer),
                     Kind::Look => $engine::look(state, *a, disk, flash, addresses, blocks, answer),
                 };
@@ -52,6 +52,11 @@ macro_rules! run_list {
         }
         sum
     }};
+}
+
+/// The content of a write, and its seat: each content is written by a seat of its own, so that the seats left in the tables are compared too.
+fn written<'a>(list: &List<'a>, content: usize) -> (&'a [u8], u16) {
+    (&list.contents[content], content as u16)
 }
 
 fn add(sum: u64, answer: &[u8], block: &[u8]) -> u64 {
@@ -83,11 +88,11 @@ impl Kept {
         for (steps, best) in list.steps.chunks(list.part).zip(best) {
             let start = Instant::now();
             for (kind, a, content) in steps {
-                let content = &list.contents[*content];
+                let (content, seat) = written(list, *content);
                 let refused = match kind {
                     Kind::Read => self.0.read(*a, disk, flash, block, answer),
-                    Kind::Through => self.0.write_through(*a, disk, flash, content, answer),
-                    Kind::Back => self.0.write_back(*a, disk, flash, content, answer),
+                    Kind::Through => self.0.write_through(*a, seat, disk, flash, content, answer),
+                    Kind::Back => self.0.write_back(*a, seat, disk, flash, content, answer),
                     Kind::Invalidate => self.0.write_invalidate(*a, disk, content, answer),
                     Kind::Flush => self.0.flush(disk, flash, answer),
                     Kind::Look => self.0.look(*a, answer),

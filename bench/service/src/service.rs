@@ -8,12 +8,15 @@ extern "C" {
     fn mindavehu_read_many(
         s: M, sl: usize, asked: *const u32, count: usize, d: M, dl: usize, f: M, fl: usize, a: M, al: usize, b: M, bl: usize, k: M, kl: usize, w: M, wl: usize,
     ) -> u32;
-    fn mindavehu_write_through(s: M, sl: usize, address: u32, d: M, dl: usize, f: M, fl: usize, a: M, al: usize, b: M, bl: usize, k: P, kl: usize, w: M,
-        wl: usize) -> u32;
-    fn mindavehu_write_back(s: M, sl: usize, address: u32, d: M, dl: usize, f: M, fl: usize, a: M, al: usize, b: M, bl: usize, k: P, kl: usize, w: M,
-        wl: usize) -> u32;
-    fn mindavehu_write_invalidate(s: M, sl: usize, address: u32, d: M, dl: usize, f: P, fl: usize, a: M, al: usize, b: M, bl: usize, k: P, kl: usize, w: M,
-        wl: usize) -> u32;
+    fn mindavehu_write_through(
+        s: M, sl: usize, address: u32, seat: u16, d: M, dl: usize, f: M, fl: usize, a: M, al: usize, b: M, bl: usize, k: P, kl: usize, w: M, wl: usize,
+    ) -> u32;
+    fn mindavehu_write_back(
+        s: M, sl: usize, address: u32, seat: u16, d: M, dl: usize, f: M, fl: usize, a: M, al: usize, b: M, bl: usize, k: P, kl: usize, w: M, wl: usize,
+    ) -> u32;
+    fn mindavehu_write_invalidate(
+        s: M, sl: usize, address: u32, seat: u16, d: M, dl: usize, f: P, fl: usize, a: M, al: usize, b: M, bl: usize, k: P, kl: usize, w: M, wl: usize,
+    ) -> u32;
     fn mindavehu_flush(s: M, sl: usize, d: M, dl: usize, f: P, fl: usize, a: M, al: usize, b: P, bl: usize, w: M, wl: usize) -> u32;
     fn mindavehu_look(s: P, sl: usize, address: u32, d: P, dl: usize, f: P, fl: usize, a: P, al: usize, b: P, bl: usize, w: M, wl: usize) -> u32;
     fn mindavehu_scores(b: usize, p: usize, m: usize, d: usize, l: P, ll: usize, disk: P, dl: usize, k: usize, c: M, cl: usize) -> u32;
@@ -21,26 +24,27 @@ extern "C" {
 
 /// Functions on slices, each slice given with its own length: those of the library.
 macro_rules! functions {
-    ($($name:ident = $function:ident($state:ident: $kind:ty, $pointer:ident $(, $address:ident)?; $($slice:ident: $type:ty, $other:ident),*);)*) => { $(
+    ($($name:ident = $function:ident(
+        $state:ident: $kind:ty, $pointer:ident $(, $number:ident: $width:ty)*; $($slice:ident: $type:ty, $other:ident),*);)*) => { $(
         #[allow(clippy::too_many_arguments)]
-        pub fn $name($state: $kind, $($address: u32,)? $($slice: $type),*) -> u32 {
-            unsafe { $function($state.$pointer(), $state.len(), $($address,)? $($slice.$other(), $slice.len()),*) }
+        pub fn $name($state: $kind, $($number: $width,)* $($slice: $type),*) -> u32 {
+            unsafe { $function($state.$pointer(), $state.len(), $($number,)* $($slice.$other(), $slice.len()),*) }
         }
     )* };
 }
 
 functions! {
-    read = mindavehu_read(s: &mut [u8], as_mut_ptr, address; d: &mut [u8], as_mut_ptr, f: &mut [u8], as_mut_ptr, a: &mut [u8], as_mut_ptr, b: &mut [u8],
+    read = mindavehu_read(s: &mut [u8], as_mut_ptr, address: u32; d: &mut [u8], as_mut_ptr, f: &mut [u8], as_mut_ptr, a: &mut [u8], as_mut_ptr, b: &mut [u8],
         as_mut_ptr, k: &mut [u8], as_mut_ptr, w: &mut [u8], as_mut_ptr);
-    write_through = mindavehu_write_through(s: &mut [u8], as_mut_ptr, address; d: &mut [u8], as_mut_ptr, f: &mut [u8], as_mut_ptr, a: &mut [u8], as_mut_ptr,
-        b: &mut [u8], as_mut_ptr, k: &[u8], as_ptr, w: &mut [u8], as_mut_ptr);
-    write_back = mindavehu_write_back(s: &mut [u8], as_mut_ptr, address; d: &mut [u8], as_mut_ptr, f: &mut [u8], as_mut_ptr, a: &mut [u8], as_mut_ptr,
-        b: &mut [u8], as_mut_ptr, k: &[u8], as_ptr, w: &mut [u8], as_mut_ptr);
-    write_invalidate = mindavehu_write_invalidate(s: &mut [u8], as_mut_ptr, address; d: &mut [u8], as_mut_ptr, f: &[u8], as_ptr, a: &mut [u8], as_mut_ptr,
-        b: &mut [u8], as_mut_ptr, k: &[u8], as_ptr, w: &mut [u8], as_mut_ptr);
+    write_through = mindavehu_write_through(s: &mut [u8], as_mut_ptr, address: u32, seat: u16; d: &mut [u8], as_mut_ptr, f: &mut [u8], as_mut_ptr,
+        a: &mut [u8], as_mut_ptr, b: &mut [u8], as_mut_ptr, k: &[u8], as_ptr, w: &mut [u8], as_mut_ptr);
+    write_back = mindavehu_write_back(s: &mut [u8], as_mut_ptr, address: u32, seat: u16; d: &mut [u8], as_mut_ptr, f: &mut [u8], as_mut_ptr,
+        a: &mut [u8], as_mut_ptr, b: &mut [u8], as_mut_ptr, k: &[u8], as_ptr, w: &mut [u8], as_mut_ptr);
+    write_invalidate = mindavehu_write_invalidate(s: &mut [u8], as_mut_ptr, address: u32, seat: u16; d: &mut [u8], as_mut_ptr, f: &[u8], as_ptr,
+        a: &mut [u8], as_mut_ptr, b: &mut [u8], as_mut_ptr, k: &[u8], as_ptr, w: &mut [u8], as_mut_ptr);
     flush = mindavehu_flush(s: &mut [u8], as_mut_ptr; d: &mut [u8], as_mut_ptr, f: &[u8], as_ptr, a: &mut [u8], as_mut_ptr, b: &[u8], as_ptr, w: &mut [u8],
         as_mut_ptr);
-    look = mindavehu_look(s: &[u8], as_ptr, address; d: &[u8], as_ptr, f: &[u8], as_ptr, a: &[u8], as_ptr, b: &[u8], as_ptr, w: &mut [u8], as_mut_ptr);
+    look = mindavehu_look(s: &[u8], as_ptr, address: u32; d: &[u8], as_ptr, f: &[u8], as_ptr, a: &[u8], as_ptr, b: &[u8], as_ptr, w: &mut [u8], as_mut_ptr);
 }
 
 /// The one function that takes a slice of addresses.

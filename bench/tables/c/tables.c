@@ -1,4 +1,4 @@
-/* The tables of document 01 in straightforward C, for bench/run to compare with: rows are compared by pairs. The compiler's -D sets NAME. */
+/* The tables of documents 01 and 02 in straightforward C, for bench/run to compare with: rows are compared by pairs. The compiler's -D sets NAME. */
 #include <stdbool.h>
 #include <stddef.h>
 #include <stdint.h>
@@ -11,14 +11,16 @@
 
 static uint32_t word(const uint8_t *p) { return p[0] | (uint32_t)p[1] << 8 | (uint32_t)p[2] << 16 | (uint32_t)p[3] << 24; }
 
-static bool tail(const uint8_t *row) { return row[36] > 1 || row[37] || row[38] || row[39]; }
+/* Of an address row, whose seat may be any, and of a block row. */
+static bool held_tail(const uint8_t *row) { return row[36] > 1 || row[39]; }
+static bool block_tail(const uint8_t *row) { return row[36] > 1 || row[37] || row[38] || row[39]; }
 
 bool F(c_six)(const uint8_t *t, size_t length, size_t m, size_t n, size_t p)
 {
     if (n > m)
         return true;
     for (size_t i = 0; i < n; i++) {
-        if (word(t + i * 40) >= p || tail(t + i * 40))
+        if (word(t + i * 40) >= p || held_tail(t + i * 40))
             return true;
         for (size_t j = 0; j < i; j++)
             if (word(t + i * 40) == word(t + j * 40))
@@ -35,7 +37,7 @@ bool F(c_seven)(const uint8_t *t, size_t length, size_t d)
     (void)length;
     for (size_t i = 0; i < d; i++) {
         const uint8_t *row = t + i * 40;
-        if (word(row + 32) >= d || tail(row))
+        if (word(row + 32) >= d || block_tail(row))
             return true;
         if (!row[36])
             for (size_t k = 0; k < 32; k++)
@@ -118,14 +120,14 @@ void F(c_remove_row)(uint8_t *t, size_t length, size_t n, size_t i)
     memset(t + (n - 1) * 40, 0, 40);
 }
 
-void F(c_push_address)(uint8_t *t, size_t length, size_t n, uint32_t a, const uint8_t *g, size_t glength, uint8_t dirty)
+void F(c_push_address)(uint8_t *t, size_t length, size_t n, uint32_t a, const uint8_t *g, size_t glength, uint8_t dirty, uint16_t seat)
 {
     (void)length, (void)glength;
     uint8_t *row = t + n * 40;
     for (int k = 0; k < 4; k++)
         row[k] = (uint8_t)(a >> (8 * k));
     memcpy(row + 4, g, 32);
-    row[36] = dirty, row[37] = row[38] = row[39] = 0;
+    row[36] = dirty, row[37] = (uint8_t)seat, row[38] = (uint8_t)(seat >> 8), row[39] = 0;
 }
 
 void F(c_set_clean)(uint8_t *t, size_t length, size_t n, size_t i)

@@ -29,7 +29,8 @@ peers! {
     (tables_probe_find_fingerprint, c_find_fingerprint_clang, c_find_fingerprint_gcc)(t: P, length: usize, n: usize, g: P, glength: usize) -> usize;
     (tables_probe_find_cached, c_find_cached_clang, c_find_cached_gcc)(t: P, length: usize, d: usize, g: P, glength: usize) -> usize;
     (tables_probe_remove_row, c_remove_row_clang, c_remove_row_gcc)(t: M, length: usize, n: usize, i: usize);
-    (tables_probe_push_address, c_push_address_clang, c_push_address_gcc)(t: M, length: usize, n: usize, a: u32, g: P, glength: usize, dirty: u8);
+    (tables_probe_push_address, c_push_address_clang, c_push_address_gcc)
+        (t: M, length: usize, n: usize, a: u32, g: P, glength: usize, dirty: u8, seat: u16);
     (tables_probe_set_clean, c_set_clean_clang, c_set_clean_gcc)(t: M, length: usize, n: usize, i: usize);
     (tables_probe_to_newest, c_to_newest_clang, c_to_newest_gcc)(t: M, length: usize, d: usize, i: usize);
     (tables_probe_to_front, c_to_front_clang, c_to_front_gcc)(t: M, length: usize, d: usize, i: usize);
@@ -72,7 +73,7 @@ fn tables(m: usize, d: usize, one_bucket: bool) -> State {
     for i in 0..m {
         a.extend_from_slice(&((i * 37 % 65_536) as u32).to_le_bytes());
         a.extend_from_slice(&prints[i * 5 % d]);
-        a.extend_from_slice(&[(i % 8 == 7) as u8, 0, 0, 0]);
+        a.extend_from_slice(&[(i % 8 == 7) as u8, i as u8, (i >> 8) as u8, 0]);
     }
     let mut b = Vec::new();
     for (i, print) in prints.iter().enumerate() {
@@ -126,7 +127,7 @@ const OPERATIONS: [(&str, [Operation; PEERS]); 14] = [
     operation!("take out the oldest row", [tables_probe_remove_row, c_remove_row_clang, c_remove_row_gcc],
         |s, f| no_result!(f(s.a.as_mut_ptr(), s.a.len(), s.m, 0))),
     operation!("add a newest row", [tables_probe_push_address, c_push_address_clang, c_push_address_gcc],
-        |s, f| no_result!(f(s.a.as_mut_ptr(), s.a.len(), s.m - 1, 77, s.g.as_ptr(), 32, 1))),
+        |s, f| no_result!(f(s.a.as_mut_ptr(), s.a.len(), s.m - 1, 77, s.g.as_ptr(), 32, 1, 0x0102))),
     operation!("make a row clean", [tables_probe_set_clean, c_set_clean_clang, c_set_clean_gcc],
         |s, f| no_result!(f(s.a.as_mut_ptr(), s.a.len(), s.m, s.m / 2))),
     operation!("oldest block row to newest", [tables_probe_to_newest, c_to_newest_clang, c_to_newest_gcc],

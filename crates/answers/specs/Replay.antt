@@ -54,14 +54,14 @@ started N = fresh N (record { n = 0; disk = startDisk (N .B) (N .P); flash = rep
 
 -- ---- a later line
 
--- the call that a line asks for: "a block of B bytes hh"; a read is lent a block of zeros; a flush is the full one
+-- the call that a line asks for: "a block of B bytes hh"; a read is lent a block of zeros; a flush is the full one; U7: writes carry a seat, "0 in replay"
 unfoldable pub asked : Numbers → Command → Option Ask
 asked N (Read a) = some (Ask.read a (replicate (N .B) 0))
 asked N (Look a) = some (Ask.look a)
 asked N Flush = some (Ask.flush (N .m))
-asked N (Through a x) = some (Ask.through a (replicate (N .B) x))
-asked N (Back a x) = some (Ask.back a (replicate (N .B) x))
-asked N (Invalidate a x) = some (Ask.invalidate a (replicate (N .B) x))
+asked N (Through a x) = some (Ask.through a (replicate (N .B) x) 0)
+asked N (Back a x) = some (Ask.back a (replicate (N .B) x) 0)
+asked N (Invalidate a x) = some (Ask.invalidate a (replicate (N .B) x) 0)
 asked N (Box b p m d) = none
 asked N Unformed = none
 

@@ -39,7 +39,7 @@ fn read(
     policy::calls::read(b, a, disk, flash, addresses, blocks, c, &mut block[0..size])
 }
 
-// Writes a block filled with `x`, by the kind of the write.
+// Writes a block filled with `x`, by the kind of the write; a replay's writes carry the seat 0.
 fn write(
     kind: Write,
     b: BoxRecord,
@@ -55,7 +55,7 @@ fn write(
     ensures { λ r. ⌜ numbersOf (r .box_record) ≡ numbersOf b ⌝ }
     ensures { λ r. ⌜ doneOf r (now (disk .exit)) (now (flash .exit)) (now (addresses .exit)) (now (blocks .exit))
         ≡ doing (numbersOf b) (lent b (now (disk .entry)) (now (flash .entry)) (now (addresses .entry)) (now (blocks .entry)) (countersOf c))
-        (Option.some (askOf kind (a .0) (replicate (b .size) x))) ⌝ }
+        (Option.some (askOf kind (a .0) (replicate (b .size) x) 0)) ⌝ }
 {
     let block = [x; 4096];
     let size = b.size;
@@ -63,6 +63,7 @@ fn write(
         kind,
         b,
         a,
+        0,
         disk,
         flash,
         addresses,

@@ -7,7 +7,7 @@ use Prim.Native.Nat.{ℕ, zero, suc, _+_, _-_, _/_}
 use lib.Dec.{eqb, leb, ltb}
 use lib.ListN.{length, take, drop}
 use Rattle.paper.specs.Keyed.{has, without}
-use Rattle.paper.specs.Cache.{Numbers, Hashing, AddressRow, BlockRow, Box, Request, Stepped, Taken, newest, blockRow, rowOf, withoutAddress, cached}
+use Rattle.paper.specs.Cache.{Numbers, Hashing, Seat, AddressRow, BlockRow, Box, Request, Stepped, Taken, newest, blockRow, rowOf, withoutAddress, cached}
 use Rattle.paper.specs.Cache.{withoutBlock, slotOf, copied, copies, oldestUnknown, takenUsed, stored}
 use Rattle.arc.specs.Policy.{Ran, Policy}
 
@@ -290,13 +290,13 @@ module _ {F X : Type 0} (H : Hashing F X) where
   abbrev pub joinT2 : ℕ → Lists → Lists
   joinT2 a l = record { T1 = l .T1; T2 = l .T2 ++ (a ∷ []); B1 = l .B1; B2 = l .B2; B3 = l .B3; p = l .p }
 
-  unfoldable pub joined : ℕ → F → Bool → Was → Ran F X Lists → Ran F X Lists
-  joined a g d w t =
+  unfoldable pub joined : ℕ → F → Bool → Seat → Was → Ran F X Lists → Ran F X Lists
+  joined a g d z w t =
       record {
         kept = cond (toT2 w) (joinT2 a (t .kept)) (joinT1 a (t .kept));
         stepped = record {
           box = record {
-            rows = t .stepped .box .rows ++ (newest a g d ∷ []);
+            rows = t .stepped .box .rows ++ (newest a g d z ∷ []);
             free = t .stepped .box .free;
             used = t .stepped .box .used;
             flash = t .stepped .box .flash;
@@ -310,7 +310,7 @@ module _ {F X : Type 0} (H : Hashing F X) where
   -- The step of one request: PROCESSREQUEST
   unfoldable pub arcStepAs : Sizes → Lists → Box F X → Request F X → Was → Ran F X Lists
   arcStepAs Z l s q w =
-      joined (q .address) (q .fingerprint) (q .dirty) w
+      joined (q .address) (q .fingerprint) (q .dirty) (q .seat) w
       (checked Z w (inserted (Z .C) (wasB2 w) (q .fingerprint) (q .block) (parted (Z .C) l s (q .address) w)))
 
   unfoldable pub arcStep : Sizes → Lists → Box F X → Request F X → Ran F X Lists

@@ -29,8 +29,9 @@ use Rattle.paper.specs.LentLaws.{Lengths, right-lengths, Passes, passes-sound, 
 use Rattle.paper.specs.CallLaws.{about-call, Grown, In64, not-over}
 use Rattle.paper.specs.Batch.{start, firstRead, source, blocksIn}
 use Rattle.paper.specs.BatchLent as Folders
-use Rattle.paper.specs.BatchLent.{Asking, one, many, badCount, anyOutside}
+use Rattle.paper.specs.BatchLent.{Asking, one, many, report, badCount, anyOutside}
 use Rattle.paper.specs.BatchLaws.{GrownBy}
+use Rattle.paper.specs.Reports as Reports
 use Rattle.arc.specs.Policy.{Served, serveBy}
 use Rattle.arc.specs.PlainRows.{Only}
 use Rattle.arc.specs.Promise.{Promise, inv-read, inv-serve, faithful-serves, flushes-one, all-mem}
@@ -46,6 +47,7 @@ use Rattle.arc.specs.ArcLent.{arcRefusal, arcLentOf, arcServed, arcCall,
 use Rattle.arc.specs.ArcLentLaws.{lists-back, lists-pass, tops-pass, passes-arc, total-end, length-words}
 use Rattle.arc.specs.ArcExactly.{arc-exactly, arc-exactly-opening, arc-exactly-folder}
 use Rattle.arc.specs.ArcFolder.{folderStart, folderFrom, folderLent, arcFolderRefusal, arcServedFolder, arcFolderCall, arcServedInTurn}
+use Rattle.arc.specs.ArcReports.{arcReportRefusal}
 use Rattle.arc.specs.ArcDemand.{listsOf, boxOf, diskOf, arcNext, arcPlain, ArcThroughout, ArcEachServed, ArcInList, arcNumber, arcRefusals}
 use Rattle.arc.specs.ArcDemand.{arcWrites, arcWritten, ArcShows, ArcAsReads, ArcFlushes, ArcCleanIsPlain, ArcStateLaw, ArcDemand}
 
@@ -170,7 +172,7 @@ module _ (Z : Sizes) where
   abbrev pub arcOutcome : ArcLent → Ask → Served (Fixed 32) (Fixed (Z .B)) Lists
   arcOutcome t q = serveBy H (arc H Z) (listsOf t) (boxOf Z t) (callOf (Z .B) q)
 
-  served-is : (t : ArcLent) (q : Ask) → arcRefusal Z t (calling q) ≡ 0 → arcCall Z t q ≡ arcServed Z t q
+  pub served-is : (t : ArcLent) (q : Ask) → arcRefusal Z t (calling q) ≡ 0 → arcCall Z t q ≡ arcServed Z t q
   unfolding arcCall
   served-is t q e = rw (e, arcCall) refl
 
@@ -213,7 +215,7 @@ module _ (Z : Sizes) where
     served-passes =
         subst ArcPasses (sym served-lent) (right-passes ((arcOutcome t q) .kept) ((arcOutcome t q) .outcome .box) outcome-right after (found t q e .fits))
 
-    served-counters : ((arcCall Z t q) .lent) .base .counters ≡ after
+    pub served-counters : ((arcCall Z t q) .lent) .base .counters ≡ after
     unfolding lentOf
     served-counters = ap (λ x. x .base .counters) served-lent
 
@@ -298,7 +300,7 @@ module _ (Z : Sizes) where
         counters = y .1 .1 .1 .0;
       }
 
-  folder-served : (t : ArcLent) (l b : List ℕ) → arcFolderRefusal Z t l b ≡ 0 → arcFolderCall Z t l b ≡ arcServedFolder Z t l
+  pub folder-served : (t : ArcLent) (l b : List ℕ) → arcFolderRefusal Z t l b ≡ 0 → arcFolderCall Z t l b ≡ arcServedFolder Z t l
   unfolding arcFolderCall
   folder-served t l b e = rw (e, arcFolderCall) refl
 
@@ -327,6 +329,17 @@ module _ (Z : Sizes) where
         ap (boxOf Z) folder-lent
         ∙ box-back ((folderFrom Z t l) .kept) ((folderFrom Z t l) .batched .box) folder-right ((folderFrom Z t l) .batched .counters)
         (folder-found t l b e .fits)
+
+    pub folder-lists : listsOf ((arcFolderCall Z t l b) .lent) ≡ (folderFrom Z t l) .kept
+    unfolding arcLentOf
+    folder-lists =
+        ap listsOf folder-lent
+        ∙ lists-out ((folderFrom Z t l) .kept) ((folderFrom Z t l) .batched .box) folder-right ((folderFrom Z t l) .batched .counters)
+        (folder-found t l b e .fits)
+
+    pub folder-counters : ((arcFolderCall Z t l b) .lent) .base .counters ≡ (folderFrom Z t l) .batched .counters
+    unfolding arcLentOf lentOf
+    folder-counters = ap (λ x. x .base .counters) folder-lent
 
     pub folder-passes : ArcPasses ((arcFolderCall Z t l b) .lent)
     unfolding arcLentOf
@@ -412,6 +425,7 @@ module _ (Z : Sizes) where
       by-test (eqb (arcFolderRefusal Z t l b) 0)
       (λ y. folder-passes t l b (eqb-true (arcFolderRefusal Z t l b) 0 y))
       (λ y. subst ArcPasses (sym (folder-kept t l b y)) p)
+  passes-next t (report w lent) p = p
 
   state-law : (t : ArcLent) → ArcPasses t → ArcStateLaw Z t
   state-law t p =
@@ -430,7 +444,7 @@ module _ (Z : Sizes) where
   state-throughout t plain (q ∷ qs) p = (state-law t p, state-throughout (arcNext Z t q) (arcPlain Z t plain q) qs (passes-next t q p))
 
   in-list : (t : ArcLent) (q : Asking) → unfitArc Z ≡ false → ArcPasses t → ArcInList (arcNumber Z t q)
-  unfolding arcRefusal arcFolderRefusal
+  unfolding arcRefusal arcFolderRefusal arcReportRefusal
   in-list t (one q) u p =
       let b = t .base in
       let t6 = or-both (addressesUnsound (Z .P) (mOf Z) (b .n) (b .addresses)) (listsUnsound Z ((boxOf Z t) .rows) (t .sizes) (t .lists))
@@ -455,6 +469,13 @@ module _ (Z : Sizes) where
       (λ c. rw c (by-test (anyOutside (Z .P) l)
       (λ f. rw f refl)
       (λ f. rw (f, t6, p .base .blocks, t8) (by-test (over (b .counters)) (λ g. rw g refl) (λ g. rw g refl))))))))
+  in-list t (report w lent) u p =
+      let b = t .base in
+      let t6 = or-both (addressesUnsound (Z .P) (mOf Z) (b .n) (b .addresses)) (listsUnsound Z ((boxOf Z t) .rows) (t .sizes) (t .lists))
+      (p .base .addresses) (p .six) in
+      let t8 = or-both (dirtyUncached (b .n) (Z .C) (b .addresses) (b .blocks)) (topUncached H (boxOf Z t) (topsIn (t .sizes) (t .lists))) (p .base .dirty)
+      (p .eight) in
+      rw u (by-test (wrongArcBuffers Z t || otherLength lent (mOf Z * Reports.width w)) (λ e. rw e refl) (λ e. rw (e, t6, p .base .blocks, t8) refl))
 
   numbers-are : (t : ArcLent) (qs : List Asking) → unfitArc Z ≡ false → ArcPasses t → All ArcInList (arcRefusals Z t qs)
   unfolding arcRefusals
@@ -515,6 +536,7 @@ module _ (Z : Sizes) where
           faithful = subst (Faithful H In (Z .P) plain) (sym (folder-box t l b e)) ((good-folder t plain l b k e) .0);
         })
         (λ y. subst (λ u. Held u plain) (sym (folder-kept t l b y)) k)
+    held-next t plain (report w lent) k = λ i. k
 
     -- a claim of each state, and one of each served call
     throughout : (Q : ArcLent → List (Fixed (Z .B)) → Type 0) → ((t : ArcLent) (plain : List (Fixed (Z .B))) → Held t plain → Q t plain)
@@ -553,15 +575,16 @@ module _ (Z : Sizes) where
     shows t plain (Ask.read a l) z e = ap (λ x. x .block) (served-is t (Ask.read a l) z) ∙ ap (blockAfter (Ask.read a l)) e
     shows t plain (Ask.look a) z e =
         ap {B = Option (List ℕ)} (λ x. some (x .part)) (served-is t (Ask.look a) z) ∙ ap {B = Option (List ℕ)} (λ b. some (partAfter (Ask.look a) b)) e
-    shows t plain (Ask.through a l) z e = refl
-    shows t plain (Ask.back a l) z e = refl
-    shows t plain (Ask.invalidate a l) z e = refl
+    shows t plain (Ask.through a l x) z e = refl
+    shows t plain (Ask.back a l x) z e = refl
+    shows t plain (Ask.invalidate a l x) z e = refl
     shows t plain (Ask.flush k) z e = refl
 
     shown : (t : ArcLent) (plain : List (Fixed (Z .B))) (q : Asking) → Held t plain → arcNumber Z t q ≡ 0 → All In (arcWrites Z q) → ArcShows Z t plain q
     unfolding arcServedFolder
     shown t plain (one q) k e i = shows t plain q e ((faithful-one t plain q k e i) .1)
     shown t plain (many l b) k e i = ap (λ x. x .buffer) (folder-served t l b e) ∙ ap join ((good-folder t plain l b k e) .1)
+    shown t plain (report w lent) k e i = tt
 
     flushed : (t : ArcLent) (plain : List (Fixed (Z .B))) (q : Asking) → Held t plain → arcNumber Z t q ≡ 0 → All In (arcWrites Z q) → ArcFlushes Z t plain q
     unfolding callOf lentOf
@@ -584,6 +607,7 @@ module _ (Z : Sizes) where
         let same = folder-in-turn H M (arc H Z) (ArcSound H Z) (arc-promises H Z c) m1 c In only s s plain (a ∷ l) refl
         (passes-right t (k .passes), k .faithful) tt (x .inside) in
         folder-lent t (a ∷ l) b e ∙ ap (folderLent Z) same ∙ sym (in-turn-is (x .fits) t a l (k .passes) (x .inside))
+    as-reads t plain (report w lent) k e i = tt
 
     -- where the lent memory passes, its disk is that of its box
     clean : (t : ArcLent) (plain : List (Fixed (Z .B))) → Held t plain → ArcCleanIsPlain Z t plain

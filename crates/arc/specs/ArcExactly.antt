@@ -9,10 +9,12 @@ use Rattle.tables.specs.Unsound.{addressesUnsound, blocksUnsound, dirtyUncached
 use Rattle.paper.specs.Engine.{labelled}
 use Rattle.paper.specs.Lent.{Ask, opening, calling, addressOf, lentBlock, wrongBlock, otherLength, outside, over, counts, boxIn, test, oneOf}
 use Rattle.paper.specs.BatchLent.{badCount, anyOutside}
+use Rattle.paper.specs.Reports.{Reader, width}
 use Rattle.paper.specs.RefusalLaws.{Apart, NoneOf, gives, gives-none, in-first}
 use Rattle.arc.specs.Arc.{Sizes, baseNumbers, mOf}
 use Rattle.arc.specs.ArcLent.{ArcLent, unfitArc, listsUnsound, topUncached, topsIn, wrongArcBuffers, arcTests, arcRefusal}
 use Rattle.arc.specs.ArcFolder.{arcFolderTests, arcFolderRefusal}
+use Rattle.arc.specs.ArcReports.{arcReportTests, arcReportRefusal}
 
 -- the tests of a call by their numbers
 module _ (Z : Sizes) (t : ArcLent) (q : Ask) where
@@ -144,6 +146,47 @@ module _ (Z : Sizes) (t : ArcLent) (l buffer : List ℕ) where
         gives-7 = gives (take 5 x) (test folder7 7) (drop 6 x) d;
         gives-8 = gives (take 6 x) (test folder8 8) (drop 7 x) d;
         gives-9 = gives (take 7 x) (test (over (t .base .counters)) 9) [] d;
+        gives-0 = gives-none x d;
+        no-other = in-first x;
+      }
+
+-- "Reports count nothing and have no 3 and no 9."
+module _ (Z : Sizes) (t : ArcLent) (w : Reader) (report : List ℕ) where
+  abbrev pub report2 : Bool
+  report2 = wrongArcBuffers Z t || otherLength report (mOf Z * width w)
+
+  abbrev pub report6 : Bool
+  report6 = arc6 Z t (Ask.look 0)
+
+  abbrev pub report7 : Bool
+  report7 = arc7 Z t (Ask.look 0)
+
+  abbrev pub report8 : Bool
+  report8 = arc8 Z t (Ask.look 0)
+
+  abbrev pub reportNumber : ℕ
+  reportNumber = arcReportRefusal Z t w report
+
+  pub record ArcExactlyReport : Type 0 where
+    pub gives-11 : reportNumber ≡ 11 ↔ (NoneOf [] × (unfitArc Z ≡ true))
+    pub gives-2 : reportNumber ≡ 2 ↔ (NoneOf (unfitArc Z ∷ []) × (report2 ≡ true))
+    pub gives-6 : reportNumber ≡ 6 ↔ (NoneOf (unfitArc Z ∷ report2 ∷ []) × (report6 ≡ true))
+    pub gives-7 : reportNumber ≡ 7 ↔ (NoneOf (unfitArc Z ∷ report2 ∷ report6 ∷ []) × (report7 ≡ true))
+    pub gives-8 : reportNumber ≡ 8 ↔ (NoneOf (unfitArc Z ∷ report2 ∷ report6 ∷ report7 ∷ []) × (report8 ≡ true))
+    pub gives-0 : reportNumber ≡ 0 ↔ NoneOf (unfitArc Z ∷ report2 ∷ report6 ∷ report7 ∷ report8 ∷ [])
+    pub no-other : oneOf reportNumber (0 ∷ 11 ∷ 2 ∷ 6 ∷ 7 ∷ 8 ∷ []) ≡ true
+
+  pub arc-exactly-report : ArcExactlyReport
+  unfolding arcReportRefusal
+  arc-exactly-report =
+      let x = arcReportTests Z t w report in
+      let d : Apart x = (refl, (refl, (refl, (refl, (refl, (refl, tt)))))) in
+      record {
+        gives-11 = gives [] (test (unfitArc Z) 11) (drop 1 x) d;
+        gives-2 = gives (take 1 x) (test report2 2) (drop 2 x) d;
+        gives-6 = gives (take 2 x) (test report6 6) (drop 3 x) d;
+        gives-7 = gives (take 3 x) (test report7 7) (drop 4 x) d;
+        gives-8 = gives (take 4 x) (test report8 8) [] d;
         gives-0 = gives-none x d;
         no-other = in-first x;
       }

@@ -8,7 +8,7 @@ use Prim.Native.Nat.{ℕ, _<_}
 use lib.Dec.{eqb}
 use lib.ListN.{set}
 use Rattle.tables.specs.Records.{slotsFrom}
-use Rattle.paper.specs.Cache.{Hashing, AddressRow, BlockRow, Box, newest, blockRow, held, withoutBlock, slotOf, blockOf, copied, isLost, stored}
+use Rattle.paper.specs.Cache.{Hashing, Seat, AddressRow, BlockRow, Box, newest, blockRow, held, withoutBlock, slotOf, blockOf, copied, isLost, stored}
 use Rattle.paper.specs.KeyedLaws.{by-test, either, clash, or-left, or-both, or-false-left, or-false-right, and-left, and-right, eqb→≡, eqb-self, All}
 use Rattle.paper.specs.KeyedLaws.{all-right, all-of-map, all-append, all-map, all-without, all-both, find-some}
 use Rattle.paper.specs.Sound.{DirtyCached, perm-take, unknown-slot, all-cleaned}
@@ -156,20 +156,20 @@ module _ {F X : Type 0} (H : Hashing F X) (In : X → Type 0) (only : Only H In)
       ))
 
   -- the row joins, and the box is faithful
-  pub fair-joins : (s : Box F X) (g : F) (dy : Bool) → held a (s .rows) ≡ false → g ≡ H .hash (at H plain a) → (dy ≡ false → v ≡ at H plain a)
+  pub fair-joins : (s : Box F X) (g : F) (dy : Bool) (z : Seat) → held a (s .rows) ≡ false → g ≡ H .hash (at H plain a) → (dy ≡ false → v ≡ at H plain a)
       → Fair H In a (Z .P) plain v s
-      → Faithful H In (Z .P) plain (record { rows = s .rows ++ (newest a g dy ∷ []); free = s .free; used = s .used; flash = s .flash; disk = s .disk })
-  fair-joins s g dy ab ge cl h =
+      → Faithful H In (Z .P) plain (record { rows = s .rows ++ (newest a g dy z ∷ []); free = s .free; used = s .used; flash = s .flash; disk = s .disk })
+  fair-joins s g dy z ab ge cl h =
       let f = h .0 in
       record {
-        rowsTrue = all-append (RowTrue H In plain) (s .rows) (newest a g dy ∷ []) (rows-true (s .rows) ab (f .rowsTrue)) (ge, tt);
+        rowsTrue = all-append (RowTrue H In plain) (s .rows) (newest a g dy z ∷ []) (rows-true (s .rows) ab (f .rowsTrue)) (ge, tt);
         blocksTrue = f .blocksTrue;
         plainIn = f .plainIn;
         plainLength = f .plainLength;
-        current = λ x d. let n = dirty-snoc H x (s .rows) (newest a g dy) d in
+        current = λ x d. let n = dirty-snoc H x (s .rows) (newest a g dy z) d in
             by-test (eqb a x)
             (λ y. let e = eqb→≡ a x y in
-            subst (λ z. at H (s .disk) z ≡ at H plain z) e
-            (h .1 ∙ cl (not-dirty x (newest a g dy) (rw e (eqb-self x)) (n .1))))
+            subst (λ y. at H (s .disk) y ≡ at H plain y) e
+            (h .1 ∙ cl (not-dirty x (newest a g dy z) (rw e (eqb-self x)) (n .1))))
             (λ y. f .current x y (n .0));
       }

@@ -7,7 +7,7 @@ use Prim.Native.Nat.{ℕ, _+_, _≤_}
 use native.Mathlib.Omega.{arith}
 use lib.Dec.{eqb}
 use lib.ListN.{length, getD}
-use Rattle.paper.specs.Cache.{Hashing, AddressRow, Box, Stepped, Request, Word, hit, miss, rowOf, withoutAddress, copies, cleaned, isLost, blockOf}
+use Rattle.paper.specs.Cache.{Hashing, AddressRow, Box, Stepped, Request, Word, hit, miss, rowOf, seatIn, withoutAddress, copies, cleaned, isLost, blockOf}
 use Rattle.paper.specs.Cache.{stored, Call, read, through, back, invalidate, look, flush, onDisk, rowWithBlock, sameOrNew, answer, backRequest, reach}
 use Rattle.paper.specs.Cache.{lookAs, writeInvalidate, flushed}
 use Rattle.arc.specs.Policy.{serveBy, readBy, throughBy, backBy, answeredBy}
@@ -104,23 +104,23 @@ module _ {F X : Type 0} (H : Hashing F X) (Z : Sizes) (c1 : 1 ≤ Z .C) where
   unfolding readBy answeredBy
   arc-read-few l s a x (some r) h =
       let b = blockOf H (r .fingerprint) (s .used) (s .flash) in
-      let q : Request F X = record { address = a; fingerprint = r .fingerprint; block = b; dirty = r .dirty } in
+      let q : Request F X = record { address = a; fingerprint = r .fingerprint; block = b; dirty = r .dirty; seat = r .seat } in
       answer-few hit (some b) 0 ((arcStep H Z l s q) .stepped) (step-few l s q h) (omega arith)
   arc-read-few l s a x none h =
-      let q : Request F X = record { address = a; fingerprint = H .hash x; block = x; dirty = false } in
+      let q : Request F X = record { address = a; fingerprint = H .hash x; block = x; dirty = false; seat = seatIn (rowOf a (s .rows)) } in
       answer-few miss (some x) 0 ((arcStep H Z l s q) .stepped) (step-few l s q h) (omega arith)
 
   pub arc-serve-few : (l : Lists) (s : Box F X) (c : Call X) → ArcSound H Z l s → FewBy H (mOf Z + 1) ((serveBy H (arc H Z) l s c) .outcome)
   unfolding serveBy answeredBy throughBy backBy writeInvalidate lookAs flushed
   arc-serve-few l s (read a) h = arc-read-few l s a (getD (s .disk) a (H .blank)) (rowWithBlock H s a) h
-  arc-serve-few l s (through a b) h =
-      let q : Request F X = record { address = a; fingerprint = H .hash b; block = b; dirty = false } in
+  arc-serve-few l s (through a b z) h =
+      let q : Request F X = record { address = a; fingerprint = H .hash b; block = b; dirty = false; seat = z } in
       answer-few (sameOrNew H s b) none 1 ((arcStep H Z l (onDisk H s a b) q) .stepped)
       (step-few l (onDisk H s a b) q (inv-onDisk H (baseNumbers Z) (arc H Z) (ArcSound H Z) (arc-promises H Z c1) l s a b h)) (omega arith)
-  arc-serve-few l s (back a b) h =
-      let q : Request F X = backRequest H s a b in
+  arc-serve-few l s (back a b z) h =
+      let q : Request F X = backRequest H s a b z in
       answer-few (sameOrNew H s b) none 0 ((arcStep H Z l s q) .stepped) (step-few l s q h) (omega arith)
-  arc-serve-few l s (invalidate a b) h = (omega arith, omega arith)
+  arc-serve-few l s (invalidate a b z) h = (omega arith, omega arith)
   arc-serve-few l s (look a) h = go (rowWithBlock H s a)
     where
       go : (o : Option (AddressRow F)) → FewBy H (mOf Z + 1) (lookAs H s a o)

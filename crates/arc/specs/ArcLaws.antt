@@ -82,7 +82,7 @@ module _ {F X : Type 0} (H : Hashing F X) (Z : Sizes) where
       let lf = left-fit a l in
       let lw = left-few a l in
       record {
-        sound = sound-serve H (baseNumbers Z) s (invalidate a b) (h .sound) (omega arith) c1 w;
+        sound = sound-serve H (baseNumbers Z) s (invalidate a b (0, 0)) (h .sound) (omega arith) c1 w;
         names = λ x. by-test (eqb a x)
             (λ e. subst (λ z. tally (λ r. r .address) z (withoutAddress a (s .rows)) ≡ named z (left a l)) (eqb→≡ a x e)
             (tally-without-self (λ (r : AddressRow F). r .address) a (s .rows) ∙ sym (left-none a l)))
@@ -106,7 +106,7 @@ module _ {F X : Type 0} (H : Hashing F X) (Z : Sizes) where
       let b = q .block in
       let n = listOf a l in
       let r = ready H Z a g b (λ s. Unit {0}) (λ t x r so ab e n h. tt) (λ t m c row h. tt) (λ t m c h. tt) c1 l s h (λ w. tt) in
-      mid-joined H Z (upTo H Z a g b (λ s. Unit {0}) (λ t x r so ab e n h. tt) (λ t m c row h. tt) (λ t m c h. tt) c1 l s n) a g (q .dirty) n (r .mid)
+      mid-joined H Z (upTo H Z a g b (λ s. Unit {0}) (λ t x r so ab e n h. tt) (λ t m c row h. tt) (λ t m c h. tt) c1 l s n) a g (q .dirty) (q .seat) n (r .mid)
       (r .has) (r .room) (r .few) w
 
   fair-parted : (In : X → Type 0) (plain : List X) (l : Lists) (s : Box F X) (a : ℕ) (w : Was) → FaithfulBut H In a (Z .P) plain s
@@ -138,7 +138,7 @@ module _ {F X : Type 0} (H : Hashing F X) (Z : Sizes) where
       let st = fair-store H In only Z a plain v g b (t .print) (t .inSet) in
       let nw = fair-newest H In only Z a plain v g in
       let r = ready H Z a g b G o st nw c1 l s h (λ w. fair-parted In plain l s a w f) in
-      fair-joins H In only Z a plain v ((upTo H Z a g b G o st nw c1 l s n) .stepped .box) g (q .dirty) (r .mid .absent)
+      fair-joins H In only Z a plain v ((upTo H Z a g b G o st nw c1 l s n) .stepped .box) g (q .dirty) (q .seat) (r .mid .absent)
       (t .print ∙ ap (H .hash) (t .plainly)) (t .clean) (r .good)
 
   -- D-ARC promises what a policy must

@@ -1,13 +1,13 @@
--- Which D-ARC calls are refused and with which number, and a call that is served, in bytes: tables, by computation.
+-- Which D-ARC calls are refused and with which number, and a call and reports that are served, in bytes: tables, by computation.
 -- Assumes nothing.
 use mathlib.Core.Path.{_≡_, refl}
 use mathlib.Core.List.{List, [], _∷_, _++_, map}
 use mathlib.Core.Option.{some}
-use Prim.Native.Nat.{ℕ}
+use Prim.Native.Nat.{ℕ, _+_, _^_}
 use lib.ListN.{replicate, set, take}
 use Rattle.tables.specs.Rows as Rows
 use Rattle.tables.specs.Records as Records
-use Rattle.tables.specs.Records.{AddressRow, addressRow, blockRow, addressTable, blockTable}
+use Rattle.tables.specs.Records.{AddressRow, addressRow, blockRow, paddingByte, addressTable, blockTable}
 use Rattle.tables.specs.Find as Find
 use Rattle.tables.specs.Unsound as Unsound
 use Rattle.paper.specs.Cache as Cache
@@ -15,11 +15,14 @@ use Rattle.paper.specs.Cache.{hit, noCounts}
 use Rattle.paper.specs.Engine as Engine
 use Rattle.paper.specs.Lent as Lent
 use Rattle.paper.specs.Lent.{Lent, Ask, Asked, opening, calling, answered}
+use Rattle.paper.specs.Reports as Reports
+use Rattle.paper.specs.Reports.{Reader, manager, desk}
 use Rattle.arc.specs.Policy as Policy
 use Rattle.arc.specs.Arc as Arc
 use Rattle.arc.specs.Arc.{Sizes}
 use Rattle.arc.specs.ArcLent as Bytes
 use Rattle.arc.specs.ArcFolder.{arcFolderRefusal}
+use Rattle.arc.specs.ArcReports.{arcReportRefusal, arcReported}
 use Rattle.arc.specs.ArcLent.{ListRecord, ArcLent, arcRefusal, arcCall, arcLabelAfter, wordBytes}
 
 abbrev numbers : ℕ → ℕ → ℕ → ℕ → Sizes
@@ -39,6 +42,10 @@ filled k = replicate 64 k
 abbrev print : ℕ → List ℕ
 print k = replicate 32 k
 
+-- an address row, which the seat 0x0807 wrote
+abbrev row : ℕ → List ℕ → ℕ → AddressRow
+row a g x = addressRow a g x (7, 8)
+
 abbrev memory : List AddressRow → ℕ → Lent
 memory rs n =
     record {
@@ -52,11 +59,11 @@ memory rs n =
 
 -- Address 0 is without its block; 1 is dirty; 3 is clean.
 abbrev three : Lent
-three = memory (addressRow 0 (print 3) 0 ∷ addressRow 1 (print 1) 1 ∷ addressRow 3 (print 2) 0 ∷ []) 3
+three = memory (row 0 (print 3) 0 ∷ row 1 (print 1) 1 ∷ row 3 (print 2) 0 ∷ []) 3
 
 -- all four are held, with their blocks
 abbrev four : Lent
-four = memory (addressRow 0 (print 1) 0 ∷ addressRow 1 (print 1) 1 ∷ addressRow 2 (print 2) 0 ∷ addressRow 3 (print 2) 0 ∷ []) 4
+four = memory (row 0 (print 1) 0 ∷ row 1 (print 1) 1 ∷ row 2 (print 2) 0 ∷ row 3 (print 2) 0 ∷ []) 4
 
 abbrev sizes : ℕ → ℕ → ℕ → ℕ → ℕ → ℕ → ListRecord
 sizes t1 t2 b1 b2 b3 p = record { t1 = t1; t2 = t2; b1 = b1; b2 = b2; b3 = b3; p = p }
@@ -71,6 +78,37 @@ right = box three (sizes 1 1 1 0 0 1) (1 ∷ 3 ∷ 0 ∷ [])
 
 abbrev byte : ℕ → ℕ → ArcLent
 byte k x = record { base = right .base; sizes = right .sizes; lists = set (right .lists) k x }
+
+-- with a byte of the address table, of the block table
+abbrev addressByte : ℕ → ℕ → ArcLent
+addressByte k x =
+    record {
+      base = record {
+        n = 3;
+        disk = three .disk;
+        flash = three .flash;
+        addresses = set (three .addresses) k x;
+        blocks = three .blocks;
+        counters = noCounts;
+      };
+      sizes = right .sizes;
+      lists = right .lists;
+    }
+
+abbrev blockByte : ℕ → ℕ → ArcLent
+blockByte k x =
+    record {
+      base = record {
+        n = 3;
+        disk = three .disk;
+        flash = three .flash;
+        addresses = three .addresses;
+        blocks = set (three .blocks) k x;
+        counters = noCounts;
+      };
+      sizes = right .sizes;
+      lists = right .lists;
+    }
 
 pub record Case : Type 0 where
   pub numbers : Sizes
@@ -107,6 +145,12 @@ table =
     -- p above C
     ∷ asks (box three (sizes 1 1 1 0 0 2) (1 ∷ 3 ∷ 0 ∷ [])) 0
     ∷ asks (box three (sizes 1 1 1 0 0 3) (1 ∷ 3 ∷ 0 ∷ [])) 6
+    -- U7: "In a held row refusal 6 now wants only the last padding byte zero."; in a row from n on every byte
+    ∷ asks (addressByte (paddingByte 0 0) 1) 0
+    ∷ asks (addressByte (paddingByte 2 1) 1) 0
+    ∷ asks (addressByte (paddingByte 0 2) 1) 6
+    ∷ asks (addressByte (paddingByte 3 0) 1) 6
+    ∷ asks (addressByte (paddingByte 3 1) 1) 6
     -- 8: address 0, in T1 or T2, is without its block
     ∷ asks (box three (sizes 1 1 1 0 0 1) (0 ∷ 3 ∷ 1 ∷ [])) 8
     ∷ asks (box three (sizes 1 1 1 0 0 1) (1 ∷ 0 ∷ 3 ∷ [])) 8
@@ -178,6 +222,86 @@ unfolding arcFolderRefusal Bytes.unfitArc Bytes.words wordBytes Bytes.misnamed B
     Unsound.count Unsound.addressesUnsound Unsound.freeAfterUsed Unsound.eachOnce Unsound.usedTwice Unsound.blocksUnsound Unsound.dirtyUncached
 folder-refusals-given = refl
 
+-- reports, in so many bytes: 5 rows of 7 for the manager and of 5 for the desk
+pub record ReportCase : Type 0 where
+  pub numbers : Sizes
+  pub lent : ArcLent
+  pub reader : Reader
+  pub bytes : ℕ
+  pub number : ℕ
+
+abbrev reports : ArcLent → Reader → ℕ → ℕ → ReportCase
+reports t w bytes k = record { numbers = small; lent = t; reader = w; bytes = bytes; number = k }
+
+-- a counter is too large
+abbrev much : ArcLent
+much =
+    record {
+      base = record {
+        n = 3;
+        disk = three .disk;
+        flash = three .flash;
+        addresses = three .addresses;
+        blocks = three .blocks;
+        counters = record { reads = 2 ^ 63 + 1; hits = 0; flashWrites = 0; primaryWrites = 0 };
+      };
+      sizes = right .sizes;
+      lists = right .lists;
+    }
+
+abbrev pub reportCases : List ReportCase
+reportCases =
+    reports right manager 35 0
+    ∷ reports right desk 25 0
+    -- 2: the report's bytes are too few or too many, the other reader's, or the lists' buffer is short
+    ∷ reports right manager 34 2
+    ∷ reports right manager 36 2
+    ∷ reports right manager 25 2
+    ∷ reports right desk 24 2
+    ∷ reports right desk 26 2
+    ∷ reports right desk 35 2
+    ∷ reports (record { base = three; sizes = sizes 1 1 1 0 0 1; lists = take 19 (right .lists) }) desk 25 2
+    -- 6 of the tables and of the lists, 7, 8 of the lists
+    ∷ reports (addressByte (paddingByte 0 2) 1) manager 35 6
+    ∷ reports (byte 12 1) desk 25 6
+    ∷ reports (blockByte (paddingByte 0 0) 1) manager 35 7
+    ∷ reports (box three (sizes 1 1 1 0 0 1) (0 ∷ 3 ∷ 1 ∷ [])) desk 25 8
+    -- "no 9"
+    ∷ reports much manager 35 0
+    ∷ reports much desk 25 0
+    -- 11 before 2
+    ∷ record { numbers = numbers 64 4 2 1021; lent = right; reader = desk; bytes = 24; number = 11 }
+    ∷ []
+
+pub report-refusals-given : map (λ c. arcReportRefusal (c .numbers) (c .lent) (c .reader) (replicate (c .bytes) 0)) reportCases
+    ≡ map (λ c. c .number) reportCases
+unfolding arcReportRefusal Bytes.unfitArc Bytes.words wordBytes Bytes.misnamed Bytes.oversized Bytes.listsUnsound Bytes.topUncached Lent.wrongBuffers
+    Lent.over Lent.boxIn Lent.split Lent.freeSlots Lent.usedRows Engine.fit Rows.rows Rows.flat Rows.zeros Records.addressBytes Records.blockBytes
+    Records.readAddress Records.readBlock addressTable blockTable Records.heldRows Records.blockRows Find.any Find.all Find.same Unsound.elem Unsound.twice
+    Unsound.count Unsound.addressesUnsound Unsound.freeAfterUsed Unsound.eachOnce Unsound.usedTwice Unsound.blocksUnsound Unsound.dirtyUncached
+report-refusals-given = refl
+
+-- "The manager's report gives address, dirty byte and seat of every held row, oldest first, in m × 7 lent bytes; the desk's gives address and dirty
+-- byte only, in m × 5; zeros follow."
+pub managers-report : arcReported small right manager (replicate 35 9)
+    ≡ 0 ∷ 0 ∷ 0 ∷ 0 ∷ 0 ∷ 7 ∷ 8 ∷ 1 ∷ 0 ∷ 0 ∷ 0 ∷ 1 ∷ 7 ∷ 8 ∷ 3 ∷ 0 ∷ 0 ∷ 0 ∷ 0 ∷ 7 ∷ 8 ∷ replicate 14 0
+unfolding arcReported Reports.reportOf arcReportRefusal Bytes.unfitArc Bytes.words wordBytes Bytes.misnamed Bytes.oversized Bytes.listsUnsound
+    Bytes.topUncached Lent.wrongBuffers
+    Lent.over Lent.boxIn Lent.split Lent.freeSlots Lent.usedRows Engine.fit Rows.rows Rows.flat Rows.zeros Records.addressBytes Records.blockBytes
+    Records.readAddress Records.readBlock addressTable blockTable Records.heldRows Records.blockRows Find.any Find.all Find.same Unsound.elem Unsound.twice
+    Unsound.count Unsound.addressesUnsound Unsound.freeAfterUsed Unsound.eachOnce Unsound.usedTwice Unsound.blocksUnsound Unsound.dirtyUncached
+managers-report = refl
+
+-- and one that is refused keeps its bytes
+pub desks-report : (arcReported small right desk (replicate 25 9) ≡ 0 ∷ 0 ∷ 0 ∷ 0 ∷ 0 ∷ 1 ∷ 0 ∷ 0 ∷ 0 ∷ 1 ∷ 3 ∷ 0 ∷ 0 ∷ 0 ∷ 0 ∷ replicate 10 0)
+    × (arcReported small right desk (replicate 24 9) ≡ replicate 24 9)
+unfolding arcReported Reports.reportOf arcReportRefusal Bytes.unfitArc Bytes.words wordBytes Bytes.misnamed Bytes.oversized Bytes.listsUnsound
+    Bytes.topUncached Lent.wrongBuffers
+    Lent.over Lent.boxIn Lent.split Lent.freeSlots Lent.usedRows Engine.fit Rows.rows Rows.flat Rows.zeros Records.addressBytes Records.blockBytes
+    Records.readAddress Records.readBlock addressTable blockTable Records.heldRows Records.blockRows Find.any Find.all Find.same Unsound.elem Unsound.twice
+    Unsound.count Unsound.addressesUnsound Unsound.freeAfterUsed Unsound.eachOnce Unsound.usedTwice Unsound.blocksUnsound Unsound.dirtyUncached
+desks-report = (refl, refl)
+
 -- A read of address 1 is a hit (nothing is hashed): it goes from T1 to T2, its row and its block row become newest.
 pub a-hit-in-bytes : arcCall small right (Ask.read 1 (filled 0))
     ≡ record {
@@ -187,7 +311,7 @@ pub a-hit-in-bytes : arcCall small right (Ask.read 1 (filled 0))
           n = 3;
           disk = filled 4 ++ (filled 5 ++ (filled 6 ++ filled 7));
           flash = filled 8 ++ filled 9;
-          addresses = addressTable 5 (addressRow 0 (print 3) 0 ∷ addressRow 3 (print 2) 0 ∷ addressRow 1 (print 1) 1 ∷ []);
+          addresses = addressTable 5 (row 0 (print 3) 0 ∷ row 3 (print 2) 0 ∷ row 1 (print 1) 1 ∷ []);
           blocks = blockTable (blockRow (print 2) 1 1 ∷ blockRow (print 1) 0 1 ∷ []);
           counters = record { reads = 1; hits = 1; flashWrites = 0; primaryWrites = 0 };
         };

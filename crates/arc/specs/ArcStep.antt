@@ -9,7 +9,7 @@ use lib.Dec.{eqb, ltb}
 use lib.ListN.{length, length-append}
 use borrow.Author.Tests.{ltb-false}
 use Rattle.paper.specs.Keyed.{has}
-use Rattle.paper.specs.Cache.{Hashing, AddressRow, Box, Stepped, newest, withoutAddress, cached}
+use Rattle.paper.specs.Cache.{Hashing, Seat, AddressRow, Box, Stepped, newest, withoutAddress, cached}
 use Rattle.paper.specs.KeyedLaws.{by-test, either, clash, or-cases, or-left, or-right, eqb→≡, eqb-self, All, all-append, all-map, all-both}
 use Rattle.paper.specs.KeyedLaws.{all-without, has-without-other, has-without-self, distinct-without, distinct-snoc, has-snoc-cases}
 use Rattle.paper.specs.Sound.{Sound, DirtyCached, length-without-le}
@@ -146,11 +146,11 @@ module _ {F X : Type 0} (H : Hashing F X) (Z : Sizes) where
   in-joined : (x a : ℕ) (l : List ℕ) → isIn x (l ++ (a ∷ [])) ≡ true → (isIn x l ≡ true) ⊎ (x ≡ a)
   in-joined x a l h = has-snoc-cases eqb (λ x. x) eqb→≡ eqb-self x l a h
 
-  pub mid-joined : (t : Ran F X Lists) (a : ℕ) (g : F) (dy : Bool) (w : Was) → Mid H Z a t → cached H g (t .stepped .box .used) ≡ true
+  pub mid-joined : (t : Ran F X Lists) (a : ℕ) (g : F) (dy : Bool) (seat : Seat) (w : Was) → Mid H Z a t → cached H g (t .stepped .box .used) ≡ true
       → tops (t .kept) + length (t .kept .B3) + 1 ≤ Z .C + Z .X → history (t .kept) ≤ Z .C → a < Z .P
-      → ArcSound H Z ((joined H a g dy w t) .kept) ((joined H a g dy w t) .stepped .box)
+      → ArcSound H Z ((joined H a g dy seat w t) .kept) ((joined H a g dy seat w t) .stepped .box)
   unfolding joined
-  mid-joined t a g dy w m c room few ap =
+  mid-joined t a g dy seat w m c room few ap =
       by-test (toT2 H w)
       (λ e. rw e (go (joinT2 H a (t .kept)) (λ x. let f = tally-append (λ x. x) x (t .kept .T2) (a ∷ []) in omega (arith, f))
       (let f = length-append (t .kept .T2) (a ∷ []) in omega (arith, f))
@@ -166,7 +166,7 @@ module _ {F X : Type 0} (H : Hashing F X) (Z : Sizes) where
       (let f = length-append (t .kept .T1) (a ∷ []) in omega (arith, f)) few (m .pLow)))
     where
       new : AddressRow F
-      new = newest a g dy
+      new = newest a g dy seat
 
       box : Box F X
       box =

@@ -5,7 +5,7 @@ use mathlib.Core.Bool.{true, false}
 use mathlib.Core.List.{List, [], _∷_, map}
 use Prim.Native.Nat.{ℕ}
 use lib.ListN.{length, replicate}
-use Rattle.paper.specs.Cache.{AddressRow, Box, Outcome, newest, blockRow, before, Call, read, through, back, invalidate, look, flush, fresh}
+use Rattle.paper.specs.Cache.{AddressRow, Box, Outcome, newest, blockRow, before, Call, read, look, flush, fresh}
 use Rattle.paper.specs.Cache.{Word, hit, miss, sameBlock, newBlock, fromCache, fromDisk, done}
 use Rattle.paper.specs.Cache.{freed, oldestUnknown, takenUsed, stored, ifCached, answer, dropped, writeInvalidate, lookAs, flushed}
 use Rattle.paper.specs.Worked.{labels, Said}
@@ -19,11 +19,22 @@ use Rattle.arc.specs.Arc.{cleared, takenBy, storedIn, blockNewest, inser
 abbrev says : Call ℕ → Word → ℕ → ℕ → Said
 says c w f p = record { call = c; word = w; flashWrites = f; primaryWrites = p }
 
+-- A held row: address and content, clean or dirty, last written by no seat or by seat 0
 abbrev clean : ℕ → ℕ → AddressRow ℕ
-clean a k = newest a k false
+clean a k = newest a k false (0, 0)
 
 abbrev dirty : ℕ → ℕ → AddressRow ℕ
-dirty a k = newest a k true
+dirty a k = newest a k true (0, 0)
+
+-- The writes of a replay carry 0.
+abbrev through : ℕ → ℕ → Call ℕ
+through a k = Call.through a k (0, 0)
+
+abbrev back : ℕ → ℕ → Call ℕ
+back a k = Call.back a k (0, 0)
+
+abbrev invalidate : ℕ → ℕ → Call ℕ
+invalidate a k = Call.invalidate a k (0, 0)
 
 abbrev lists : List ℕ → List ℕ → List ℕ → List ℕ → List ℕ → ℕ → Lists
 lists t1 t2 b1 b2 b3 n = record { T1 = t1; T2 = t2; B1 = b1; B2 = b2; B3 = b3; p = n }
@@ -743,6 +754,63 @@ table =
           used = blockRow 0 0 ∷ blockRow 1 1 ∷ blockRow 2 2 ∷ [];
           flash = 0 ∷ 1 ∷ 2 ∷ [];
           disk = 0 ∷ 1 ∷ 2 ∷ [];
+        };
+      };
+    }
+    -- U7: "writes carry it .., reads keep it": a write back by seat 0x0807 and a hit
+    ∷ record {
+      C = 1;
+      X = 0;
+      from = noLists;
+      over = new 1 (0 ∷ 1 ∷ 2 ∷ []);
+      seen = record {
+        said = says (Call.back 0 5 (7, 8)) newBlock 1 0 ∷ says (read 0) hit 0 0 ∷ [];
+        returned = 5 ∷ [];
+        lists = lists ([]) (0 ∷ []) ([]) ([]) ([]) 0;
+        box = record { rows = newest 0 5 true (7, 8) ∷ []; free = []; used = blockRow 5 0 ∷ []; flash = 5 ∷ []; disk = 0 ∷ 1 ∷ 2 ∷ [] };
+      };
+    }
+    -- "a read of an address not held sets 0"; a miss of a held address keeps its seat, and so does a row that is made clean
+    ∷ record {
+      C = 1;
+      X = 0;
+      from = noLists;
+      over = new 1 (0 ∷ 1 ∷ 2 ∷ []);
+      seen = record {
+        said = says (Call.back 0 5 (7, 8)) newBlock 1 0 ∷ says (read 0) hit 0 0 ∷ says (read 1) miss 1 1 ∷ says (read 0) miss 1 0 ∷ [];
+        returned = 5 ∷ 1 ∷ 5 ∷ [];
+        lists = lists ([]) (0 ∷ []) (1 ∷ []) ([]) ([]) 0;
+        box = record {
+          rows = clean 1 1 ∷ newest 0 5 false (7, 8) ∷ [];
+          free = [];
+          used = blockRow 5 0 ∷ [];
+          flash = 5 ∷ [];
+          disk = 5 ∷ 1 ∷ 2 ∷ [];
+        };
+      };
+    }
+    -- a write through by another seat
+    ∷ record {
+      C = 1;
+      X = 0;
+      from = lists ([]) (0 ∷ []) (1 ∷ []) ([]) ([]) 0;
+      over = record {
+        rows = newest 1 1 false (3, 0) ∷ newest 0 5 false (7, 8) ∷ [];
+        free = [];
+        used = blockRow 5 0 ∷ [];
+        flash = 5 ∷ [];
+        disk = 5 ∷ 1 ∷ 2 ∷ [];
+      };
+      seen = record {
+        said = says (Call.through 1 5 (9, 1)) sameBlock 0 1 ∷ [];
+        returned = [];
+        lists = lists ([]) (1 ∷ []) ([]) (0 ∷ []) ([]) 1;
+        box = record {
+          rows = newest 0 5 false (7, 8) ∷ newest 1 5 false (9, 1) ∷ [];
+          free = [];
+          used = blockRow 5 0 ∷ [];
+          flash = 5 ∷ [];
+          disk = 5 ∷ 5 ∷ 2 ∷ [];
         };
       };
     }

@@ -6,6 +6,7 @@ pub mod Arc
 pub mod ArcWorked
 pub mod ArcLent
 pub mod ArcFolder
+pub mod ArcReports
 pub mod ArcRefused
 pub mod ArcDemand
 -- the theorems: demand 3 of every list in bytes; D-LRU's calls over its policy; what a policy must promise and what follows; D-ARC's laws of every

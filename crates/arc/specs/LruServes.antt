@@ -17,8 +17,8 @@ module _ {F X : Type 0} (H : Hashing F X) (N : Numbers) (s : Box F X) where
   pub lru-serves : (c : Call X) → (serveBy H (lru H N) tt s c) .outcome ≡ serve H N s c
   unfolding serveBy throughBy backBy answeredBy serve writeThrough writeBack
   lru-serves (read a) = lru-reads a (getD (s .disk) a (H .blank)) (rowWithBlock H s a)
-  lru-serves (through a b) = refl
-  lru-serves (back a b) = refl
-  lru-serves (invalidate a b) = refl
+  lru-serves (through a b z) = refl
+  lru-serves (back a b z) = refl
+  lru-serves (invalidate a b z) = refl
   lru-serves (look a) = refl
   lru-serves (flush k) = refl

@@ -6,7 +6,7 @@ use mathlib.Core.List.{List, [], _∷_, _++_}
 use mathlib.Core.Option.{Option, none, some}
 use Prim.Native.Nat.{ℕ}
 use lib.ListN.{getD}
-use Rattle.paper.specs.Cache.{Numbers, Hashing, AddressRow, Box, Request, Stepped, Outcome, Word, hit, miss, blockOf, step}
+use Rattle.paper.specs.Cache.{Numbers, Hashing, Seat, AddressRow, Box, Request, Stepped, Outcome, Word, hit, miss, rowOf, seatIn, blockOf, step}
 use Rattle.paper.specs.Cache.{Call, read, through, back, invalidate, look, flush, rowWithBlock, answer, sameOrNew, onDisk, backRequest}
 use Rattle.paper.specs.Cache.{writeInvalidate, lookAs, flushed}
 use Rattle.paper.specs.Machines.{plainNext, plainBlock, writtenBy}
@@ -32,28 +32,30 @@ module _ {F X S : Type 0} (H : Hashing F X) (pol : Policy F X S) where
 
   -- "Read a: if a is held and its fingerprint cached, that block is the answer, a hit; g is the row's own fingerprint, nothing is hashed,
   -- and its dirty value stays. Otherwise a miss: the block is fetched from disk and the row is clean. The step runs in both"
-  -- `x` is the block that a miss takes.
+  -- `x` is the block that a miss takes. U7: "reads keep it, a read of an address not held sets 0"
   unfoldable pub readBy : S → Box F X → ℕ → X → Option (AddressRow F) → Served F X S
   readBy k s a x (some r) =
       let b = blockOf H (r .fingerprint) (s .used) (s .flash) in
-      answeredBy hit (some b) 0 (pol .run k s (record { address = a; fingerprint = r .fingerprint; block = b; dirty = r .dirty }))
-  readBy k s a x none = answeredBy miss (some x) 0 (pol .run k s (record { address = a; fingerprint = H .hash x; block = x; dirty = false }))
+      answeredBy hit (some b) 0 (pol .run k s (record { address = a; fingerprint = r .fingerprint; block = b; dirty = r .dirty; seat = r .seat }))
+  readBy k s a x none =
+      answeredBy miss (some x) 0
+      (pol .run k s (record { address = a; fingerprint = H .hash x; block = x; dirty = false; seat = seatIn (rowOf a (s .rows)) }))
 
   -- "Write through: the block goes to disk address a; the step runs, clean."
-  unfoldable pub throughBy : S → Box F X → ℕ → X → Served F X S
-  throughBy k s a b =
-      answeredBy (sameOrNew H s b) none 1 (pol .run k (onDisk H s a b) (record { address = a; fingerprint = H .hash b; block = b; dirty = false }))
+  unfoldable pub throughBy : S → Box F X → ℕ → X → Seat → Served F X S
+  throughBy k s a b z =
+      answeredBy (sameOrNew H s b) none 1 (pol .run k (onDisk H s a b) (record { address = a; fingerprint = H .hash b; block = b; dirty = false; seat = z }))
 
   -- "Write back: the step runs, dirty", but that "a write back to a held, clean address with the same fingerprint leaves the row clean"
-  unfoldable pub backBy : S → Box F X → ℕ → X → Served F X S
-  backBy k s a b = answeredBy (sameOrNew H s b) none 0 (pol .run k s (backRequest H s a b))
+  unfoldable pub backBy : S → Box F X → ℕ → X → Seat → Served F X S
+  backBy k s a b z = answeredBy (sameOrNew H s b) none 0 (pol .run k s (backRequest H s a b z))
 
   -- "All calls exist for it." Write invalidate, look and flush are those of the base; where a row is taken out, its address leaves the policy's state.
   unfoldable pub serveBy : S → Box F X → Call X → Served F X S
   serveBy k s (read a) = readBy k s a (getD (s .disk) a (H .blank)) (rowWithBlock H s a)
-  serveBy k s (through a b) = throughBy k s a b
-  serveBy k s (back a b) = backBy k s a b
-  serveBy k s (invalidate a b) = record { kept = pol .leave a k; outcome = writeInvalidate H s a b }
+  serveBy k s (through a b z) = throughBy k s a b z
+  serveBy k s (back a b z) = backBy k s a b z
+  serveBy k s (invalidate a b z) = record { kept = pol .leave a k; outcome = writeInvalidate H s a b }
   serveBy k s (look a) = record { kept = k; outcome = lookAs H s a (rowWithBlock H s a) }
   serveBy k s (flush n) = record { kept = k; outcome = flushed H n s }
 

@@ -6,7 +6,7 @@ use mathlib.Core.Option.{Option, none, some}
 use Prim.Native.Nat.{ℕ, zero, suc, _≤_, _<_}
 use lib.Dec.{eqb}
 use lib.ListN.{length, set, getD}
-use Rattle.paper.specs.Cache.{Numbers, Hashing, AddressRow, Box, Request, blockOf, partly, reach, cleanTo, rowOf, Call, read, through, back}
+use Rattle.paper.specs.Cache.{Numbers, Hashing, AddressRow, Box, Request, blockOf, partly, reach, cleanTo, rowOf, seatIn, Call, read, through, back}
 use Rattle.paper.specs.Cache.{invalidate, look, flush, Within, onDisk, rowWithBlock, answer, backRequest, writeInvalidate, lookAs, flushed, serve, fresh}
 use Rattle.paper.specs.KeyedLaws.{eqb→≡, eqb-swap, All, all-left, all-right, all-map, find-some}
 use Rattle.paper.specs.Machines.{plainNext, plainBlock, writtenBy, TrueFingerprints, NoTwoShare}
@@ -24,7 +24,7 @@ pub record True {F X : Type 0} (H : Hashing F X) (In : X → Type 0) (plain : Li
   pub plainly : q .block ≡ at H plain (q .address)
   pub clean : q .dirty ≡ false → at H (s .disk) (q .address) ≡ at H plain (q .address)
 
--- rows that differ at most in what is dirty
+-- rows that differ at most in what is dirty and in their seats
 abbrev pub Alike : {F : Type 0} → List (AddressRow F) → List (AddressRow F) → Type 0
 Alike [] [] = Unit {0}
 Alike [] (y ∷ ys) = ⊥
@@ -44,7 +44,7 @@ alike-partly H (suc i) (x ∷ xs) = (refl, refl, alike-partly H i xs)
 pub record Promise {F X S : Type 0} (H : Hashing F X) (N : Numbers) (pol : Policy F X S) (Inv : S → Box F X → Type 0) : Type 1 where
   -- 1. The invariant says no less than the structure that every box has.
   pub sound : (k : S) (s : Box F X) → Inv k s → Sound H N s
-  -- 2. It doesn't depend on the blocks of flash and disk, nor on which rows are dirty. (A write through's block, flush, a partial flush.)
+  -- 2. It doesn't depend on the blocks of flash and disk, nor on which rows are dirty, nor on seats. (A write through's block, flush, a partial flush.)
   pub shape : (k : S) (s s′ : Box F X) → Alike (s .rows) (s′ .rows) → s′ .free ≡ s .free → s′ .used ≡ s .used → Sound H N s′
       → Inv k s → Inv k s′
   -- 3. It outlasts a row that a write invalidate takes out, its address leaving the policy's state,
@@ -68,8 +68,10 @@ module _ {F X S : Type 0} (H : Hashing F X) (N : Numbers) (pol : Policy F X S) (
       → Inv ((readBy H pol k s a x o) .kept) ((readBy H pol k s a x o) .outcome .box)
   unfolding readBy answeredBy answer
   inv-read k s a x (some r) i w =
-      pr .steps k s (record { address = a; fingerprint = r .fingerprint; block = blockOf H (r .fingerprint) (s .used) (s .flash); dirty = r .dirty }) i w
-  inv-read k s a x none i w = pr .steps k s (record { address = a; fingerprint = H .hash x; block = x; dirty = false }) i w
+      let b = blockOf H (r .fingerprint) (s .used) (s .flash) in
+      pr .steps k s (record { address = a; fingerprint = r .fingerprint; block = b; dirty = r .dirty; seat = r .seat }) i w
+  inv-read k s a x none i w =
+      pr .steps k s (record { address = a; fingerprint = H .hash x; block = x; dirty = false; seat = seatIn (rowOf a (s .rows)) }) i w
 
   inv-look : (k : S) (s : Box F X) (a : ℕ) (o : Option (AddressRow F)) → Inv k s → Inv k ((lookAs H s a o) .box)
   unfolding lookAs
@@ -80,10 +82,10 @@ module _ {F X S : Type 0} (H : Hashing F X) (N : Numbers) (pol : Policy F X S) (
   pub inv-serve : (k : S) (s : Box F X) (c : Call X) → Inv k s → Within (N .P) c → Inv ((serveBy H pol k s c) .kept) ((serveBy H pol k s c) .outcome .box)
   unfolding serveBy throughBy backBy answeredBy answer flushed
   inv-serve k s (read a) i w = inv-read k s a (getD (s .disk) a (H .blank)) (rowWithBlock H s a) i w
-  inv-serve k s (through a b) i w =
-      pr .steps k (onDisk H s a b) (record { address = a; fingerprint = H .hash b; block = b; dirty = false }) (inv-onDisk k s a b i) w
-  inv-serve k s (back a b) i w = pr .steps k s (backRequest H s a b) i w
-  inv-serve k s (invalidate a b) i w = pr .invalidates k s a b i w
+  inv-serve k s (through a b z) i w =
+      pr .steps k (onDisk H s a b) (record { address = a; fingerprint = H .hash b; block = b; dirty = false; seat = z }) (inv-onDisk k s a b i) w
+  inv-serve k s (back a b z) i w = pr .steps k s (backRequest H s a b z) i w
+  inv-serve k s (invalidate a b z) i w = pr .invalidates k s a b i w
   inv-serve k s (look a) i w = inv-look k s a (rowWithBlock H s a) i
   inv-serve k s (flush n) i w = inv-cleanTo k s (reach H n (s .rows)) i
 
@@ -110,7 +112,8 @@ module _ {F X S : Type 0} (H : Hashing F X) (N : Numbers) (pol : Policy F X S) (
       let c = ifCached-some H (s .used) (rowOf a (s .rows)) r e in
       let y = find-some eqb (λ r. r .address) (RowTrue H In plain) a (s .rows) r (c .0) (f .rowsTrue) in
       let pin : In (at H plain a) = all-at In plain a (H .blank) (f .plainIn) (subst (λ n. a < n) (sym (f .plainLength)) w) in (
-        pr .faithful In only plain k s (record { address = a; fingerprint = r .fingerprint; block = b; dirty = r .dirty }) i (but H In a (N .P) plain s f) w
+        pr .faithful In only plain k s (record { address = a; fingerprint = r .fingerprint; block = b; dirty = r .dirty; seat = r .seat }) i
+            (but H In a (N .P) plain s f) w
             (record {
               print = y .0 ∙ ap (H .hash) (ap (at H plain) (sym (eqb→≡ a (r .address) (y .1))) ∙ sym be);
               inSet = subst In (sym be) pin;
@@ -123,7 +126,8 @@ module _ {F X S : Type 0} (H : Hashing F X) (N : Numbers) (pol : Policy F X S) (
       let b = at H (s .disk) a in
       let be : b ≡ at H plain a = f .current a (miss-clean H N s a (pr .sound k s i) e) in
       let pin : In (at H plain a) = all-at In plain a (H .blank) (f .plainIn) (subst (λ n. a < n) (sym (f .plainLength)) w) in (
-        pr .faithful In only plain k s (record { address = a; fingerprint = H .hash b; block = b; dirty = false }) i (but H In a (N .P) plain s f) w
+        pr .faithful In only plain k s (record { address = a; fingerprint = H .hash b; block = b; dirty = false; seat = seatIn (rowOf a (s .rows)) }) i
+            (but H In a (N .P) plain s f) w
             (record { print = refl; inSet = subst In (sym be) pin; plainly = be; clean = λ z. be }),
         ap {B = Option X} some be,
       )
@@ -133,19 +137,19 @@ module _ {F X S : Type 0} (H : Hashing F X) (N : Numbers) (pol : Policy F X S) (
       → Faithful H In (N .P) (plainNext plain c) ((serveBy H pol k s c) .outcome .box) × ((serveBy H pol k s c) .outcome .block ≡ plainBlock (H .blank) plain c)
   unfolding serveBy serve throughBy backBy answeredBy answer
   faithful-serves plain k s (read a) i f w j = faithful-read plain k s a (rowWithBlock H s a) refl i f w
-  faithful-serves plain k s (through a b) i f w j =
+  faithful-serves plain k s (through a b x) i f w j =
       let h = pr .sound k s i in
       let dl = subst (λ n. a < n) (sym (h .diskLength)) w in
       let pl = subst (λ n. a < n) (sym (f .plainLength)) w in
       let bs = but-set H In a (N .P) b plain s f (j .0) in (
-        pr .faithful In only (set plain a b) k (onDisk H s a b) (record { address = a; fingerprint = H .hash b; block = b; dirty = false })
+        pr .faithful In only (set plain a b) k (onDisk H s a b) (record { address = a; fingerprint = H .hash b; block = b; dirty = false; seat = x })
             (inv-onDisk H N pol Inv pr k s a b i)
             (record {
               rowsTrue = bs .rowsTrue;
               blocksTrue = bs .blocksTrue;
               plainIn = bs .plainIn;
               plainLength = bs .plainLength;
-              current = λ x n dy. at-set-other H (s .disk) a x b (eqb-swap a x n) ∙ bs .current x n dy;
+              current = λ y n dy. at-set-other H (s .disk) a y b (eqb-swap a y n) ∙ bs .current y n dy;
             })
             w
             (record {
@@ -156,9 +160,9 @@ module _ {F X S : Type 0} (H : Hashing F X) (N : Numbers) (pol : Policy F X S) (
             }),
         refl,
       )
-  faithful-serves plain k s (back a b) i f w j =
+  faithful-serves plain k s (back a b x) i f w j =
       let pl = subst (λ n. a < n) (sym (f .plainLength)) w in (
-        pr .faithful In only (set plain a b) k s (backRequest H s a b) i (but-set H In a (N .P) b plain s f (j .0)) w
+        pr .faithful In only (set plain a b) k s (backRequest H s a b x) i (but-set H In a (N .P) b plain s f (j .0)) w
             (record {
               print = refl;
               inSet = j .0;
@@ -167,7 +171,7 @@ module _ {F X S : Type 0} (H : Hashing F X) (N : Numbers) (pol : Policy F X S) (
             }),
         refl,
       )
-  faithful-serves plain k s (invalidate a b) i f w j = faithful-serve H In only N plain s (invalidate a b) (pr .sound k s i) f m1 d1 w j
+  faithful-serves plain k s (invalidate a b x) i f w j = faithful-serve H In only N plain s (invalidate a b x) (pr .sound k s i) f m1 d1 w j
   faithful-serves plain k s (look a) i f w j = faithful-serve H In only N plain s (look a) (pr .sound k s i) f m1 d1 w j
   faithful-serves plain k s (flush n) i f w j = faithful-serve H In only N plain s (flush n) (pr .sound k s i) f m1 d1 w j
 
@@ -266,7 +270,7 @@ lru-promises H N m1 d1 =
     record {
       sound = λ k s h. h;
       shape = λ k s s′ al fr us h′ h. h′;
-      invalidates = λ k s a b h w. sound-serve H N s (invalidate a b) h m1 d1 w;
+      invalidates = λ k s a b h w. sound-serve H N s (invalidate a b (0, 0)) h m1 d1 w;
       steps = λ k s q h w. sound-step H N s q h m1 d1 w;
       faithful = λ In only plain k s q h f w t. faithful-step H In only N plain s q h f m1 d1 w (t .print) (t .inSet) (t .plainly) (t .clean);
     }

@@ -21,7 +21,7 @@ pub(crate) fn address_ok(t: &[u8], k: usize, p: u32) -> bool
 {
     let a = row::address_at(t, k);
     if a.0 < p {
-        return row::tail_ok(t, k);
+        return row::seated_tail_ok(t, k);
     }
     false
 }

@@ -39,13 +39,13 @@ abbrev asked : (B P label disk k room : ℕ) → Asked
 asked B P label disk k room = record { B = B; P = P; label = label; disk = disk; k = k; room = room }
 
 -- its number, of a box that holds three addresses and two blocks
-abbrev numberOf : Asked → ℕ
-numberOf q =
+abbrev gets : Asked → ℕ
+gets q =
     questionRefusal (record { B = q .B; P = q .P; m = 3; d = 2; label = replicate (q .label) 0 }) (replicate (q .disk) 0) (q .k) (q .room)
 
 -- "It refuses with 17 if P is above 4, B isn't 64 or k is above 8, checked after 2."
 pub of-refusals :
-    map numberOf
+    map gets
     (asked 64 4 64 256 8 72
     ∷ asked 64 5 64 320 8 72
     ∷ asked 128 4 64 512 8 72

@@ -12,7 +12,8 @@ use Rattle.paper.specs.Cache.{Numbers, Counters}
 use Rattle.paper.specs.Lent.{Lent, Ask, After, opening, calling, refusal, served, call, opened, withLabel}
 use Rattle.paper.specs.RefusalLaws.{served-is, keeps, label-carried}
 use Rattle.paper.specs.Demand3.{next, Demand3}
-use Rattle.paper.specs.BatchLent.{Asking, one, many, BatchAfter, callBatch}
+use Rattle.paper.specs.BatchLent.{Asking, one, many, report, BatchAfter, callBatch}
+use Rattle.paper.specs.Reports.{Reader, reportRefusal, reported}
 use Rattle.paper.specs.Demand3Laws.{demand-3, Written, opened-written, next-written, look-stays}
 use Rattle.parts.specs.declared.BoxRecord.{BoxRecord}
 use Rattle.parts.specs.Rep.{numbersOf}
@@ -65,9 +66,9 @@ Looks y c =
 abbrev pub Meets : Kept → Single → Ask → Type 0
 Meets y c (Ask.look a) = Looks y c
 Meets y c (Ask.read a l) = Calls y c
-Meets y c (Ask.through a l) = Calls y c
-Meets y c (Ask.back a l) = Calls y c
-Meets y c (Ask.invalidate a l) = Calls y c
+Meets y c (Ask.through a l z) = Calls y c
+Meets y c (Ask.back a l z) = Calls y c
+Meets y c (Ask.invalidate a l z) = Calls y c
 Meets y c (Ask.flush k) = Calls y c
 
 -- a folder read that was made: the addresses asked for, the buffer lent to it, what it answered, and what it left of what passes on and of the buffer
@@ -88,22 +89,41 @@ ReadsMany y c =
     (c .left .disk) (c .left .flash) (c .left .addresses) (c .left .blocks) (c .buffer)
     ≡ calledMany (y .box) (lentIn y) (c .asked) (c .lentBuffer)
 
--- a call of either kind: what it is in the paper's list, what it left, and its contract
+-- a report that was made: whose it is, the bytes lent to it, the number it returned, those bytes afterwards, and what passes on
+pub record Report : Type 0 where
+  pub reader : Reader
+  pub lentBytes : List ℕ
+  pub number : ℕ
+  pub bytes : List ℕ
+  pub left : Kept
+
+-- the contract of `report`, which is lent nothing else to write
+abbrev pub Reports : Kept → Report → Type 0
+Reports y c =
+    (c .number ≡ reportRefusal (numbersOf (y .box)) (lentIn y) (c .reader) (c .lentBytes))
+    × (c .bytes ≡ reported (numbersOf (y .box)) (lentIn y) (c .reader) (c .lentBytes))
+    × (c .left ≡ y)
+
+-- a call of any kind: what it is in the paper's list, what it left, and its contract
 pub data Made : Type 0 where
   single : Single → Made
   folder : Folder → Made
+  reporting : Report → Made
 
 abbrev pub askedBy : Made → Asking
 askedBy (single c) = one (c .ask)
 askedBy (folder c) = many (c .asked) (c .lentBuffer)
+askedBy (reporting c) = report (c .reader) (c .lentBytes)
 
 abbrev pub leftBy : Made → Kept
 leftBy (single c) = c .left
 leftBy (folder c) = c .left
+leftBy (reporting c) = c .left
 
 abbrev pub MeetsIts : Kept → Made → Type 0
 MeetsIts y (single c) = Meets y c (c .ask)
 MeetsIts y (folder c) = ReadsMany y c
+MeetsIts y (reporting c) = Reports y c
 
 -- calls one after the other, each on what the last one left
 unfoldable pub InTurn : Kept → List Made → Type 0
@@ -114,6 +134,8 @@ InTurn y (c ∷ cs) = MeetsIts y c × InTurn (leftBy c) cs
 abbrev pub AsPaper : Numbers → Lent → Made → Type 0
 AsPaper N t (single c) = afterOf c ≡ call N t (c .ask)
 AsPaper N t (folder c) = batchOf c ≡ callBatch N t (c .asked) (c .lentBuffer)
+AsPaper N t (reporting c) =
+    (c .number ≡ reportRefusal N t (c .reader) (c .lentBytes)) × (c .bytes ≡ reported N t (c .reader) (c .lentBytes)) × (lentIn (c .left) ≡ t)
 
 -- each does, on what the paper's last call left
 unfoldable pub Follows : Numbers → Lent → List Made → Type 0
@@ -160,9 +182,9 @@ module _ (N : Numbers) where
       → (numbersOf (c .left .box) ≡ N) × (afterOf c ≡ call N t (c .ask))
   meets-is y t c (Ask.look a) i w e m = looked-is y t c a i w e m
   meets-is y t c (Ask.read a l) i w e m = called-is y t c i m
-  meets-is y t c (Ask.through a l) i w e m = called-is y t c i m
-  meets-is y t c (Ask.back a l) i w e m = called-is y t c i m
-  meets-is y t c (Ask.invalidate a l) i w e m = called-is y t c i m
+  meets-is y t c (Ask.through a l z) i w e m = called-is y t c i m
+  meets-is y t c (Ask.back a l z) i w e m = called-is y t c i m
+  meets-is y t c (Ask.invalidate a l z) i w e m = called-is y t c i m
   meets-is y t c (Ask.flush k) i w e m = called-is y t c i m
 
   folder-is : (y : Kept) (t : Lent) (c : Folder) → Is y t → ReadsMany y c
@@ -172,13 +194,21 @@ module _ (N : Numbers) where
     subst₂ (λ (M : Numbers) (x : Lent). batchOf c ≡ callBatch M x (c .asked) (c .lentBuffer)) (i .numbers) (i .lent) (ap (λ (x : ToldMany). x .after) m),
   )
 
+  report-is : (y : Kept) (t : Lent) (c : Report) → Is y t → Reports y c → (numbersOf (c .left .box) ≡ N) × AsPaper N t (reporting c)
+  report-is y t c i m =
+      let number = subst₂ (λ (M : Numbers) (x : Lent). c .number ≡ reportRefusal M x (c .reader) (c .lentBytes)) (i .numbers) (i .lent) (m .0) in
+      let bytes = subst₂ (λ (M : Numbers) (x : Lent). c .bytes ≡ reported M x (c .reader) (c .lentBytes)) (i .numbers) (i .lent) (m .1) in
+      (ap (λ (x : Kept). numbersOf (x .box)) (m .2) ∙ i .numbers, (number, bytes, ap lentIn (m .2) ∙ i .lent))
+
   made-is : (y : Kept) (t : Lent) (c : Made) → Is y t → Written N t → MeetsIts y c → (numbersOf (leftBy c .box) ≡ N) × AsPaper N t c
   made-is y t (single c) i w m = meets-is y t c (c .ask) i w refl m
   made-is y t (folder c) i w m = folder-is y t c i m
+  made-is y t (reporting c) i w m = report-is y t c i m
 
   left-lent : (t : Lent) (c : Made) → AsPaper N t c → lentIn (leftBy c) ≡ next N t (askedBy c)
   left-lent t (single c) e = ap (λ (x : After). x .lent) e
   left-lent t (folder c) e = ap (λ (x : BatchAfter). x .lent) e
+  left-lent t (reporting c) e = e .2
 
   follows : (y : Kept) (t : Lent) (cs : List Made) → Is y t → Written N t → InTurn y cs → Follows N t cs
   unfolding InTurn Follows

@@ -9,8 +9,9 @@ use lib.Dec.{eqb}
 use lib.ListN.{set}
 use borrow.Author.Tests.{eqb-true, eqb-false}
 use Rattle.paper.specs.KeyedLaws.{All, by-test, either, clash, and-right, or-false-left, or-false-right, all-append, has-without-self}
+use Rattle.tables.specs.Records.{bytes2}
 use Rattle.paper.specs.Cache.{backRequest, Numbers, Hashing, AddressRow, BlockRow, Box, RowOut, BlockRows, Call}
-use Rattle.paper.specs.Cache.{newest, held, cached, blockOf, copied, isLost}
+use Rattle.paper.specs.Cache.{Seat, newest, held, cached, blockOf, copied, isLost}
 use Rattle.paper.specs.Cache.{stored, step3, step4, step, answer, writeBack, serve}
 use Rattle.paper.specs.Cases.{ownOut, eldestOut, noneOut, by-step1, by-step4}
 use Rattle.paper.specs.Sound.{chosen-slot}
@@ -42,39 +43,39 @@ module _ {F X : Type 0} (H : Hashing F X) (a : ℕ) where
       (inl (or-false-left (eqb a (r .address)) (held a rs) h), others-spare c rs (or-false-right (eqb a (r .address)) (held a rs) h))
 
   -- the row of a, newest, and the others
-  all-spare : (c : F → Bool) (rows : List (AddressRow F)) (g : F) (w : Bool) → held a rows ≡ false → c g ≡ false → All (Spares c) (rows ++ (newest a g w ∷ []))
-  all-spare c rows g w h n = all-append (Spares c) rows (newest a g w ∷ []) (others-spare c rows h) (inr n, tt)
+  all-spare : (c : F → Bool) (rows : List (AddressRow F)) (g : F) (w : Bool) (z : Seat) → held a rows ≡ false → c g ≡ false → All (Spares c) (rows ++ (newest a g w z ∷ []))
+  all-spare c rows g w z h n = all-append (Spares c) rows (newest a g w z ∷ []) (others-spare c rows h) (inr n, tt)
 
   -- step 4 takes a row of another fingerprint than g
-  step4-spares : (rows : List (AddressRow F)) (t : BlockRows F) (flash disk : List X) (g : F) (b : X) (w : Bool) (k : ℕ) → held a rows ≡ false
-      → at H ((step4 H (rows ++ (newest a g w ∷ [])) t flash disk g b k) .box .disk) a ≡ at H disk a
+  step4-spares : (rows : List (AddressRow F)) (t : BlockRows F) (flash disk : List X) (g : F) (b : X) (w : Bool) (z : Seat) (k : ℕ) → held a rows ≡ false
+      → at H ((step4 H (rows ++ (newest a g w z ∷ [])) t flash disk g b k) .box .disk) a ≡ at H disk a
   unfolding stored
-  step4-spares rows t flash disk g b w k h =
-      let all = rows ++ (newest a g w ∷ []) in
+  step4-spares rows t flash disk g b w z k h =
+      let all = rows ++ (newest a g w z ∷ []) in
       by-step4 H all (t .free) (t .used) flash disk g b k (λ x. at H (x .box .disk) a ≡ at H disk a)
       (λ y. refl)
-      (λ y i is e. copied-spares (isLost H none) all (t .used) flash disk (all-spare (isLost H none) rows g w h refl))
+      (λ y i is e. copied-spares (isLost H none) all (t .used) flash disk (all-spare (isLost H none) rows g w z h refl))
       (λ y e u ch. copied-spares (isLost H (some (u .fingerprint))) all (t .used) flash disk
-      (all-spare (isLost H (some (u .fingerprint))) rows g w h
+      (all-spare (isLost H (some (u .fingerprint))) rows g w z h
       (by-test (H .same (u .fingerprint) g)
       (λ s. clash (subst (λ f. cached H f (t .used) ≡ true) (H .same→≡ (u .fingerprint) g s) ((chosen-slot H all (t .used) u ch) .1)) y)
       (λ s. s))))
-      (λ e f. copied-spares (isLost H none) all (t .used) flash disk (all-spare (isLost H none) rows g w h refl))
+      (λ e f. copied-spares (isLost H none) all (t .used) flash disk (all-spare (isLost H none) rows g w z h refl))
 
   -- so the whole step writes no disk block at its own address
-  pub step-keeps-a : (m : ℕ) (s : Box F X) (g : F) (b : X) (w : Bool)
-      → at H ((step H m s (record { address = a; fingerprint = g; block = b; dirty = w })) .box .disk) a ≡ at H (s .disk) a
+  pub step-keeps-a : (m : ℕ) (s : Box F X) (g : F) (b : X) (w : Bool) (z : Seat)
+      → at H ((step H m s (record { address = a; fingerprint = g; block = b; dirty = w; seat = z })) .box .disk) a ≡ at H (s .disk) a
   unfolding step
-  step-keeps-a m s g b w =
+  step-keeps-a m s g b w z =
       let after : (o : RowOut F X) → held a (o .rows) ≡ false → at H (o .disk) a ≡ at H (s .disk) a
-      → at H ((step4 H (o .rows ++ (newest a g w ∷ []))
-      (step3 H (o .gone) (o .rows) (o .rows ++ (newest a g w ∷ [])) (record { free = s .free; used = s .used }))
+      → at H ((step4 H (o .rows ++ (newest a g w z ∷ []))
+      (step3 H (o .gone) (o .rows) (o .rows ++ (newest a g w z ∷ [])) (record { free = s .free; used = s .used }))
       (s .flash) (o .disk) g b (o .primary)) .box .disk) a ≡ at H (s .disk) a
-      = λ o h e. step4-spares (o .rows) (step3 H (o .gone) (o .rows) (o .rows ++ (newest a g w ∷ [])) (record { free = s .free; used = s .used }))
-      (s .flash) (o .disk) g b w (o .primary) h ∙ e in
+      = λ o h e. step4-spares (o .rows) (step3 H (o .gone) (o .rows) (o .rows ++ (newest a g w z ∷ [])) (record { free = s .free; used = s .used }))
+      (s .flash) (o .disk) g b w z (o .primary) h ∙ e in
       by-step1 H m s a
-      (λ o. at H ((step4 H (o .rows ++ (newest a g w ∷ []))
-      (step3 H (o .gone) (o .rows) (o .rows ++ (newest a g w ∷ [])) (record { free = s .free; used = s .used }))
+      (λ o. at H ((step4 H (o .rows ++ (newest a g w z ∷ []))
+      (step3 H (o .gone) (o .rows) (o .rows ++ (newest a g w z ∷ [])) (record { free = s .free; used = s .used }))
       (s .flash) (o .disk) g b (o .primary)) .box .disk) a ≡ at H (s .disk) a)
       (λ h. after (ownOut H s a) (has-without-self eqb (λ r. r .address) a (s .rows)) refl)
       (λ h r rs e f. let n : held a (r ∷ rs) ≡ false = subst (λ l. held a l ≡ false) e h in
@@ -82,17 +83,17 @@ module _ {F X : Type 0} (H : Hashing F X) (a : ℕ) where
       (copied-spares (λ f. true) (r ∷ []) (s .used) (s .flash) (s .disk) (inl (or-false-left (eqb a (r .address)) (held a rs) n), tt)))
       (λ h e. after (noneOut H s) h refl)
 
-  pub back-keeps-a : (N : Numbers) (s : Box F X) (b : X) → at H ((serve H N s (Call.back a b)) .box .disk) a ≡ at H (s .disk) a
+  pub back-keeps-a : (N : Numbers) (s : Box F X) (b : X) (z : Seat) → at H ((serve H N s (Call.back a b z)) .box .disk) a ≡ at H (s .disk) a
   unfolding serve writeBack answer
-  back-keeps-a N s b = step-keeps-a (N .m) s (H .hash b) b (backRequest H s a b .dirty)
+  back-keeps-a N s b z = step-keeps-a (N .m) s (H .hash b) b (backRequest H s a b z .dirty) z
 
 -- the same of lent memory, served or refused
-pub back-keeps-lent : (N : Numbers) (t : Lent) (a : ℕ) (l : List ℕ)
-    → at (labelled N) ((boxIn N ((call N t (Ask.back a l)) .lent)) .disk) a ≡ at (labelled N) ((boxIn N t) .disk) a
+pub back-keeps-lent : (N : Numbers) (t : Lent) (a : ℕ) (l : List ℕ) (z : ℕ)
+    → at (labelled N) ((boxIn N ((call N t (Ask.back a l z)) .lent)) .disk) a ≡ at (labelled N) ((boxIn N t) .disk) a
 unfolding callOf
-back-keeps-lent N t a l =
-    let q = Ask.back a l in
+back-keeps-lent N t a l z =
+    let q = Ask.back a l z in
     by-test (eqb (refusal N t (calling q)) 0)
     (λ y. ap (λ (s : Box (Fixed 32) (Fixed (N .B))). at (labelled N) (s .disk) a) (served-box N t q (eqb-true (refusal N t (calling q)) 0 y))
-    ∙ back-keeps-a (labelled N) a N (boxIn N t) (fit (N .B) l))
+    ∙ back-keeps-a (labelled N) a N (boxIn N t) (fit (N .B) l) (bytes2 z))
     (λ y. ap (λ x. at (labelled N) ((boxIn N x) .disk) a) (keeps N t q (eqb-false (refusal N t (calling q)) 0 y) .lent))

@@ -8,6 +8,7 @@ use lib.ListN.{length}
 use Rattle.paper.specs.Cache.{Numbers}
 use Rattle.paper.specs.Engine.{Fixed, labelled}
 use Rattle.paper.specs.Lent.{Lent, Ask, Test, test, first, tableTests, unfit, wrongBuffers, otherLength, over, boxIn, lentOf, join, served}
+use Rattle.paper.specs.Reports.{Reader}
 use Rattle.paper.specs.Batch as Paper
 use Rattle.paper.specs.Batch.{Batched, start, blocksIn}
 
@@ -67,7 +68,8 @@ unfoldable pub servedInTurn : Numbers → Lent → List ℕ → Lent
 servedInTurn N t [] = t
 servedInTurn N t (a ∷ l) = servedInTurn N ((served N t (Ask.read a [])) .lent) l
 
--- A call of a list: one of document 01's, or a folder read with its addresses and the buffer lent to it
+-- A call of a list: one of document 01's, a folder read with its addresses and the buffer lent to it, or a report with the bytes lent to it
 pub data Asking : Type 0 where
   one : Ask → Asking
   many : (asked buffer : List ℕ) → Asking
+  report : Reader → (lent : List ℕ) → Asking

@@ -47,11 +47,11 @@ tiny = numbers 64 2 1 1
 
 -- address 0 was written back with 7
 abbrev written : Box ℕ ℕ
-written = (serve labels tiny (fresh 1 (0 ∷ []) (0 ∷ 1 ∷ [])) (back 0 7)) .box
+written = (serve labels tiny (fresh 1 (0 ∷ []) (0 ∷ 1 ∷ [])) (back 0 7 (0, 0))) .box
 
 -- a lent box that no list reaches under the premise: the row of 0 has the fingerprint 5, the block in its slot is 9, and the disk's block is 3
 abbrev strange : Box ℕ ℕ
-strange = record { rows = newest 0 5 false ∷ []; free = []; used = Cache.blockRow 5 0 ∷ []; flash = 9 ∷ []; disk = 3 ∷ 1 ∷ [] }
+strange = record { rows = newest 0 5 false (0, 0) ∷ []; free = []; used = Cache.blockRow 5 0 ∷ []; flash = 9 ∷ []; disk = 3 ∷ 1 ∷ [] }
 
 -- A folder read of a box, and what is shown of it
 pub record Folder : Type 0 where
@@ -67,7 +67,7 @@ folders =
       asked = 1 ∷ 0 ∷ [];
       after = record {
         blocks = 1 ∷ 7 ∷ [];
-        rows = newest 0 7 false ∷ [];
+        rows = newest 0 7 false (0, 0) ∷ [];
         disk = 7 ∷ 1 ∷ [];
         counters = counters 2 0 2 1;
         misses = 2;
@@ -80,7 +80,7 @@ folders =
       asked = 0 ∷ 0 ∷ 1 ∷ 0 ∷ 1 ∷ [];
       after = record {
         blocks = 7 ∷ 7 ∷ 1 ∷ 7 ∷ 1 ∷ [];
-        rows = newest 1 1 false ∷ [];
+        rows = newest 1 1 false (0, 0) ∷ [];
         disk = 7 ∷ 1 ∷ [];
         counters = counters 5 2 3 1;
         misses = 3;
@@ -93,7 +93,7 @@ folders =
       asked = 0 ∷ 1 ∷ 0 ∷ [];
       after = record {
         blocks = 9 ∷ 1 ∷ 9 ∷ [];
-        rows = newest 0 9 false ∷ [];
+        rows = newest 0 9 false (0, 0) ∷ [];
         disk = 3 ∷ 1 ∷ [];
         counters = counters 3 1 2 0;
         misses = 2;
@@ -111,7 +111,7 @@ worked-folders = refl
 pub strange-in-turn : shown (inTurn labels tiny (start strange noCounts) (0 ∷ 1 ∷ 0 ∷ []))
     ≡ record {
       blocks = 9 ∷ 1 ∷ 3 ∷ [];
-      rows = newest 0 3 false ∷ [];
+      rows = newest 0 3 false (0, 0) ∷ [];
       disk = 3 ∷ 1 ∷ [];
       counters = counters 3 1 2 0;
       misses = 2;
@@ -136,7 +136,7 @@ asks l n t k = record { numbers = small; lent = t; asked = l; length = n; number
 
 -- address 1 is without its block; a byte of padding is 1; a counter is too large
 abbrev uncached : List ℕ
-uncached = addressTable 2 (addressRow 1 two 1 ∷ [])
+uncached = addressTable 2 (addressRow 1 two 1 (0, 0) ∷ [])
 
 abbrev damaged : List ℕ → List ℕ
 damaged t = set t (paddingByte 0 2) 1

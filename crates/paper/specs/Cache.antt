@@ -8,6 +8,7 @@ use Prim.Native.Nat.{ℕ, zero, suc, _+_, _<_}
 use lib.Dec.{eqb}
 use lib.ListN.{length, getD, set, take, drop}
 use Rattle.tables.specs.Records.{slotsFrom}
+pub use Rattle.tables.specs.Records.{Seat}
 use Rattle.paper.specs.Keyed.{has, without, find}
 
 -- "B is the block size in bytes .. P is the number of disk blocks .. m is the most addresses held .. d is the number of cached blocks"
@@ -32,6 +33,8 @@ pub record AddressRow (F : Type 0) : Type 0 where
   pub address : ℕ
   pub fingerprint : F
   pub dirty : Bool
+  -- U7: "which seat last wrote each held address"
+  pub seat : Seat
 
 -- A used row of "fingerprint (32), slot (4, little-endian), used byte (1 or 0)". A free one is its slot.
 pub record BlockRow (F : Type 0) : Type 0 where
@@ -49,12 +52,13 @@ pub record Box (F X : Type 0) : Type 0 where
   pub flash : List X
   pub disk : List X
 
--- "A request is address a, fingerprint g, block b and a dirty value."
+-- "A request is address a, fingerprint g, block b and a dirty value.", and U7's seat
 pub record Request (F X : Type 0) : Type 0 where
   pub address : ℕ
   pub fingerprint : F
   pub block : X
   pub dirty : Bool
+  pub seat : Seat
 
 -- What steps 1, 3 and 4 leave
 pub record RowOut (F X : Type 0) : Type 0 where
@@ -78,8 +82,8 @@ pub record Stepped (F X : Type 0) : Type 0 where
   pub flashWrites : ℕ
   pub primaryWrites : ℕ
 
-abbrev pub newest : {F : Type 0} → ℕ → F → Bool → AddressRow F
-newest a g w = record { address = a; fingerprint = g; dirty = w }
+abbrev pub newest : {F : Type 0} → ℕ → F → Bool → Seat → AddressRow F
+newest a g w z = record { address = a; fingerprint = g; dirty = w; seat = z }
 
 abbrev pub blockRow : {F : Type 0} → F → ℕ → BlockRow F
 blockRow g k = record { fingerprint = g; slot = k }
@@ -91,6 +95,11 @@ module _ {F : Type 0} where
 
   abbrev pub rowOf : ℕ → List (AddressRow F) → Option (AddressRow F)
   rowOf a rows = find eqb (λ r. r .address) a rows
+
+  -- U7: "reads keep it, a read of an address not held sets 0"
+  abbrev pub seatIn : Option (AddressRow F) → Seat
+  seatIn none = (0, 0)
+  seatIn (some r) = r .seat
 
   abbrev pub withoutAddress : ℕ → List (AddressRow F) → List (AddressRow F)
   withoutAddress a rows = without eqb (λ r. r .address) a rows
@@ -128,7 +137,7 @@ module _ {F X : Type 0} (H : Hashing F X) where
 
   abbrev pub cleaned : (F → Bool) → List (AddressRow F) → List (AddressRow F)
   cleaned chosen [] = []
-  cleaned chosen (r ∷ rs) = record { address = r .address; fingerprint = r .fingerprint; dirty = r .dirty && not (chosen (r .fingerprint)) } ∷ cleaned chosen rs
+  cleaned chosen (r ∷ rs) = newest (r .address) (r .fingerprint) (r .dirty && not (chosen (r .fingerprint))) (r .seat) ∷ cleaned chosen rs
 
   -- "the dirty rows before": how many these are
   abbrev pub dirtyRows : List (AddressRow F) → ℕ
@@ -242,16 +251,16 @@ module _ {F X : Type 0} (H : Hashing F X) where
   unfoldable pub step : ℕ → Box F X → Request F X → Stepped F X
   step m s q =
       let out = step1 m s (q .address) in
-      let rows = out .rows ++ (newest (q .address) (q .fingerprint) (q .dirty) ∷ []) in
+      let rows = out .rows ++ (newest (q .address) (q .fingerprint) (q .dirty) (q .seat) ∷ []) in
       let blocks = step3 (out .gone) (out .rows) rows (record { free = s .free; used = s .used }) in
       step4 rows blocks (s .flash) (out .disk) (q .fingerprint) (q .block) (out .primary)
 
--- The calls, each with its address and the block lent to it
+-- The calls, each with its address and the block lent to it; U7: "writes carry" a seat number
 pub data Call (X : Type 0) : Type 0 where
   read : ℕ → Call X
-  through : ℕ → X → Call X
-  back : ℕ → X → Call X
-  invalidate : ℕ → X → Call X
+  through : ℕ → X → Seat → Call X
+  back : ℕ → X → Seat → Call X
+  invalidate : ℕ → X → Seat → Call X
   look : ℕ → Call X
   -- of at most so many dirty rows; "The full flush becomes that call with k = m."
   flush : ℕ → Call X
@@ -267,9 +276,9 @@ pub record About (X : Type 0) : Type 0 where
 -- "A read or look answers block a. Each write replaces block a by the block lent to it."; look "counts nothing"; a flush has no address
 abbrev pub about : {X : Type 0} → Call X → About X
 about (read a) = record { address = some a; written = none; reads = true; returns = true; counts = true }
-about (through a b) = record { address = some a; written = some b; reads = false; returns = false; counts = true }
-about (back a b) = record { address = some a; written = some b; reads = false; returns = false; counts = true }
-about (invalidate a b) = record { address = some a; written = some b; reads = false; returns = false; counts = true }
+about (through a b z) = record { address = some a; written = some b; reads = false; returns = false; counts = true }
+about (back a b z) = record { address = some a; written = some b; reads = false; returns = false; counts = true }
+about (invalidate a b z) = record { address = some a; written = some b; reads = false; returns = false; counts = true }
 about (look a) = record { address = some a; written = none; reads = false; returns = true; counts = false }
 about (flush k) = record { address = none; written = none; reads = false; returns = false; counts = true }
 
@@ -317,8 +326,9 @@ module _ {F X : Type 0} (H : Hashing F X) where
   unfoldable pub readAs : ℕ → Box F X → ℕ → X → Option (AddressRow F) → Outcome F X
   readAs m s a x (some r) =
       let b = blockOf H (r .fingerprint) (s .used) (s .flash) in
-      answer hit (some b) 0 (step H m s (record { address = a; fingerprint = r .fingerprint; block = b; dirty = r .dirty }))
-  readAs m s a x none = answer miss (some x) 0 (step H m s (record { address = a; fingerprint = H .hash x; block = x; dirty = false }))
+      answer hit (some b) 0 (step H m s (record { address = a; fingerprint = r .fingerprint; block = b; dirty = r .dirty; seat = r .seat }))
+  readAs m s a x none =
+      answer miss (some x) 0 (step H m s (record { address = a; fingerprint = H .hash x; block = x; dirty = false; seat = seatIn (rowOf a (s .rows)) }))
 
   -- "A write answers "same" if its fingerprint was cached before the call, else "new"."
   abbrev pub sameOrNew : Box F X → X → Word
@@ -328,9 +338,9 @@ module _ {F X : Type 0} (H : Hashing F X) where
   onDisk s a b = record { rows = s .rows; free = s .free; used = s .used; flash = s .flash; disk = set (s .disk) a b }
 
   -- "Write through: the block goes to disk address a; the step runs, clean."
-  unfoldable pub writeThrough : ℕ → Box F X → ℕ → X → Outcome F X
-  writeThrough m s a b =
-      answer (sameOrNew s b) none 1 (step H m (onDisk s a b) (record { address = a; fingerprint = H .hash b; block = b; dirty = false }))
+  unfoldable pub writeThrough : ℕ → Box F X → ℕ → X → Seat → Outcome F X
+  writeThrough m s a b z =
+      answer (sameOrNew s b) none 1 (step H m (onDisk s a b) (record { address = a; fingerprint = H .hash b; block = b; dirty = false; seat = z }))
 
   -- "a write back to a held, clean address with the same fingerprint leaves the row clean": the dirty value of a write back of fingerprint g
   abbrev pub dirtied : F → Option (AddressRow F) → Bool
@@ -338,11 +348,11 @@ module _ {F X : Type 0} (H : Hashing F X) where
   dirtied g (some r) = r .dirty || not (H .same g (r .fingerprint))
 
   -- "Write back: the step runs, dirty": but for that. "Disk address a isn't written by this call."
-  abbrev pub backRequest : Box F X → ℕ → X → Request F X
-  backRequest s a b = record { address = a; fingerprint = H .hash b; block = b; dirty = dirtied (H .hash b) (rowOf a (s .rows)) }
+  abbrev pub backRequest : Box F X → ℕ → X → Seat → Request F X
+  backRequest s a b z = record { address = a; fingerprint = H .hash b; block = b; dirty = dirtied (H .hash b) (rowOf a (s .rows)); seat = z }
 
-  unfoldable pub writeBack : ℕ → Box F X → ℕ → X → Outcome F X
-  writeBack m s a b = answer (sameOrNew s b) none 0 (step H m s (backRequest s a b))
+  unfoldable pub writeBack : ℕ → Box F X → ℕ → X → Seat → Outcome F X
+  writeBack m s a b z = answer (sameOrNew s b) none 0 (step H m s (backRequest s a b z))
 
   -- "Write invalidate: the block goes to disk. If a is held, its row is taken out; if no row then has its fingerprint and it is cached,
   -- that block row becomes free and moves to the front."
@@ -376,9 +386,9 @@ module _ {F X : Type 0} (H : Hashing F X) where
 
   unfoldable pub serve : Numbers → Box F X → Call X → Outcome F X
   serve N s (read a) = readAs (N .m) s a (getD (s .disk) a (H .blank)) (rowWithBlock s a)
-  serve N s (through a b) = writeThrough (N .m) s a b
-  serve N s (back a b) = writeBack (N .m) s a b
-  serve N s (invalidate a b) = writeInvalidate s a b
+  serve N s (through a b z) = writeThrough (N .m) s a b z
+  serve N s (back a b z) = writeBack (N .m) s a b z
+  serve N s (invalidate a b z) = writeInvalidate s a b
   serve N s (look a) = lookAs s a (rowWithBlock s a)
   serve N s (flush k) = flushed k s
 

@@ -87,9 +87,9 @@ sized B x =
 pub about-call : (B : ℕ) (q : Ask) → about (callOf B q) ≡ sized B (aboutAsk q)
 unfolding callOf
 about-call B (Ask.read a l) = refl
-about-call B (Ask.through a l) = refl
-about-call B (Ask.back a l) = refl
-about-call B (Ask.invalidate a l) = refl
+about-call B (Ask.through a l z) = refl
+about-call B (Ask.back a l z) = refl
+about-call B (Ask.invalidate a l z) = refl
 about-call B (Ask.look a) = refl
 about-call B (Ask.flush k) = refl
 
@@ -298,8 +298,8 @@ counters-stay N t q h =
   where
     go : (q : Ask) → (counts q && over (t .counters)) ≡ false → In64 ((call N t q) .lent .counters)
     go (Ask.read a l) e = counters-fit N t (Ask.read a l) e
-    go (Ask.through a l) e = counters-fit N t (Ask.through a l) e
-    go (Ask.back a l) e = counters-fit N t (Ask.back a l) e
-    go (Ask.invalidate a l) e = counters-fit N t (Ask.invalidate a l) e
+    go (Ask.through a l z) e = counters-fit N t (Ask.through a l z) e
+    go (Ask.back a l z) e = counters-fit N t (Ask.back a l z) e
+    go (Ask.invalidate a l z) e = counters-fit N t (Ask.invalidate a l z) e
     go (Ask.look a) e = rw (look-counts N t a) h
     go (Ask.flush k) e = counters-fit N t (Ask.flush k) e

@@ -7,6 +7,7 @@ use mathlib.Core.Option.{Option, none, some}
 use Prim.Native.Nat.{ℕ}
 use native.Mathlib.Omega.{arith}
 use lib.Dec.{eqb}
+use Rattle.tables.specs.Records.{bytes2}
 use Rattle.paper.specs.KeyedLaws.{All, eqb→≡, eqb-self}
 use Rattle.paper.specs.Cache.{Numbers, Hashing, Box, Call, newest, blockRow, Word, hit, miss}
 use Rattle.paper.specs.Worked.{labels}
@@ -20,64 +21,64 @@ use Rattle.paper.specs.Demand3Laws.{demand-3}
 
 -- ---- each call by its name
 
--- what is asked is the paper's call of that name, a write's block being the bytes lent to it
-pub calls-by-name : (B a k : ℕ) (l : List ℕ)
+-- what is asked is the paper's call of that name, a write's block being the bytes lent to it, and its seat the two bytes of its number
+pub calls-by-name : (B a k z : ℕ) (l : List ℕ)
     → (callOf B (Ask.read a l) ≡ Call.read a)
-    × (callOf B (Ask.through a l) ≡ Call.through a (fit B l))
-    × (callOf B (Ask.back a l) ≡ Call.back a (fit B l))
-    × (callOf B (Ask.invalidate a l) ≡ Call.invalidate a (fit B l))
+    × (callOf B (Ask.through a l z) ≡ Call.through a (fit B l) (bytes2 z))
+    × (callOf B (Ask.back a l z) ≡ Call.back a (fit B l) (bytes2 z))
+    × (callOf B (Ask.invalidate a l z) ≡ Call.invalidate a (fit B l) (bytes2 z))
     × (callOf B (Ask.look a) ≡ Call.look a)
     × (callOf B (Ask.flush k) ≡ Call.flush k)
 unfolding callOf
-calls-by-name B a k l = (refl, refl, refl, refl, refl, refl)
+calls-by-name B a k z l = (refl, refl, refl, refl, refl, refl)
 
 -- the block lent to it, where one is lent
-pub lent-by-name : (a k : ℕ) (l : List ℕ)
+pub lent-by-name : (a k z : ℕ) (l : List ℕ)
     → (lentBlock (Ask.read a l) ≡ some l)
-    × (lentBlock (Ask.through a l) ≡ some l)
-    × (lentBlock (Ask.back a l) ≡ some l)
-    × (lentBlock (Ask.invalidate a l) ≡ some l)
+    × (lentBlock (Ask.through a l z) ≡ some l)
+    × (lentBlock (Ask.back a l z) ≡ some l)
+    × (lentBlock (Ask.invalidate a l z) ≡ some l)
     × (lentBlock (Ask.look a) ≡ none)
     × (lentBlock (Ask.flush k) ≡ none)
-lent-by-name a k l = (refl, refl, refl, refl, refl, refl)
+lent-by-name a k z l = (refl, refl, refl, refl, refl, refl)
 
 -- what a served call leaves in the lent block: a read the block that it found, a write what was lent
-pub blocks-by-name : (B a k : ℕ) (l : List ℕ) (b : Fixed B)
+pub blocks-by-name : (B a k z : ℕ) (l : List ℕ) (b : Fixed B)
     → (blockAfter (Ask.read a l) (some b) ≡ some (b .0))
-    × (blockAfter {B = B} (Ask.through a l) none ≡ some l)
-    × (blockAfter {B = B} (Ask.back a l) none ≡ some l)
-    × (blockAfter {B = B} (Ask.invalidate a l) none ≡ some l)
+    × (blockAfter {B = B} (Ask.through a l z) none ≡ some l)
+    × (blockAfter {B = B} (Ask.back a l z) none ≡ some l)
+    × (blockAfter {B = B} (Ask.invalidate a l z) none ≡ some l)
     × (blockAfter (Ask.look a) (some b) ≡ none)
     × (blockAfter {B = B} (Ask.flush k) none ≡ none)
-blocks-by-name B a k l b = (refl, refl, refl, refl, refl, refl)
+blocks-by-name B a k z l b = (refl, refl, refl, refl, refl, refl)
 
 -- the part: a look's is the block that it found, the others have none
-pub parts-by-name : (B a k : ℕ) (l : List ℕ) (b : Fixed B)
+pub parts-by-name : (B a k z : ℕ) (l : List ℕ) (b : Fixed B)
     → (partAfter (Ask.read a l) (some b) ≡ [])
-    × (partAfter {B = B} (Ask.through a l) none ≡ [])
-    × (partAfter {B = B} (Ask.back a l) none ≡ [])
-    × (partAfter {B = B} (Ask.invalidate a l) none ≡ [])
+    × (partAfter {B = B} (Ask.through a l z) none ≡ [])
+    × (partAfter {B = B} (Ask.back a l z) none ≡ [])
+    × (partAfter {B = B} (Ask.invalidate a l z) none ≡ [])
     × (partAfter (Ask.look a) (some b) ≡ b .0)
     × (partAfter {B = B} (Ask.flush k) none ≡ [])
-parts-by-name B a k l b = (refl, refl, refl, refl, refl, refl)
+parts-by-name B a k z l b = (refl, refl, refl, refl, refl, refl)
 
 -- the block returned: "the lent block after a read, or a look's part"
-pub returned-by-name : (a k : ℕ) (l : List ℕ) (y : After)
+pub returned-by-name : (a k z : ℕ) (l : List ℕ) (y : After)
     → (returned (Ask.read a l) y ≡ y .block)
-    × (returned (Ask.through a l) y ≡ none)
-    × (returned (Ask.back a l) y ≡ none)
-    × (returned (Ask.invalidate a l) y ≡ none)
+    × (returned (Ask.through a l z) y ≡ none)
+    × (returned (Ask.back a l z) y ≡ none)
+    × (returned (Ask.invalidate a l z) y ≡ none)
     × (returned (Ask.look a) y ≡ some (y .part))
     × (returned (Ask.flush k) y ≡ none)
-returned-by-name a k l y = (refl, refl, refl, refl, refl, refl)
+returned-by-name a k z l y = (refl, refl, refl, refl, refl, refl)
 
 -- ---- the machines by example
 
 -- the plain disk of contents 0 and 1: each write puts its block at its address, and nothing else changes it
 pub plain-by-example :
-    (plainNext {X = ℕ} (0 ∷ 1 ∷ []) (Call.through 1 5) ≡ 0 ∷ 5 ∷ [])
-    × (plainNext {X = ℕ} (0 ∷ 1 ∷ []) (Call.back 1 5) ≡ 0 ∷ 5 ∷ [])
-    × (plainNext {X = ℕ} (0 ∷ 1 ∷ []) (Call.invalidate 1 5) ≡ 0 ∷ 5 ∷ [])
+    (plainNext {X = ℕ} (0 ∷ 1 ∷ []) (Call.through 1 5 (0, 0)) ≡ 0 ∷ 5 ∷ [])
+    × (plainNext {X = ℕ} (0 ∷ 1 ∷ []) (Call.back 1 5 (0, 0)) ≡ 0 ∷ 5 ∷ [])
+    × (plainNext {X = ℕ} (0 ∷ 1 ∷ []) (Call.invalidate 1 5 (0, 0)) ≡ 0 ∷ 5 ∷ [])
     × (plainNext {X = ℕ} (0 ∷ 1 ∷ []) (Call.read 1) ≡ 0 ∷ 1 ∷ [])
     × (plainNext {X = ℕ} (0 ∷ 1 ∷ []) (Call.look 1) ≡ 0 ∷ 1 ∷ [])
     × (plainNext {X = ℕ} (0 ∷ 1 ∷ []) (Call.flush 2) ≡ 0 ∷ 1 ∷ [])
@@ -87,9 +88,9 @@ plain-by-example = (refl, refl, refl, refl, refl, refl)
 pub answers-by-example :
     (plainBlock {X = ℕ} 9 (0 ∷ 1 ∷ []) (Call.read 1) ≡ some 1)
     × (plainBlock {X = ℕ} 9 (0 ∷ 1 ∷ []) (Call.look 1) ≡ some 1)
-    × (plainBlock {X = ℕ} 9 (0 ∷ 1 ∷ []) (Call.through 1 5) ≡ none)
-    × (plainBlock {X = ℕ} 9 (0 ∷ 1 ∷ []) (Call.back 1 5) ≡ none)
-    × (plainBlock {X = ℕ} 9 (0 ∷ 1 ∷ []) (Call.invalidate 1 5) ≡ none)
+    × (plainBlock {X = ℕ} 9 (0 ∷ 1 ∷ []) (Call.through 1 5 (0, 0)) ≡ none)
+    × (plainBlock {X = ℕ} 9 (0 ∷ 1 ∷ []) (Call.back 1 5 (0, 0)) ≡ none)
+    × (plainBlock {X = ℕ} 9 (0 ∷ 1 ∷ []) (Call.invalidate 1 5 (0, 0)) ≡ none)
     × (plainBlock {X = ℕ} 9 (0 ∷ 1 ∷ []) (Call.flush 2) ≡ none)
 answers-by-example = (refl, refl, refl, refl, refl, refl)
 
@@ -115,7 +116,7 @@ printed-by-example = refl
 
 -- a box that holds address 1, whose content is 1, and has block k
 abbrev holding : ℕ → Box ℕ ℕ
-holding k = record { rows = newest 1 1 false ∷ []; free = []; used = blockRow k 0 ∷ []; flash = k ∷ []; disk = 0 ∷ 1 ∷ [] }
+holding k = record { rows = newest 1 1 false (0, 0) ∷ []; free = []; used = blockRow k 0 ∷ []; flash = k ∷ []; disk = 0 ∷ 1 ∷ [] }
 
 -- the one in which address 1 is without its block, and block 2 without an address
 abbrev wasteful : Box ℕ ℕ

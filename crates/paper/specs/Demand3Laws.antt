@@ -17,7 +17,7 @@ use Rattle.paper.specs.Lent.{Lent, Ask, opening, calling, callOf, lentBl
 use Rattle.paper.specs.Lent.{over, unfit, refusal}
 use Rattle.paper.specs.Lent.{served, call, boxIn, lentOf, join, split, fresh, opened, blockAfter, partAfter}
 use Rattle.paper.specs.Batch.{Batched, start}
-use Rattle.paper.specs.BatchLent.{Asking, one, many, badCount, anyOutside, batchRefusal, batchedFrom, servedBatch, callBatch}
+use Rattle.paper.specs.BatchLent.{Asking, one, many, report, badCount, anyOutside, batchRefusal, batchedFrom, servedBatch, callBatch}
 use Rattle.paper.specs.Machines.{plainNext, plainBlock, writtenBy, NoWrite, Compared, ifRead, seenIn, printedTrace, contentOf, OrphanLaw}
 use Rattle.paper.specs.Machines.{TrueFingerprints}
 use Rattle.paper.specs.Demand3.{numberOf, next, plainStep, Throughout, EachServed, InList, refusals, writtenIn, written, ShowsPlain, AsReads}
@@ -36,6 +36,7 @@ use Rattle.paper.specs.LentLaws.{Lengths, right-lengths, Passes, passes-
 use Rattle.paper.specs.RefusalLaws.{exactly-opening, served-is, keeps, opened-is}
 use Rattle.paper.specs.CallLaws.{fits, served-finds, outcome, outcome-sound, served-lent, served-box, served-passes, look-counts, In64, counters-stay}
 use Rattle.paper.specs.BatchLaws.{batch-sound, batch-good, batch-in-turn, batch-blocks}
+use Rattle.paper.specs.Reports.{width, reportRefusal}
 use Rattle.paper.specs.BatchLentLaws.{batch-finds, batch-served, batch-keeps, batch-lent, batch-leaves, batch-box, batch-passes, batch-fits, in-turn-is}
 
 pub head-≡ : {A : Type 0} {x y : A} {l k : List A} → _≡_ {A = List A} (x ∷ l) (y ∷ k) → x ≡ y
@@ -83,6 +84,7 @@ module _ (N : Numbers) where
         noWaste = subst (λ s. NoWaste H (s .rows) (s .used)) (sym (batch-box N t l b e)) (batch-leaves N t l b e .1 (k .noWaste));
       })
       (λ y. subst Kept (sym (batch-keeps N t l b (eqb-false (batchRefusal N t l b) 0 y) .lent)) k)
+  kept-next t (report w lent) k = k
 
   orphan : (t : Lent) → Kept t → OrphanLaw H (boxIn N t)
   orphan t k = never-both H ((boxIn N t) .rows) ((boxIn N t) .used) (k .noWaste)
@@ -105,6 +107,7 @@ module _ (N : Numbers) where
       never-both H (s .rows) (s .used)
       (batch-sound H N (x .fits .m-least) (x .fits .d-least) (start (boxIn N t) (t .counters)) (take j l) (all-take (λ a. a < N .P) l j (x .within))
       (passes-sound N t (x .passes)) .1 (k .noWaste))
+  orphans-within t plain (report w lent) k e = tt
 
   within-each : (t : Lent) (plain : List (Fixed (N .B))) (qs : List Asking) → Kept t → EachServed N (OrphansWithin N) t plain qs
   unfolding EachServed
@@ -113,7 +116,7 @@ module _ (N : Numbers) where
 
   -- the numbers
   in-list : (t : Lent) (q : Asking) → unfit N ≡ false → Passes N t → InList (numberOf N t q)
-  unfolding refusal batchRefusal
+  unfolding refusal batchRefusal reportRefusal
   in-list t (one q) u p =
       rw u (by-test (wrongBuffers N t || wrongBlock (N .B) (lentBlock q))
       (λ e. rw e refl)
@@ -128,6 +131,8 @@ module _ (N : Numbers) where
       (λ c. rw c (by-test (anyOutside (N .P) l)
       (λ f. rw f refl)
       (λ f. rw (f, p .addresses, p .blocks, p .dirty) (by-test (over (t .counters)) (λ g. rw g refl) (λ g. rw g refl))))))))
+  in-list t (report w lent) u p =
+      rw u (by-test (wrongBuffers N t || otherLength lent (N .m * width w)) (λ e. rw e refl) (λ e. rw (e, p .addresses, p .blocks, p .dirty) refl))
 
   numbers-are : (t : Lent) (qs : List Asking) → unfit N ≡ false → Kept t → All InList (refusals N t qs)
   unfolding refusals
@@ -173,6 +178,7 @@ module _ (N : Numbers) where
           faithful = subst (Faithful H In (N .P) plain) (sym (batch-box N t l b e)) (g .0 .1);
         })
         (λ y. subst (λ u. Held u plain) (sym (batch-keeps N t l b (eqb-false (batchRefusal N t l b) 0 y) .lent)) k)
+    held-next t plain (report w lent) k = λ i. k
 
     -- a claim of each state, and one of each served call
     throughout : (Q : Lent → List (Fixed (N .B)) → Type 0) → ((t : Lent) (plain : List (Fixed (N .B))) → Held t plain → Q t plain)
@@ -211,9 +217,9 @@ module _ (N : Numbers) where
     shows t plain (Ask.read a l) z e = ap (λ x. x .block) (served-is N t (Ask.read a l) z) ∙ ap (blockAfter (Ask.read a l)) e
     shows t plain (Ask.look a) z e =
         ap {B = Option (List ℕ)} (λ x. some (x .part)) (served-is N t (Ask.look a) z) ∙ ap {B = Option (List ℕ)} (λ b. some (partAfter (Ask.look a) b)) e
-    shows t plain (Ask.through a l) z e = refl
-    shows t plain (Ask.back a l) z e = refl
-    shows t plain (Ask.invalidate a l) z e = refl
+    shows t plain (Ask.through a l seat) z e = refl
+    shows t plain (Ask.back a l seat) z e = refl
+    shows t plain (Ask.invalidate a l seat) z e = refl
     shows t plain (Ask.flush k) z e = refl
 
     shown : (t : Lent) (plain : List (Fixed (N .B))) (q : Asking) → Held t plain → numberOf N t q ≡ 0 → All In (writtenIn N q) → ShowsPlain N t plain q
@@ -223,6 +229,7 @@ module _ (N : Numbers) where
         let x = batch-finds N t l b e in
         ap (λ a. a .buffer) (batch-served N t l b e)
         ∙ ap join (batch-blocks H In only N (x .fits .m-least) (x .fits .d-least) (boxIn N t) (t .counters) plain l (good t plain k) (x .within))
+    shown t plain (report w lent) k e i = tt
 
     flushed : (t : Lent) (plain : List (Fixed (N .B))) (q : Asking) → Held t plain → numberOf N t q ≡ 0 → All In (writtenIn N q) → FlushesWhole N t plain q
     unfolding callOf lentOf
@@ -247,6 +254,7 @@ module _ (N : Numbers) where
         batch-lent N t l b e
         ∙ ap (λ (v : Batched (Fixed 32) (Fixed (N .B))). lentOf N (v .box) (v .counters)) same
         ∙ sym (in-turn-is N (x .fits) t l (k .kept .passes) (x .within) (x .some-address))
+    as-reads t plain (report w lent) k e i = tt
 
   -- ---- single calls, for the comparison with printed D-LRU
 
@@ -411,6 +419,7 @@ next-written N t (many l b) w =
     by-test (eqb (batchRefusal N t l b) 0)
     (λ y. let e = eqb-true (batchRefusal N t l b) 0 y in (_, _, batch-leaves N t l b e .0, batch-lent N t l b e))
     (λ y. subst (Written N) (sym (batch-keeps N t l b (eqb-false (batchRefusal N t l b) 0 y) .lent)) w)
+next-written N t (report r lent) w = w
 
 -- counters of 64 bits keep to them, whatever is asked
 pub next-64 : (N : Numbers) (t : Lent) (q : Asking) → In64 (t .counters) → In64 ((next N t q) .counters)
@@ -419,6 +428,7 @@ next-64 N t (many l b) h =
     by-test (eqb (batchRefusal N t l b) 0)
     (λ y. batch-fits N t l b (eqb-true (batchRefusal N t l b) 0 y))
     (λ y. subst (λ (x : Lent). In64 (x .counters)) (sym (batch-keeps N t l b (eqb-false (batchRefusal N t l b) 0 y) .lent)) h)
+next-64 N t (report w lent) h = h
 
 -- there a look leaves what is lent as it is
 pub look-stays : (N : Numbers) (t : Lent) (a : ℕ) → Written N t → (call N t (Ask.look a)) .lent ≡ t

@@ -353,7 +353,7 @@ module _ {F X : Type 0} (H : Hashing F X) (In : X → Type 0) (only : (b c : X) 
       let a = q .address in
       let g = q .fingerprint in
       let o = step1 H (N .m) s a in
-      let new = newest a g (q .dirty) in
+      let new = newest a g (q .dirty) (q .seat) in
       let rows = o .rows ++ (new ∷ []) in
       let out = sound-step1 H N s a h m1 in
       let ot = faithful-step1 N plain s a h f in

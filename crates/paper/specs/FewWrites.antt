@@ -8,7 +8,7 @@ use native.Mathlib.Omega.{arith}
 use lib.ListN.{length, getD}
 use Rattle.paper.specs.Cache.{Numbers, Hashing, AddressRow, Box, BlockRows, Stepped, Request, Outcome, Word, newest, copies, isLost, step, step1, step3}
 use Rattle.paper.specs.Cache.{step4, stored, Call, read, through, back, invalidate, look, flush, onDisk, rowWithBlock, answer, readAs, writeThrough}
-use Rattle.paper.specs.Cache.{backRequest, writeBack, writeInvalidate, lookAs, flushed, reach, serve, oneIf, isHit, sameOrNew, blockOf, hit, miss}
+use Rattle.paper.specs.Cache.{Seat, seatIn, rowOf, backRequest, writeBack, writeInvalidate, lookAs, flushed, reach, serve, oneIf, isHit, sameOrNew, blockOf, hit, miss}
 use Rattle.paper.specs.KeyedLaws.{by-test}
 use Rattle.paper.specs.Partly.{parts-sum}
 use Rattle.paper.specs.Cases.{by-step1, by-step4}
@@ -24,11 +24,11 @@ module _ {F X : Type 0} (H : Hashing F X) where
   copies-le c [] = omega arith
   copies-le c (r ∷ rs) = by-test (r .dirty && c (r .fingerprint)) (λ e. rw e (omega (arith, copies-le c rs))) (λ e. rw e (omega (arith, copies-le c rs)))
 
-  copies-newest : (c : F → Bool) (a : ℕ) (g : F) (w : Bool) (rows : List (AddressRow F)) → copies H c (rows ++ (newest a g w ∷ [])) ≤ length rows + oneIf w
-  copies-newest c a g true [] = by-test (c g) (λ e. rw e (omega arith)) (λ e. rw e (omega arith))
-  copies-newest c a g false [] = omega arith
-  copies-newest c a g w (r ∷ rs) =
-      by-test (r .dirty && c (r .fingerprint)) (λ e. rw e (omega (arith, copies-newest c a g w rs))) (λ e. rw e (omega (arith, copies-newest c a g w rs)))
+  copies-newest : (c : F → Bool) (a : ℕ) (g : F) (w : Bool) (z : Seat) (rows : List (AddressRow F)) → copies H c (rows ++ (newest a g w z ∷ [])) ≤ length rows + oneIf w
+  copies-newest c a g true z [] = by-test (c g) (λ e. rw e (omega arith)) (λ e. rw e (omega arith))
+  copies-newest c a g false z [] = omega arith
+  copies-newest c a g w z (r ∷ rs) =
+      by-test (r .dirty && c (r .fingerprint)) (λ e. rw e (omega (arith, copies-newest c a g w z rs))) (λ e. rw e (omega (arith, copies-newest c a g w z rs)))
 
   primary-out : (m : ℕ) (s : Box F X) (a : ℕ) → (step1 H m s a) .primary ≤ 1
   primary-out m s a = by-step1 H m s a (λ o. o .primary ≤ 1) (λ e. omega arith) (λ e r rs p n. copies-le (λ f. true) (r ∷ [])) (λ e p. omega arith)
@@ -51,12 +51,12 @@ module _ {F X : Type 0} (H : Hashing F X) where
   unfolding step
   step-few N s q h m1 =
       let o = step1 H (N .m) s (q .address) in
-      let rows = o .rows ++ (newest (q .address) (q .fingerprint) (q .dirty) ∷ []) in
+      let rows = o .rows ++ (newest (q .address) (q .fingerprint) (q .dirty) (q .seat) ∷ []) in
       let bs = step3 H (o .gone) (o .rows) rows (record { free = s .free; used = s .used }) in
       let short : length (o .rows) < N .m = (sound-step1 H N s (q .address) h m1) .few in
       let p : o .primary ≤ 1 = primary-out (N .m) s (q .address) in
       let f = step4-few rows bs (s .flash) (o .disk) (q .fingerprint) (q .block) (o .primary) (length (o .rows) + oneIf (q .dirty))
-      (λ c. copies-newest c (q .address) (q .fingerprint) (q .dirty) (o .rows)) in
+      (λ c. copies-newest c (q .address) (q .fingerprint) (q .dirty) (q .seat) (o .rows)) in
       let f₁ = f .1 in
       (f .0, omega arith)
 
@@ -72,23 +72,23 @@ module _ {F X : Type 0} (H : Hashing F X) where
   unfolding readAs
   readAs-few N s a x (some r) h m1 =
       let b = blockOf H (r .fingerprint) (s .used) (s .flash) in
-      let q : Request F X = record { address = a; fingerprint = r .fingerprint; block = b; dirty = r .dirty } in
+      let q : Request F X = record { address = a; fingerprint = r .fingerprint; block = b; dirty = r .dirty; seat = r .seat } in
       answer-few hit (some b) 0 (N .m + oneIf (r .dirty)) (N .m + 1) (step H (N .m) s q) (step-few N s q h m1) (omega (arith, one-if-le (r .dirty)))
   readAs-few N s a x none h m1 =
-      let q : Request F X = record { address = a; fingerprint = H .hash x; block = x; dirty = false } in
+      let q : Request F X = record { address = a; fingerprint = H .hash x; block = x; dirty = false; seat = seatIn (rowOf a (s .rows)) } in
       answer-few miss (some x) 0 (N .m + 0) (N .m + 1) (step H (N .m) s q) (step-few N s q h m1) (omega arith)
 
   pub serve-few : (N : Numbers) (s : Box F X) (c : Call X) → Sound H N s → 1 ≤ N .m → FewBy (N .m + 1) (serve H N s c)
   unfolding serve writeThrough writeBack writeInvalidate lookAs flushed
   serve-few N s (read a) h m1 = readAs-few N s a (getD (s .disk) a (H .blank)) (rowWithBlock H s a) h m1
-  serve-few N s (through a b) h m1 =
-      let q : Request F X = record { address = a; fingerprint = H .hash b; block = b; dirty = false } in
+  serve-few N s (through a b z) h m1 =
+      let q : Request F X = record { address = a; fingerprint = H .hash b; block = b; dirty = false; seat = z } in
       answer-few (sameOrNew H s b) none 1 (N .m + 0) (N .m + 1) (step H (N .m) (onDisk H s a b) q)
       (step-few N (onDisk H s a b) q (sound-onDisk H N s a b h) m1) (omega arith)
-  serve-few N s (back a b) h m1 =
-      let q : Request F X = backRequest H s a b in
+  serve-few N s (back a b z) h m1 =
+      let q : Request F X = backRequest H s a b z in
       answer-few (sameOrNew H s b) none 0 (N .m + oneIf (q .dirty)) (N .m + 1) (step H (N .m) s q) (step-few N s q h m1) (omega (arith, one-if-le (q .dirty)))
-  serve-few N s (invalidate a b) h m1 = (omega arith, omega arith)
+  serve-few N s (invalidate a b z) h m1 = (omega arith, omega arith)
   serve-few N s (look a) h m1 = go (rowWithBlock H s a)
     where
       go : (o : Option (AddressRow F)) → FewBy (N .m + 1) (lookAs H s a o)

@@ -39,13 +39,13 @@ bit true = 1
 bit false = 0
 
 abbrev pub heldRow : AddressRow (Fixed 32) → Table.AddressRow
-heldRow r = Table.addressRow (r .address) (r .fingerprint .0) (bit (r .dirty))
+heldRow r = Table.addressRow (r .address) (r .fingerprint .0) (bit (r .dirty)) (r .seat)
 
 abbrev pub usedRow : BlockRow (Fixed 32) → Table.BlockRow
 usedRow u = Table.blockRow (u .fingerprint .0) (u .slot) 1
 
 abbrev pub asHeld : Table.AddressRow → AddressRow (Fixed 32)
-asHeld r = record { address = r .address; fingerprint = fit 32 (r .fingerprint); dirty = eqb (r .dirty) 1 }
+asHeld r = record { address = r .address; fingerprint = fit 32 (r .fingerprint); dirty = eqb (r .dirty) 1; seat = r .seat }
 
 unfoldable pub freeSlots : List Table.BlockRow → List ℕ
 freeSlots [] = []
@@ -80,7 +80,9 @@ lentOf N s k =
 
 -- A call as it is asked. "Only reads and writes take the one block", "of any bytes and length".
 pub data Ask : Type 0 where
-  read through back invalidate : ℕ → List ℕ → Ask
+  read : ℕ → List ℕ → Ask
+  -- U7: "writes carry" a seat number
+  through back invalidate : ℕ → List ℕ → (seat : ℕ) → Ask
   look : ℕ → Ask
   -- of at most so many dirty rows
   flush : ℕ → Ask
@@ -93,9 +95,9 @@ pub data Asked : Type 0 where
 -- the call on paper, its block made of the bytes lent to it
 abbrev pub callWith : {X : Type 0} → (List ℕ → X) → Ask → Call X
 callWith f (read a l) = Call.read a
-callWith f (through a l) = Call.through a (f l)
-callWith f (back a l) = Call.back a (f l)
-callWith f (invalidate a l) = Call.invalidate a (f l)
+callWith f (through a l z) = Call.through a (f l) (Table.bytes2 z)
+callWith f (back a l z) = Call.back a (f l) (Table.bytes2 z)
+callWith f (invalidate a l z) = Call.invalidate a (f l) (Table.bytes2 z)
 callWith f (look a) = Call.look a
 callWith f (flush k) = Call.flush k
 
@@ -113,9 +115,9 @@ addressOf q = aboutAsk q .address
 -- the block lent to it
 abbrev pub lentBlock : Ask → Option (List ℕ)
 lentBlock (read a l) = some l
-lentBlock (through a l) = some l
-lentBlock (back a l) = some l
-lentBlock (invalidate a l) = some l
+lentBlock (through a l z) = some l
+lentBlock (back a l z) = some l
+lentBlock (invalidate a l z) = some l
 lentBlock (look a) = none
 lentBlock (flush k) = none
 

@@ -12,12 +12,12 @@ use Rattle.tables.specs.Records as Table
 use Rattle.tables.specs.Records.{readAddress, readBlock, addressTable, heldRows, blockTable, blockRows, freeRow}
 use Rattle.tables.specs.Find.{all, every, isUsed}
 use Rattle.tables.specs.Unsound.{addressesUnsound, blocksUnsound}
-use Rattle.tables.specs.Sound.{isZero, tailOk, addressOk, rowAddress, rowSlot}
+use Rattle.tables.specs.Sound.{isZero, tailOk, seatedTail, addressOk, rowAddress, rowSlot}
 use Rattle.tables.specs.Index.{rowOk}
 use Rattle.tables.specs.RowLaws.{rows-length}
 use Rattle.tables.specs.RecordLaws.{zeros-all}
 use Rattle.tables.specs.OperationLaws.{Wide, wide-rows}
-use Rattle.table_laws.specs.Written.{low-byte, block-print-length}
+use Rattle.table_laws.specs.Written.{low-dirty, low-used, block-print-length}
 use Rattle.table_laws.specs.Promises.{addresses-back, blocks-back}
 use Rattle.paper.specs.KeyedLaws.{by-test, and-left, and-right}
 use Rattle.paper.specs.Engine.{fit}
@@ -36,11 +36,11 @@ held-forth : (P : ℕ) (rs : List (List ℕ)) → Wide rs → all (addressOk P) 
 unfolding all
 held-forth P [] w h = refl
 held-forth P (r ∷ rs) w h =
-    let ok = and-right (ltb (rowAddress r) P) (tailOk r) (and-left (addressOk P r) (all (addressOk P) rs) h) in
+    let ok = and-right (ltb (rowAddress r) P) (seatedTail r) (and-left (addressOk P r) (all (addressOk P) rs) h) in
     let f = held-print-is r (w .0) in
-    let y = bit-forth (readAddress r .dirty) (low-byte r ok .0) in
+    let y = bit-forth (readAddress r .dirty) (low-dirty r ok) in
     let more = held-forth P rs (w .1) (and-right (addressOk P r) (all (addressOk P) rs) h) in
-    λ i. Table.addressRow (rowAddress r) (f i) (y i) ∷ more i
+    λ i. Table.addressRow (rowAddress r) (f i) (y i) (readAddress r .seat) ∷ more i
 
 -- the rows of a block table that passes 7
 used-forth : (r : List ℕ) → length r ≡ rowBytes → isUsed r ≡ true
@@ -53,7 +53,7 @@ used-forth r l u =
 free-forth : (r : List ℕ) → length r ≡ rowBytes → isUsed r ≡ false → tailOk r ≡ true → all isZero (readBlock r .fingerprint) ≡ true
     → freeRow (rowSlot r) ≡ readBlock r
 free-forth r l u ok z =
-    let low = low-byte r ok .1 in
+    let low = low-used r ok in
     let n = eqb-false (readBlock r .used) 1 u in
     let y : 0 ≡ readBlock r .used = omega arith in
     let f = sym (zeros-all (readBlock r .fingerprint) z ∙ ap zeros (block-print-length r l)) in

@@ -44,7 +44,7 @@ held-back : (r : AddressRow (Fixed 32)) → asHeld (heldRow r) ≡ r
 held-back r =
     let f = fit-whole 32 (r .fingerprint) in
     let y = bit-back (r .dirty) in
-    λ i. record { address = r .address; fingerprint = f i; dirty = y i }
+    λ i. record { address = r .address; fingerprint = f i; dirty = y i; seat = r .seat }
 
 -- the block rows that a box writes: free ones first
 abbrev pub tableRows : List ℕ → List (BlockRow (Fixed 32)) → List Table.BlockRow
@@ -95,7 +95,7 @@ held-read m rs q = ap (λ l. map asHeld (map readAddress l)) (rows-held m rs) �
     back [] q = refl
     back (r ∷ rs) q =
         ap₂ {C = List (AddressRow (Fixed 32))} (λ x l. x ∷ l)
-        (ap asHeld (addr-forth (r .address) (r .fingerprint .0) (bit (r .dirty)) (q .0) (r .fingerprint .1)) ∙ held-back r) (back rs (q .1))
+        (ap asHeld (addr-forth (r .address) (r .fingerprint .0) (bit (r .dirty)) (r .seat) (q .0) (r .fingerprint .1)) ∙ held-back r) (back rs (q .1))
 
 blocks-read : (d : ℕ) (free : List ℕ) (used : List (BlockRow (Fixed 32))) → length free + length used ≡ d → All (λ k. k < 2 ^ 32) free
     → All (λ u. u .slot < 2 ^ 32) used
@@ -120,7 +120,7 @@ unfolding all
 held-each P p [] q = refl
 held-each P p (r ∷ rs) q =
     both (addressOk P (addressBytes (heldRow r))) (all (addressOk P) (map addressBytes (map heldRow rs)))
-    (addressOk-of P (r .address) (r .fingerprint .0) (bit (r .dirty)) (q .0) (omega arith) (bit-low (r .dirty)) (r .fingerprint .1)) (held-each P p rs (q .1))
+    (addressOk-of P (r .address) (r .fingerprint .0) (bit (r .dirty)) (r .seat) (q .0) (omega arith) (bit-low (r .dirty)) (r .fingerprint .1)) (held-each P p rs (q .1))
 
 all-used : (used : List (BlockRow (Fixed 32))) → all isUsed (map blockBytes (map usedRow used)) ≡ true
 unfolding all

@@ -9,7 +9,7 @@ use lib.Dec.{eqb}
 use lib.ListN.{length, getD}
 use Rattle.paper.specs.Cache.{Numbers, Hashing, AddressRow, BlockRow, Box, BlockRows, rowOf, withoutAddress, known, cached, blockOf}
 use Rattle.paper.specs.Cache.{someUncached, Call, read, through, back, invalidate, look, flush, onDisk, rowWithBlock, answer, readAs, writeThrough}
-use Rattle.paper.specs.Cache.{backRequest, writeBack, dropped, writeInvalidate, lookAs, flushed, reach, partly, serve, fresh, freed}
+use Rattle.paper.specs.Cache.{seatIn, backRequest, writeBack, dropped, writeInvalidate, lookAs, flushed, reach, partly, serve, fresh, freed}
 use Rattle.paper.specs.KeyedLaws.{by-test, either, clash, or-left, or-right, or-both, eqb→≡, eqb-self, All, Distinct, has-without-other}
 use Rattle.paper.specs.KeyedLaws.{has-without, has-without-self, lost-with}
 use Rattle.paper.specs.Machines.{someUnknown, OrphanLaw, plainNext}
@@ -22,8 +22,9 @@ module _ {F X : Type 0} (H : Hashing F X) where
       → NoWaste H ((readAs H m s a x o) .box .rows) ((readAs H m s a x o) .box .used)
   unfolding readAs answer
   noWaste-readAs m s a x (some r) d l =
-      noWaste-step H m s (record { address = a; fingerprint = r .fingerprint; block = blockOf H (r .fingerprint) (s .used) (s .flash); dirty = r .dirty }) d l
-  noWaste-readAs m s a x none d l = noWaste-step H m s (record { address = a; fingerprint = H .hash x; block = x; dirty = false }) d l
+      noWaste-step H m s (record { address = a; fingerprint = r .fingerprint; block = blockOf H (r .fingerprint) (s .used) (s .flash); dirty = r .dirty; seat = r .seat }) d l
+  noWaste-readAs m s a x none d l =
+      noWaste-step H m s (record { address = a; fingerprint = H .hash x; block = x; dirty = false; seat = seatIn (rowOf a (s .rows)) }) d l
 
   noWaste-lookAs : (s : Box F X) (a : ℕ) (o : Option (AddressRow F)) → NoWaste H (s .rows) (s .used)
       → NoWaste H ((lookAs H s a o) .box .rows) ((lookAs H s a o) .box .used)
@@ -71,9 +72,10 @@ module _ {F X : Type 0} (H : Hashing F X) where
   unfolding serve writeThrough writeBack answer flushed
   noWaste-serve N s (read a) d l = noWaste-readAs (N .m) s a (getD (s .disk) a (H .blank)) (rowWithBlock H s a) d l
   noWaste-serve N s (look a) d l = noWaste-lookAs s a (rowWithBlock H s a) l
-  noWaste-serve N s (through a b) d l = noWaste-step H (N .m) (onDisk H s a b) (record { address = a; fingerprint = H .hash b; block = b; dirty = false }) d l
-  noWaste-serve N s (back a b) d l = noWaste-step H (N .m) s (backRequest H s a b) d l
-  noWaste-serve N s (invalidate a b) d l = noWaste-invalidate s a b d l
+  noWaste-serve N s (through a b z) d l =
+      noWaste-step H (N .m) (onDisk H s a b) (record { address = a; fingerprint = H .hash b; block = b; dirty = false; seat = z }) d l
+  noWaste-serve N s (back a b z) d l = noWaste-step H (N .m) s (backRequest H s a b z) d l
+  noWaste-serve N s (invalidate a b z) d l = noWaste-invalidate s a b d l
   noWaste-serve N s (flush k) d l = noWaste-partly (reach H k (s .rows)) (s .rows) (s .used) l
 
   -- the law as the document states it: never both

@@ -8,7 +8,7 @@ use Prim.Native.Nat.{ℕ}
 use lib.Dec.{eqb}
 use borrow.Author.Tests.{not-false}
 use Rattle.paper.specs.Cache.{Hashing, AddressRow, BlockRow, Box, Request, newest, blockRow, known, cached, withoutBlock, slotOf, cleaned}
-use Rattle.paper.specs.Cache.{isLost, someUncached, step, step1, step3, step4, freed, oldestUnknown, stored}
+use Rattle.paper.specs.Cache.{Seat, isLost, someUncached, step, step1, step3, step4, freed, oldestUnknown, stored}
 use Rattle.paper.specs.KeyedLaws.{by-test, either, clash, or-cases, or-right, or-false-left, or-false-right, eqb→≡, eqb-self, Distinct}
 use Rattle.paper.specs.KeyedLaws.{has-without-other, has-without, has-without-self, has-snoc-cases, has-snoc-left, has-snoc-self, lost-with}
 use Rattle.paper.specs.Cases.{by-step1, by-step3, by-step4}
@@ -135,17 +135,17 @@ module _ {F X : Type 0} (H : Hashing F X) where
       (λ e p. (λ f h. h, λ f h. inl h))
 
   -- Steps 1 to 3 leave every row but the newest with its block, or every block with an address
-  noWaste-step3 : (m : ℕ) (s : Box F X) (a : ℕ) (g : F) (w : Bool) → Distinct eqb (λ r. r .address) (s .rows) → NoWaste (s .rows) (s .used)
-      → let o = step1 H m s a in let rows = o .rows ++ (newest a g w ∷ []) in
+  noWaste-step3 : (m : ℕ) (s : Box F X) (a : ℕ) (g : F) (w : Bool) (z : Seat) → Distinct eqb (λ r. r .address) (s .rows) → NoWaste (s .rows) (s .used)
+      → let o = step1 H m s a in let rows = o .rows ++ (newest a g w z ∷ []) in
       let t = step3 H (o .gone) (o .rows) rows (record { free = s .free; used = s .used }) in AllCachedBut g rows (t .used) ⊎ AllKnown rows (t .used)
   unfolding freed
-  noWaste-step3 m s a g w d law =
+  noWaste-step3 m s a g w z d law =
       let o = step1 H m s a in
-      let rows = o .rows ++ (newest a g w ∷ []) in
+      let rows = o .rows ++ (newest a g w z ∷ []) in
       let into : (f : F) → known H f rows ≡ true → (known H f (o .rows) ≡ true) ⊎ (f ≡ g)
-      = λ f. has-snoc-cases (H .same) (λ r. r .fingerprint) (H .same→≡) (H .same-refl) f (o .rows) (newest a g w) in
+      = λ f. has-snoc-cases (H .same) (λ r. r .fingerprint) (H .same→≡) (H .same-refl) f (o .rows) (newest a g w z) in
       let up : (f : F) → known H f (o .rows) ≡ true → known H f rows ≡ true
-      = λ f. has-snoc-left (H .same) (λ r. r .fingerprint) (H .same→≡) (H .same-refl) f (o .rows) (newest a g w) in
+      = λ f. has-snoc-left (H .same) (λ r. r .fingerprint) (H .same→≡) (H .same-refl) f (o .rows) (newest a g w z) in
       let sub = (known-step1 m s a d) .0 in
       let lost = (known-step1 m s a d) .1 in
       by-step3 H (o .gone) (o .rows) rows (record { free = s .free; used = s .used }) (λ t. AllCachedBut g rows (t .used) ⊎ AllKnown rows (t .used))
@@ -174,8 +174,8 @@ module _ {F X : Type 0} (H : Hashing F X) where
   unfolding step
   noWaste-step m s q d law =
       let o = step1 H m s (q .address) in
-      let rows = o .rows ++ (newest (q .address) (q .fingerprint) (q .dirty) ∷ []) in
+      let rows = o .rows ++ (newest (q .address) (q .fingerprint) (q .dirty) (q .seat) ∷ []) in
       let t = step3 H (o .gone) (o .rows) rows (record { free = s .free; used = s .used }) in
       noWaste-step4 rows (t .free) (t .used) (s .flash) (o .disk) (q .fingerprint) (q .block) (o .primary)
-      (has-snoc-self (H .same) (λ r. r .fingerprint) (H .same→≡) (H .same-refl) (o .rows) (newest (q .address) (q .fingerprint) (q .dirty)))
-      (noWaste-step3 m s (q .address) (q .fingerprint) (q .dirty) d law)
+      (has-snoc-self (H .same) (λ r. r .fingerprint) (H .same→≡) (H .same-refl) (o .rows) (newest (q .address) (q .fingerprint) (q .dirty) (q .seat)))
+      (noWaste-step3 m s (q .address) (q .fingerprint) (q .dirty) (q .seat) d law)

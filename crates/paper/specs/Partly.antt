@@ -41,7 +41,7 @@ module _ {F X : Type 0} (H : Hashing F X) where
   known-partly (suc i) f (r ∷ rs) = ap (λ b. H .same f (r .fingerprint) || b) (known-partly i f rs)
 
   pub all-partly : (P Q : AddressRow F → Type 0)
-      → ((r : AddressRow F) → P r → Q (record { address = r .address; fingerprint = r .fingerprint; dirty = r .dirty && false }))
+      → ((r : AddressRow F) → P r → Q (record { address = r .address; fingerprint = r .fingerprint; dirty = r .dirty && false; seat = r .seat }))
       → ((r : AddressRow F) → P r → Q r) → (i : ℕ) (rows : List (AddressRow F)) → All P rows → All Q (partly H i rows)
   all-partly P Q f g zero [] p = tt
   all-partly P Q f g zero (r ∷ rs) p = (g r (p .0), all-partly P Q f g zero rs (p .1))
@@ -60,7 +60,7 @@ module _ {F X : Type 0} (H : Hashing F X) where
   partly-clean (suc i) (r ∷ rs) p =
       let e : (r .dirty && false) ≡ r .dirty = rw (p .0) refl in
       let t = partly-clean i rs (p .1) in
-      λ j. record { address = r .address; fingerprint = r .fingerprint; dirty = e j } ∷ t j
+      λ j. record { address = r .address; fingerprint = r .fingerprint; dirty = e j; seat = r .seat } ∷ t j
 
   -- what is counted and what is left dirty
   pub parts-sum : (i : ℕ) (rows : List (AddressRow F)) → dirtyRows H (take i rows) + dirtyRows H (partly H i rows) ≡ dirtyRows H rows

@@ -12,7 +12,7 @@ use lib.Seq.{ext-getD}
 use borrow.Author.Tests.{not-false}
 use Rattle.paper.specs.Cache.{Numbers, Hashing, AddressRow, BlockRow, Box, BlockRows, held, rowOf, withoutAddress, known, cached, blockOf, copied, Call}
 use Rattle.paper.specs.Cache.{read, through, back, invalidate, look, flush, Within, onDisk, rowWithBlock, ifCached, answer, readAs, writeThrough}
-use Rattle.paper.specs.Cache.{dirtied, backRequest, writeBack, dropped, writeInvalidate, lookAs, flushed, reach, partly, cleanTo, serve, fresh, freed}
+use Rattle.paper.specs.Cache.{seatIn, dirtied, backRequest, writeBack, dropped, writeInvalidate, lookAs, flushed, reach, partly, cleanTo, serve, fresh, freed}
 use Rattle.paper.specs.KeyedLaws.{by-test, either, clash, or-both, or-false-left, or-false-right, and-left, eqb→≡, eqb-swap, All, Distinct}
 use Rattle.paper.specs.KeyedLaws.{all-left, all-right, all-map, all-without, all-both, find-some, find-none}
 use Rattle.paper.specs.Machines.{plainNext, plainBlock, writtenBy}
@@ -142,7 +142,7 @@ module _ {F X : Type 0} (H : Hashing F X) (In : X → Type 0) (only : (b c : X) 
       let c = ifCached-some H (s .used) (rowOf a (s .rows)) r e in
       let y = find-some eqb (λ r. r .address) (RowTrue H In plain) a (s .rows) r (c .0) (f .rowsTrue) in
       let pin : In (at H plain a) = all-at In plain a (H .blank) (f .plainIn) (subst (λ n. a < n) (sym (f .plainLength)) w) in (
-        faithful-step H In only N plain s (record { address = a; fingerprint = r .fingerprint; block = b; dirty = r .dirty }) h
+        faithful-step H In only N plain s (record { address = a; fingerprint = r .fingerprint; block = b; dirty = r .dirty; seat = r .seat }) h
             (but H In a (N .P) plain s f) m1 d1 w
             (y .0 ∙ ap (H .hash) (ap (at H plain) (sym (eqb→≡ a (r .address) (y .1))) ∙ sym be)) (subst In (sym be) pin) be
             (λ k. f .current a (row-clean H a (s .rows) r (h .addresses) (c .0) k)),
@@ -152,7 +152,7 @@ module _ {F X : Type 0} (H : Hashing F X) (In : X → Type 0) (only : (b c : X) 
       let b = at H (s .disk) a in
       let be : b ≡ at H plain a = f .current a (miss-clean H N s a h e) in
       let pin : In (at H plain a) = all-at In plain a (H .blank) (f .plainIn) (subst (λ n. a < n) (sym (f .plainLength)) w) in (
-        faithful-step H In only N plain s (record { address = a; fingerprint = H .hash b; block = b; dirty = false }) h
+        faithful-step H In only N plain s (record { address = a; fingerprint = H .hash b; block = b; dirty = false; seat = seatIn (rowOf a (s .rows)) }) h
             (but H In a (N .P) plain s f) m1 d1 w refl (subst In (sym be) pin) be (λ k. be),
         ap {B = Option X} some be,
       )
@@ -249,11 +249,11 @@ module _ {F X : Type 0} (H : Hashing F X) (In : X → Type 0) (only : (b c : X) 
   unfolding serve writeThrough writeBack answer flushed writeInvalidate
   faithful-serve N plain s (read a) h f m1 d1 w i = faithful-readAs N plain s a (rowWithBlock H s a) refl h f m1 d1 w
   faithful-serve N plain s (look a) h f m1 d1 w i = faithful-lookAs N plain s a (rowWithBlock H s a) refl h f
-  faithful-serve N plain s (through a b) h f m1 d1 w i =
+  faithful-serve N plain s (through a b z) h f m1 d1 w i =
       let dl = subst (λ n. a < n) (sym (h .diskLength)) w in
       let pl = subst (λ n. a < n) (sym (f .plainLength)) w in
       let bs = but-set H In a (N .P) b plain s f (i .0) in (
-        faithful-step H In only N (set plain a b) (onDisk H s a b) (record { address = a; fingerprint = H .hash b; block = b; dirty = false })
+        faithful-step H In only N (set plain a b) (onDisk H s a b) (record { address = a; fingerprint = H .hash b; block = b; dirty = false; seat = z })
             (sound-onDisk H N s a b h)
             (record {
               rowsTrue = bs .rowsTrue;
@@ -265,14 +265,14 @@ module _ {F X : Type 0} (H : Hashing F X) (In : X → Type 0) (only : (b c : X) 
             m1 d1 w refl (i .0) (sym (at-set-same H plain a b pl)) (λ k. at-set-same H (s .disk) a b dl ∙ sym (at-set-same H plain a b pl)),
         refl,
       )
-  faithful-serve N plain s (back a b) h f m1 d1 w i =
+  faithful-serve N plain s (back a b z) h f m1 d1 w i =
       let pl = subst (λ n. a < n) (sym (f .plainLength)) w in (
-        faithful-step H In only N (set plain a b) s (backRequest H s a b) h (but-set H In a (N .P) b plain s f (i .0))
+        faithful-step H In only N (set plain a b) s (backRequest H s a b z) h (but-set H In a (N .P) b plain s f (i .0))
             m1 d1 w refl (i .0) (sym (at-set-same H plain a b pl))
             (λ k. still-clean N plain s a b (rowOf a (s .rows)) refl h f (i .0) w k ∙ sym (at-set-same H plain a b pl)),
         refl,
       )
-  faithful-serve N plain s (invalidate a b) h f m1 d1 w i = (faithful-invalidate N plain s a b h f (i .0) w, refl)
+  faithful-serve N plain s (invalidate a b z) h f m1 d1 w i = (faithful-invalidate N plain s a b h f (i .0) w, refl)
   faithful-serve N plain s (flush k) h f m1 d1 w i = (faithful-cleanTo N plain s (reach H k (s .rows)) h f, refl)
 
 -- an event whose call is served has an address of the disk's

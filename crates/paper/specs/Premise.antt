@@ -36,7 +36,7 @@ memory = record { n = 0; disk = filled 0; flash = filled 0; addresses = replicat
 
 -- a block filled with 1 is written back, read, and flushed
 abbrev asked : List Asking
-asked = one (Ask.back 0 (filled 1)) ∷ one (Ask.read 0 (filled 0)) ∷ one (Ask.flush 1) ∷ []
+asked = one (Ask.back 0 (filled 1) 0) ∷ one (Ask.read 0 (filled 0)) ∷ one (Ask.flush 1) ∷ []
 
 pub opens : refusal numbers memory opening ≡ 0
 unfolding refusal Lent.unfit Lent.wrongBuffers Unsound.elem
@@ -58,7 +58,7 @@ all-served = refl
 abbrev block : ℕ → Fixed 64
 block k = fit 64 (filled k)
 
-first-served : refusal numbers (opened numbers memory) (calling (Ask.back 0 (filled 1))) ≡ 0
+first-served : refusal numbers (opened numbers memory) (calling (Ask.back 0 (filled 1) 0)) ≡ 0
 unfolding refusals
 first-served = head-≡ all-served
 
@@ -71,7 +71,7 @@ unwritten t q qs e = rw e (by-test (eqb (refusal numbers t (calling q)) 0) (λ y
 written-is : written numbers (opened numbers memory) asked ≡ block 1 ∷ []
 unfolding written Lent.callOf
 written-is =
-    let t₁ = (call numbers (opened numbers memory) (Ask.back 0 (filled 1))) .lent in
+    let t₁ = (call numbers (opened numbers memory) (Ask.back 0 (filled 1) 0)) .lent in
     let t₂ = (call numbers t₁ (Ask.read 0 (filled 0))) .lent in
     rw first-served (ap {B = List (Fixed 64)} (λ l. block 1 ∷ l)
     (unwritten t₁ (Ask.read 0 (filled 0)) (one (Ask.flush 1) ∷ []) refl ∙ unwritten t₂ (Ask.flush 1) [] refl))

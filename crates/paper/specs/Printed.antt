@@ -13,7 +13,7 @@ use Rattle.tables.specs.Records.{slotsFrom}
 use Rattle.paper.specs.Keyed.{has, without}
 use Rattle.paper.specs.Cache.{Numbers, Hashing, AddressRow, BlockRow, Box, RowOut, BlockRows, Stepped, Outcome, newest, blockRow, held, rowOf}
 use Rattle.paper.specs.Cache.{withoutAddress, known, cached, withoutBlock, slotOf, blockOf, cleaned, copied, isLost, someUncached, read, rowWithBlock}
-use Rattle.paper.specs.Cache.{answer, readAs, serve, fresh, step, step1, step3, step4, oldestUnknown, stored, hit, miss}
+use Rattle.paper.specs.Cache.{Seat, seatIn, answer, readAs, serve, fresh, step, step1, step3, step4, oldestUnknown, stored, hit, miss}
 use Rattle.paper.specs.KeyedLaws.{by-test, either, by-option, clash, or-left, or-right, or-false-right, eqb→≡, same-sym-false, All, Distinct}
 use Rattle.paper.specs.KeyedLaws.{all-append, all-map, all-without, all-both, has-without-other, has-without, without-absent, has-snoc-cases}
 use Rattle.paper.specs.KeyedLaws.{has-snoc-left, has-snoc-self, find-some, find-none, has-append, find-has}
@@ -74,21 +74,21 @@ module _ {F X : Type 0} (H : Hashing F X) where
     pub sameDisk : s .disk ≡ disk
     pub nested : Nested (prints (s .used)) (order (H .same) (keys (s .rows)))
 
-  record ReadOut (content : ℕ → F) (m a : ℕ) (s : Box F X) (o : RowOut F X) : Type 0 where
-    addresses : map (λ r. r .address) (o .rows ++ (newest a (content a) false ∷ [])) ≡ put eqb m a (map (λ r. r .address) (s .rows))
+  record ReadOut (content : ℕ → F) (m a : ℕ) (z : Seat) (s : Box F X) (o : RowOut F X) : Type 0 where
+    addresses : map (λ r. r .address) (o .rows ++ (newest a (content a) false z ∷ [])) ≡ put eqb m a (map (λ r. r .address) (s .rows))
     clean : All (λ r. r .dirty ≡ false) (o .rows)
     contents : All (λ r. r .fingerprint ≡ content (r .address)) (o .rows)
     sameDisk : o .disk ≡ s .disk
     star : List F
     nested : Nested (prints (s .used)) star
-    orderIs : order (H .same) (keys (o .rows ++ (newest a (content a) false ∷ []))) ≡ without (H .same) (λ x. x) (content a) star ++ (content a ∷ [])
-    keeps : (q : F) → o .gone ≡ some q → cached H q (s .used) ≡ true → known H q (o .rows ++ (newest a (content a) false ∷ [])) ≡ false
+    orderIs : order (H .same) (keys (o .rows ++ (newest a (content a) false z ∷ []))) ≡ without (H .same) (λ x. x) (content a) star ++ (content a ∷ [])
+    keeps : (q : F) → o .gone ≡ some q → cached H q (s .used) ≡ true → known H q (o .rows ++ (newest a (content a) false z ∷ [])) ≡ false
         → someUncached H (o .rows) (s .used) ≡ true → ⊥
 
   pub cleaned-clean : (c : F → Bool) (rows : List (AddressRow F)) → All (λ r. r .dirty ≡ false) rows → cleaned H c rows ≡ rows
   cleaned-clean c [] p = refl
   cleaned-clean c (r ∷ rs) p =
-      ap₂ {C = List (AddressRow F)} (λ (b : Bool) l. record { address = r .address; fingerprint = r .fingerprint; dirty = b } ∷ l)
+      ap₂ {C = List (AddressRow F)} (λ (b : Bool) l. record { address = r .address; fingerprint = r .fingerprint; dirty = b; seat = r .seat } ∷ l)
       (ap (λ b. b && not (c (r .fingerprint))) (p .0) ∙ sym (p .0)) (cleaned-clean c rs (p .1))
 
   pub copied-clean : (c : F → Bool) (rows : List (AddressRow F)) (used : List (BlockRow F)) (flash disk : List X) → All (λ r. r .dirty ≡ false) rows
@@ -96,9 +96,9 @@ module _ {F X : Type 0} (H : Hashing F X) where
   copied-clean c [] used flash disk p = refl
   copied-clean c (r ∷ rs) used flash disk p = rw (p .0) (copied-clean c rs used flash disk (p .1))
 
-  order-newest : (a : ℕ) (g : F) (rows : List (AddressRow F))
-      → order (H .same) (keys (rows ++ (newest a g false ∷ []))) ≡ without (H .same) (λ x. x) g (order (H .same) (keys rows)) ++ (g ∷ [])
-  order-newest a g rows = ap (order (H .same)) (map-append (λ (r : AddressRow F). r .fingerprint) rows (newest a g false ∷ []))
+  order-newest : (a : ℕ) (g : F) (z : Seat) (rows : List (AddressRow F))
+      → order (H .same) (keys (rows ++ (newest a g false z ∷ []))) ≡ without (H .same) (λ x. x) g (order (H .same) (keys rows)) ++ (g ∷ [])
+  order-newest a g z rows = ap (order (H .same)) (map-append (λ (r : AddressRow F). r .fingerprint) rows (newest a g false z ∷ []))
       ∙ order-snoc (H .same) (H .same→≡) (H .same-refl) g (keys rows)
 
   -- where the blocks hold all the rows' fingerprints, no row is uncached
@@ -133,12 +133,12 @@ module _ {F X : Type 0} (H : Hashing F X) where
           clash (known-order q rs ∙ ap (has (H .same) (λ x. x) q) t ∙ has-append (H .same) (λ x. x) q O (prints used)
           ∙ or-right (has (H .same) (λ x. x) q O) (has (H .same) (λ x. x) q (prints used)) (sym (cached-prints q used) ∙ c)) n
 
-  read-eldest : (content : ℕ → F) (disk : List X) (m a : ℕ) (s : Box F X) → ReadInv content disk s → held a (s .rows) ≡ false
+  read-eldest : (content : ℕ → F) (disk : List X) (m a : ℕ) (z : Seat) (s : Box F X) → ReadInv content disk s → held a (s .rows) ≡ false
       → (r : AddressRow F) (rs : List (AddressRow F)) → s .rows ≡ r ∷ rs
-      → eqb (length (s .rows)) m ≡ true → ReadOut content m a s (eldestOut H s r rs)
+      → eqb (length (s .rows)) m ≡ true → ReadOut content m a z s (eldestOut H s r rs)
   unfolding put
-  read-eldest content disk m a s v e r rs p n =
-      let new = newest a (content a) false in
+  read-eldest content disk m a z s v e r rs p n =
+      let new = newest a (content a) false z in
       let q = r .fingerprint in
       let cl : All (λ r. r .dirty ≡ false) (r ∷ rs) = rw p at (v .clean) in
       let co : All (λ r. r .fingerprint ≡ content (r .address)) (r ∷ rs) = rw p at (v .contents) in
@@ -152,7 +152,7 @@ module _ {F X : Type 0} (H : Hashing F X) where
         sameDisk = copied-clean any (r ∷ []) (s .used) (s .flash) (s .disk) (cl .0, tt);
         star = order (H .same) (keys rs);
         nested = star-nested q (keys rs) (prints (s .used)) ne;
-        orderIs = order-newest a (content a) rs;
+        orderIs = order-newest a (content a) z rs;
         keeps = λ q′ y c k u.
             let qe = Option·some-injective q q′ y in
             let c′ : cached H q (s .used) ≡ true = rw (← qe) at c in
@@ -166,12 +166,12 @@ module _ {F X : Type 0} (H : Hashing F X) where
       star-nested q l D = by-test (has (H .same) (λ x. x) q l) (λ z. rw z (λ y. y))
           (λ z. rw z (λ y. nested-swap (order (H .same) l) D (nested-tail q (order (H .same) l) D (nested-swap D (q ∷ order (H .same) l) y))))
 
-  read-step1 : (content : ℕ → F) (disk : List X) (N : Numbers) (s : Box F X) (a : ℕ) → Sound H N s → ReadInv content disk s → 1 ≤ N .m
-      → ReadOut content (N .m) a s (step1 H (N .m) s a)
+  read-step1 : (content : ℕ → F) (disk : List X) (N : Numbers) (s : Box F X) (a : ℕ) (z : Seat) → Sound H N s → ReadInv content disk s → 1 ≤ N .m
+      → ReadOut content (N .m) a z s (step1 H (N .m) s a)
   unfolding put
-  read-step1 content disk N s a h v m1 =
-      let new = newest a (content a) false in
-      by-step1 H (N .m) s a (ReadOut content (N .m) a s)
+  read-step1 content disk N s a z h v m1 =
+      let new = newest a (content a) false z in
+      by-step1 H (N .m) s a (ReadOut content (N .m) a z s)
       (λ e. record {
         addresses = map-append (λ (r : AddressRow F). r .address) (withoutAddress a (s .rows)) (new ∷ [])
             ∙ rw (has-map eqb (λ (r : AddressRow F). r .address) a (s .rows) ∙ e, put)
@@ -181,17 +181,17 @@ module _ {F X : Type 0} (H : Hashing F X) where
         sameDisk = refl;
         star = order (H .same) (keys (s .rows));
         nested = v .nested;
-        orderIs = order-newest a (content a) (withoutAddress a (s .rows))
+        orderIs = order-newest a (content a) z (withoutAddress a (s .rows))
             ∙ ap (λ l. l ++ (content a ∷ [])) (order-out a (content a) (s .rows) (all-map (λ r. r .fingerprint ≡ content (r .address)) (Of a (content a))
             (λ r y z. y ∙ ap content (sym (eqb→≡ a (r .address) z))) (s .rows) (v .contents)));
         keeps = λ q p c n u. by-option (rowOf a (s .rows))
             (λ z. Option·none-ne-some q (rw z at p))
-            (λ r z. let y = find-some eqb (λ r. r .address) (λ r. r .fingerprint ≡ content (r .address)) a (s .rows) r z (v .contents) in
-            let qe : content a ≡ q = ap content (eqb→≡ a (r .address) (y .1)) ∙ sym (y .0) ∙ Option·some-injective (r .fingerprint) q (rw z at p) in
-            clash {b = known H (content a) (withoutAddress a (s .rows) ++ (newest a (content a) false ∷ []))}
+            (λ r i. let y = find-some eqb (λ r. r .address) (λ r. r .fingerprint ≡ content (r .address)) a (s .rows) r i (v .contents) in
+            let qe : content a ≡ q = ap content (eqb→≡ a (r .address) (y .1)) ∙ sym (y .0) ∙ Option·some-injective (r .fingerprint) q (rw i at p) in
+            clash {b = known H (content a) (withoutAddress a (s .rows) ++ (newest a (content a) false z ∷ []))}
             (has-snoc-self (H .same) (λ r. r .fingerprint) (H .same→≡) (H .same-refl) (withoutAddress a (s .rows)) new) (rw (← qe) at n));
       })
-      (λ e r rs p n. read-eldest content disk (N .m) a s v e r rs p n)
+      (λ e r rs p n. read-eldest content disk (N .m) a z s v e r rs p n)
       (λ e p. record {
         addresses = map-append (λ (r : AddressRow F). r .address) (s .rows) (new ∷ [])
             ∙ rw (has-map eqb (λ (r : AddressRow F). r .address) a (s .rows) ∙ e, put)
@@ -203,7 +203,7 @@ module _ {F X : Type 0} (H : Hashing F X) where
         sameDisk = refl;
         star = order (H .same) (keys (s .rows));
         nested = v .nested;
-        orderIs = order-newest a (content a) (s .rows);
+        orderIs = order-newest a (content a) z (s .rows);
         keeps = λ q y c n u. Option·none-ne-some q y;
       })
 
@@ -329,17 +329,18 @@ module _ {F X : Type 0} (H : Hashing F X) where
           }
 
   -- the step of a read
-  read-step : (content : ℕ → F) (disk : List X) (N : Numbers) (s : Box F X) (a : ℕ) (b : X) → Sound H N s → ReadInv content disk s → 1 ≤ N .m → 1 ≤ N .d
-      → let t = step H (N .m) s (record { address = a; fingerprint = content a; block = b; dirty = false }) in
+  read-step : (content : ℕ → F) (disk : List X) (N : Numbers) (s : Box F X) (a : ℕ) (b : X) (z : Seat) → Sound H N s → ReadInv content disk s
+      → 1 ≤ N .m → 1 ≤ N .d
+      → let t = step H (N .m) s (record { address = a; fingerprint = content a; block = b; dirty = false; seat = z }) in
       (map (λ r. r .address) (t .box .rows) ≡ put eqb (N .m) a (map (λ r. r .address) (s .rows)))
       × (prints (t .box .used) ≡ put (H .same) (N .d) (content a) (prints (s .used))) × ReadInv content disk (t .box)
   unfolding step
-  read-step content disk N s a b h v m1 d1 =
+  read-step content disk N s a b z h v m1 d1 =
       let o = step1 H (N .m) s a in
       let g = content a in
-      let new = newest a g false in
+      let new = newest a g false z in
       let rows = o .rows ++ (new ∷ []) in
-      let out = read-step1 content disk N s a h v m1 in
+      let out = read-step1 content disk N s a z h v m1 in
       let bs : BlockRows F = record { free = s .free; used = s .used } in
       let keep : step3 H (o .gone) (o .rows) rows bs ≡ bs
       = by-step3 H (o .gone) (o .rows) rows bs (λ t. t ≡ bs) (λ q p c n u. absurd (out .keeps q p c n u)) (λ q p w. refl) (λ p. refl) in
@@ -386,20 +387,21 @@ module _ {F X : Type 0} (H : Hashing F X) where
       ∙ find-has eqb (λ (r : AddressRow F). r .address) a (s .rows) r (c .0) in
       let hc : has (H .same) (λ x. x) (contentOf H disk a) (prints (s .used)) ≡ true
       = has-map (H .same) (λ (u : BlockRow F). u .fingerprint) (contentOf H disk a) (s .used) ∙ (rw ge at (c .1)) in
-      let t = read-step (contentOf H disk) disk N s a b h v m1 d1 in
-      let re : step H (N .m) s (record { address = a; fingerprint = contentOf H disk a; block = b; dirty = false })
-      ≡ step H (N .m) s (record { address = a; fingerprint = r .fingerprint; block = b; dirty = r .dirty })
-      = ap₂ (λ f w. step H (N .m) s (record { address = a; fingerprint = f; block = b; dirty = w })) (sym ge) (sym (y .0 .1)) in
+      let t = read-step (contentOf H disk) disk N s a b (r .seat) h v m1 d1 in
+      let re : step H (N .m) s (record { address = a; fingerprint = contentOf H disk a; block = b; dirty = false; seat = r .seat })
+      ≡ step H (N .m) s (record { address = a; fingerprint = r .fingerprint; block = b; dirty = r .dirty; seat = r .seat })
+      = ap₂ (λ f w. step H (N .m) s (record { address = a; fingerprint = f; block = b; dirty = w; seat = r .seat })) (sym ge) (sym (y .0 .1)) in
       subst (λ u. (viewed (u .box) ≡ printedNext (H .same) (N .m) (N .d) (contentOf H disk) (viewed s) a)
       × (hit ≡ cond (printedHit (H .same) (contentOf H disk) (viewed s) a) hit miss) × ReadInv (contentOf H disk) disk (u .box)) re
       (ap₂ {C = Printed F} (λ x z. record { addresses = x; fingerprints = z }) (t .0) (t .1), rw (ha, hc) refl, t .2)
   read-same disk N s a none e h v m1 d1 =
       let b = at H (s .disk) a in
+      let z = seatIn (rowOf a (s .rows)) in
       let ge : contentOf H disk a ≡ H .hash b = ap (λ l. H .hash (at H l a)) (sym (v .sameDisk)) in
-      let t = read-step (contentOf H disk) disk N s a b h v m1 d1 in
-      let re : step H (N .m) s (record { address = a; fingerprint = contentOf H disk a; block = b; dirty = false })
-      ≡ step H (N .m) s (record { address = a; fingerprint = H .hash b; block = b; dirty = false })
-      = ap (λ f. step H (N .m) s (record { address = a; fingerprint = f; block = b; dirty = false })) ge in
+      let t = read-step (contentOf H disk) disk N s a b z h v m1 d1 in
+      let re : step H (N .m) s (record { address = a; fingerprint = contentOf H disk a; block = b; dirty = false; seat = z })
+      ≡ step H (N .m) s (record { address = a; fingerprint = H .hash b; block = b; dirty = false; seat = z })
+      = ap (λ f. step H (N .m) s (record { address = a; fingerprint = f; block = b; dirty = false; seat = z })) ge in
       let nh : printedHit (H .same) (contentOf H disk) (viewed s) a ≡ false
       = either (ifCached-none H (s .used) (rowOf a (s .rows)) e)
       (λ n. rw (has-map eqb (λ (r : AddressRow F). r .address) a (s .rows) ∙ find-none eqb (λ (r : AddressRow F). r .address) a (s .rows) n) refl)

@@ -66,9 +66,9 @@ module _ {F X : Type 0} (H : Hashing F X) where
     quiet-call (flush k) r es s n w h v ih
         = by-test r (λ e. rw e (ih s h v))
         (λ e. rw e (subst (λ x. traceOf H N x es ≡ cacheTrace H N s (readsOf es)) (sym (flush-same N k disk s v)) (ih s h v)))
-    quiet-call (through a b) r es s n w h v ih = absurd (Option·some-ne-none b n)
-    quiet-call (back a b) r es s n w h v ih = absurd (Option·some-ne-none b n)
-    quiet-call (invalidate a b) r es s n w h v ih = absurd (Option·some-ne-none b n)
+    quiet-call (through a b z) r es s n w h v ih = absurd (Option·some-ne-none b n)
+    quiet-call (back a b z) r es s n w h v ih = absurd (Option·some-ne-none b n)
+    quiet-call (invalidate a b z) r es s n w h v ih = absurd (Option·some-ne-none b n)
 
     quiet : (es : List (Event X)) → All (λ e. NoWrite (e .call)) es → All (ServedWithin (N .P)) es → Same es
     unfolding traceOf cacheTrace

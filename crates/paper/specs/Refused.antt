@@ -56,9 +56,13 @@ one = replicate 32 1
 abbrev pub two : List ℕ
 two = replicate 32 2
 
+-- an address row, which the seat 0x0807 wrote
+abbrev row : ℕ → List ℕ → ℕ → AddressRow
+row a g x = addressRow a g x (7, 8)
+
 -- Sound tables: address 1 is held and dirty, its block is in slot 0, and slot 1 is free.
 abbrev pub rows : List ℕ
-rows = addressTable 2 (addressRow 1 one 1 ∷ [])
+rows = addressTable 2 (row 1 one 1 ∷ [])
 
 abbrev pub blocks : List ℕ
 blocks = blockTable (freeRow 1 ∷ blockRow one 0 1 ∷ [])
@@ -97,13 +101,13 @@ abbrev reading : ℕ → Asked
 reading a = calling (Ask.read a (filled 5))
 
 abbrev writing : ℕ → Asked
-writing a = calling (Ask.through a (filled 5))
+writing a = calling (Ask.through a (filled 5) 9)
 
 abbrev backing : ℕ → Asked
-backing a = calling (Ask.back a (filled 5))
+backing a = calling (Ask.back a (filled 5) 9)
 
 abbrev invalidating : ℕ → Asked
-invalidating a = calling (Ask.invalidate a (filled 5))
+invalidating a = calling (Ask.invalidate a (filled 5) 9)
 
 abbrev looking : ℕ → Asked
 looking a = calling (Ask.look a)
@@ -172,32 +176,33 @@ addresses q = asks (q 0) sound 0 ∷ asks (q 1) sound 0 ∷ asks (q 2) sound 3 �
 -- 6. Sound are: two rows held of two, none held, an address held without its block.
 abbrev addressTables : Asked → List Case
 addressTables q =
-    asks q (held 2 (addressRow 1 one 1 ∷ addressRow 0 two 0 ∷ [])) 0
+    asks q (held 2 (row 1 one 1 ∷ row 0 two 0 ∷ [])) 0
     ∷ asks q (held 0 []) 0
     -- "n above m"
-    ∷ record { numbers = numbers 64 2 1 2; lent = memory 2 (addressTable 1 (addressRow 1 one 1 ∷ [])) blocks noCounts; asked = q; number = 6 }
+    ∷ record { numbers = numbers 64 2 1 2; lent = memory 2 (addressTable 1 (row 1 one 1 ∷ [])) blocks noCounts; asked = q; number = 6 }
     -- "a held address ≥ P", by its first byte and by its second
-    ∷ asks q (held 1 (addressRow 2 one 1 ∷ [])) 6
-    ∷ asks q (held 1 (addressRow 256 one 1 ∷ [])) 6
+    ∷ asks q (held 1 (row 2 one 1 ∷ [])) 6
+    ∷ asks q (held 1 (row 256 one 1 ∷ [])) 6
     -- "or held twice"
-    ∷ asks q (held 2 (addressRow 1 one 1 ∷ addressRow 1 one 1 ∷ [])) 6
+    ∷ asks q (held 2 (row 1 one 1 ∷ row 1 one 1 ∷ [])) 6
     -- "dirty byte above 1"
-    ∷ asks q (held 1 (addressRow 1 one 2 ∷ [])) 6
-    -- "nonzero padding"
-    ∷ asks q (addressByte (paddingByte 0 0) 1) 6
-    ∷ asks q (addressByte (paddingByte 0 1) 1) 6
+    ∷ asks q (held 1 (row 1 one 2 ∷ [])) 6
+    -- U7: "In a held row refusal 6 now wants only the last padding byte zero."
+    ∷ asks q (addressByte (paddingByte 0 0) 1) 0
+    ∷ asks q (addressByte (paddingByte 0 1) 1) 0
     ∷ asks q (addressByte (paddingByte 0 2) 1) 6
-    -- "a row from n on not zero": its first byte, its last byte, a whole row
+    -- "a row from n on not zero": its first byte, a byte of its seat, its last byte, a whole row
     ∷ asks q (addressByte (tableBytes 1) 1) 6
+    ∷ asks q (addressByte (paddingByte 1 0) 1) 6
     ∷ asks q (addressByte (tableBytes 2 - 1) 1) 6
-    ∷ asks q (held 0 (addressRow 1 one 1 ∷ [])) 6
+    ∷ asks q (held 0 (row 1 one 1 ∷ [])) 6
     ∷ []
 
 -- 7. Sound are: both rows used, and a used fingerprint of all zeros, which the dirty row has.
 abbrev blockTables : Asked → List Case
 blockTables q =
     asks q (cached (blockRow two 1 1 ∷ blockRow one 0 1 ∷ [])) 0
-    ∷ asks q (memory 1 (addressTable 2 (addressRow 1 nought 1 ∷ [])) (blockTable (freeRow 1 ∷ blockRow nought 0 1 ∷ [])) noCounts) 0
+    ∷ asks q (memory 1 (addressTable 2 (row 1 nought 1 ∷ [])) (blockTable (freeRow 1 ∷ blockRow nought 0 1 ∷ [])) noCounts) 0
     -- "a free row after a used one"
     ∷ asks q (cached (blockRow one 0 1 ∷ freeRow 1 ∷ [])) 7
     -- "used byte above 1"
@@ -221,10 +226,10 @@ blockTables q =
 -- 8. A clean row's fingerprint need not be cached. The fingerprint of a free row is not: it is all zeros.
 abbrev dirtyRows : Asked → List Case
 dirtyRows q =
-    asks q (held 1 (addressRow 1 two 0 ∷ [])) 0
-    ∷ asks q (held 1 (addressRow 1 two 1 ∷ [])) 8
-    ∷ asks q (held 2 (addressRow 1 one 1 ∷ addressRow 0 two 1 ∷ [])) 8
-    ∷ asks q (held 1 (addressRow 1 nought 1 ∷ [])) 8
+    asks q (held 1 (row 1 two 0 ∷ [])) 0
+    ∷ asks q (held 1 (row 1 two 1 ∷ [])) 8
+    ∷ asks q (held 2 (row 1 one 1 ∷ row 0 two 1 ∷ [])) 8
+    ∷ asks q (held 1 (row 1 nought 1 ∷ [])) 8
     ∷ []
 
 -- 9. "a counter above 2 to the power 63": each at 2^63, then one of them one above it. "look no 9": the number is then 0.
@@ -243,7 +248,7 @@ worst disk rs bs k = cut disk 128 80 80 (memory 1 rs bs k)
 
 abbrev order : (ℕ → Asked) → (n₁ n₂ n₃ n₆ n₇ n₈ n₉ served : ℕ) → List Case
 order q n₁ n₂ n₃ n₆ n₇ n₈ n₉ served =
-    let uncached = addressTable 2 (addressRow 1 two 1 ∷ []) in
+    let uncached = addressTable 2 (row 1 two 1 ∷ []) in
     let much = counters (2 ^ 63 + 1) 0 0 0 in
     record { numbers = numbers 32 2 2 2; lent = worst 127 (set uncached (paddingByte 0 2) 1) (set blocks (paddingByte 0 2) 1) much; asked = q 2; number = n₁ }
     ∷ asks (q 2) (worst 127 (set uncached (paddingByte 0 2) 1) (set blocks (paddingByte 0 2) 1) much) n₂
@@ -279,9 +284,9 @@ table =
     ++ labels flushing
     ++ labels starting
     ++ blockLengths (Ask.read 1)
-    ++ blockLengths (Ask.through 1)
-    ++ blockLengths (Ask.back 1)
-    ++ blockLengths (Ask.invalidate 1)
+    ++ blockLengths (λ l. Ask.through 1 l 9)
+    ++ blockLengths (λ l. Ask.back 1 l 9)
+    ++ blockLengths (λ l. Ask.invalidate 1 l 9)
     ++ addresses reading
     ++ addresses writing
     ++ addresses backing
@@ -359,9 +364,9 @@ abbrev pub keptCalls : List Called
 keptCalls =
     keeps small sound (Ask.read 2 (filled 5)) 3 (some (filled 5))
     ∷ keeps small sound (Ask.read 1 (replicate 63 5)) 2 (some (replicate 63 5))
-    ∷ keeps small (counting 0 0 0 (2 ^ 63 + 1)) (Ask.through 1 (filled 5)) 9 (some (filled 5))
-    ∷ keeps small (held 1 (addressRow 1 two 1 ∷ [])) (Ask.back 1 (filled 5)) 8 (some (filled 5))
-    ∷ keeps (numbers 32 2 2 2) sound (Ask.invalidate 1 (filled 5)) 1 (some (filled 5))
+    ∷ keeps small (counting 0 0 0 (2 ^ 63 + 1)) (Ask.through 1 (filled 5) 9) 9 (some (filled 5))
+    ∷ keeps small (held 1 (row 1 two 1 ∷ [])) (Ask.back 1 (filled 5) 9) 8 (some (filled 5))
+    ∷ keeps (numbers 32 2 2 2) sound (Ask.invalidate 1 (filled 5) 9) 1 (some (filled 5))
     ∷ keeps small (blockByte (paddingByte 0 2) 1) (Ask.look 1) 7 none
     ∷ keeps small (memory 3 rows blocks noCounts) (Ask.flush 3) 6 none
     ∷ []
@@ -385,7 +390,7 @@ servedCalls =
       n = 1;
       disk = filled 6 ++ filled 8;
       flash = filled 8 ++ filled 9;
-      addresses = addressTable 2 (addressRow 1 one 0 ∷ []);
+      addresses = addressTable 2 (row 1 one 0 ∷ []);
       blocks = blocks;
       counters = counters 0 0 0 1;
     })

@@ -12,7 +12,7 @@ use Rattle.tables.specs.Records as Table
 use Rattle.tables.specs.Records.{readAddress, readBlock, slotsFrom}
 use Rattle.tables.specs.Find.{all, every, findFrom, absent, same, caches, isUsed}
 use Rattle.tables.specs.Unsound.{elem, addressesUnsound, blocksUnsound}
-use Rattle.tables.specs.Sound.{distinct, tailOk, addressOk, isZero, soundAddresses, rowAddress, rowSlot}
+use Rattle.tables.specs.Sound.{distinct, tailOk, seatedTail, addressOk, isZero, soundAddresses, rowAddress, rowSlot}
 use Rattle.tables.specs.Index.{unique, rowOk, dirtyOk}
 use Rattle.table_laws.specs.Written.{address-print-length, block-print-length}
 use Rattle.tables.specs.OperationLaws.{Wide}
@@ -57,7 +57,7 @@ pub addresses-below : (P : ℕ) (rs : List (List ℕ)) → all (addressOk P) rs 
 unfolding all
 addresses-below P [] e = tt
 addresses-below P (r ∷ rs) e = (
-  ltb-true (rowAddress r) P (and-left (ltb (rowAddress r) P) (tailOk r) (and-left (addressOk P r) (all (addressOk P) rs) e)),
+  ltb-true (rowAddress r) P (and-left (ltb (rowAddress r) P) (seatedTail r) (and-left (addressOk P r) (all (addressOk P) rs) e)),
   addresses-below P rs (and-right (addressOk P r) (all (addressOk P) rs) e),
 )
 

@@ -9,7 +9,7 @@ use lib.Dec.{eqb}
 use lib.ListN.{replicate}
 use Rattle.tables.specs.Records.{slotsFrom}
 use Rattle.paper.specs.KeyedLaws.{eqb→≡, eqb-self}
-use Rattle.paper.specs.Cache.{Numbers, Hashing, AddressRow, Box, Outcome, newest, Call, about, before, read, through, back, invalidate, look, flush, Word}
+use Rattle.paper.specs.Cache.{Numbers, Hashing, AddressRow, Box, Outcome, newest, Call, about, before, read, look, flush, Word}
 use Rattle.paper.specs.Cache.{hit}
 use Rattle.paper.specs.Cache.{miss, sameBlock, newBlock, fromCache, fromDisk, done, fresh, serve, Counters, noCounts, counted}
 use Rattle.paper.specs.Cache.{step, step1, step3, step4, oldestOut, freed, oldestUnknown, victim, takenUsed, taken}
@@ -33,12 +33,22 @@ pub data Row : Type 0 where
   freeIn : ℕ → Row
   blockIn : ℕ → ℕ → Row
 
--- A held row: address and content, clean or dirty
+-- A held row: address and content, clean or dirty, last written by no seat or by seat 0
 abbrev clean : ℕ → ℕ → AddressRow ℕ
-clean a k = newest a k false
+clean a k = newest a k false (0, 0)
 
 abbrev dirty : ℕ → ℕ → AddressRow ℕ
-dirty a k = newest a k true
+dirty a k = newest a k true (0, 0)
+
+-- The writes of a replay carry 0.
+abbrev through : ℕ → ℕ → Call ℕ
+through a k = Call.through a k (0, 0)
+
+abbrev back : ℕ → ℕ → Call ℕ
+back a k = Call.back a k (0, 0)
+
+abbrev invalidate : ℕ → ℕ → Call ℕ
+invalidate a k = Call.invalidate a k (0, 0)
 
 abbrev counters : ℕ → ℕ → ℕ → ℕ → Counters
 counters r h f p = record { reads = r; hits = h; flashWrites = f; primaryWrites = p }
@@ -411,6 +421,36 @@ more =
       disk = slotsFrom 0 8;
       counters = counters 1 0 2 0;
     })
+    -- U7: a write sets the seat, also one that leaves a clean row clean; a read hit, and cleaning, keep it; invalidate takes the row out.
+    ∷ example 3 3 (record {
+      said = says (Call.back 0 9 (1, 2)) newBlock 1 0 ∷ says (Call.through 1 5 (3, 4)) newBlock 1 1 ∷ says (Call.back 1 5 (5, 6)) sameBlock 0 0
+          ∷ says (Call.back 2 5 (7, 8)) sameBlock 0 0 ∷ says (Call.invalidate 2 6 (9, 9)) newBlock 0 1 ∷ says (read 0) hit 0 0 ∷ says (flush 3) done 0 1 ∷ [];
+      returned = 9 ∷ [];
+      rows = newest 1 5 false (5, 6) ∷ newest 0 9 false (1, 2) ∷ [];
+      blocks = freeIn 2 ∷ blockIn 5 1 ∷ blockIn 9 0 ∷ [];
+      flash = 9 ∷ 5 ∷ 99 ∷ [];
+      disk = 9 ∷ 5 ∷ 6 ∷ 3 ∷ 4 ∷ 5 ∷ 6 ∷ 7 ∷ [];
+      counters = counters 1 1 2 3;
+    })
+    -- A miss of an address that is held without its block keeps the seat; an address that was evicted comes back with 0.
+    ∷ example 2 1 (record {
+      said = says (Call.through 0 9 (1, 2)) newBlock 1 1 ∷ says (Call.through 1 5 (3, 4)) newBlock 1 1 ∷ says (read 0) miss 1 0 ∷ [];
+      returned = 9 ∷ [];
+      rows = newest 1 5 false (3, 4) ∷ newest 0 9 false (1, 2) ∷ [];
+      blocks = blockIn 9 0 ∷ [];
+      flash = 9 ∷ [];
+      disk = 9 ∷ 5 ∷ 2 ∷ 3 ∷ 4 ∷ 5 ∷ 6 ∷ 7 ∷ [];
+      counters = counters 1 0 3 2;
+    })
+    ∷ example 1 1 (record {
+      said = says (Call.through 0 9 (1, 2)) newBlock 1 1 ∷ says (read 1) miss 1 0 ∷ says (read 0) miss 1 0 ∷ [];
+      returned = 1 ∷ 9 ∷ [];
+      rows = newest 0 9 false (0, 0) ∷ [];
+      blocks = blockIn 9 0 ∷ [];
+      flash = 9 ∷ [];
+      disk = 9 ∷ 1 ∷ 2 ∷ 3 ∷ 4 ∷ 5 ∷ 6 ∷ 7 ∷ [];
+      counters = counters 2 0 3 1;
+    })
     ∷ []
 
 pub further-states : map play more ≡ map (λ e. e .seen) more
@@ -430,9 +470,9 @@ abbrev letter : Call ℕ → Letter
 letter (read a) = R
 letter (look a) = L
 letter (flush k) = F
-letter (through a b) = T
-letter (back a b) = B
-letter (invalidate a b) = I
+letter (Call.through a b z) = T
+letter (Call.back a b z) = B
+letter (Call.invalidate a b z) = I
 
 abbrev prints : ℕ → List Said → Counters → List PrintedLine
 prints i [] k = counts (k .reads) (k .hits) (k .flashWrites) (k .primaryWrites) ∷ []

@@ -29,14 +29,14 @@ module _ {X : Type 0} (H : Hashing (Fixed 32) X) (c : Fixed 32 → Bool) where
   rows-yes : (l : List (AddressRow (Fixed 32))) (i : ℕ) (z : AddressRow (Fixed 32)) → i < length l → (getD l i z .dirty && c (getD l i z .fingerprint)) ≡ true
       → set (cleaned H c (take i l) ++ drop i l) i (clean (getD l i z)) ≡ cleaned H c (take (suc i) l) ++ drop (suc i) l
   rows-yes [] i z h e = absurd (omega arith)
-  rows-yes (r ∷ rs) zero z h e = ap (λ (d : Bool). newest (r .address) (r .fingerprint) d ∷ rs) (sym (and-yes (r .dirty) (c (r .fingerprint)) e))
-  rows-yes (r ∷ rs) (suc i) z h e = ap (λ (l : List (AddressRow (Fixed 32))). newest (r .address) (r .fingerprint) (r .dirty && not (c (r .fingerprint))) ∷ l) (rows-yes rs i z (le-of-suc-le-suc h) e)
+  rows-yes (r ∷ rs) zero z h e = ap (λ (d : Bool). newest (r .address) (r .fingerprint) d (r .seat) ∷ rs) (sym (and-yes (r .dirty) (c (r .fingerprint)) e))
+  rows-yes (r ∷ rs) (suc i) z h e = ap (λ (l : List (AddressRow (Fixed 32))). newest (r .address) (r .fingerprint) (r .dirty && not (c (r .fingerprint))) (r .seat) ∷ l) (rows-yes rs i z (le-of-suc-le-suc h) e)
 
   rows-no : (l : List (AddressRow (Fixed 32))) (i : ℕ) (z : AddressRow (Fixed 32)) → i < length l → (getD l i z .dirty && c (getD l i z .fingerprint)) ≡ false
       → cleaned H c (take i l) ++ drop i l ≡ cleaned H c (take (suc i) l) ++ drop (suc i) l
   rows-no [] i z h e = absurd (omega arith)
-  rows-no (r ∷ rs) zero z h e = ap (λ (d : Bool). newest (r .address) (r .fingerprint) d ∷ rs) (sym (and-no (r .dirty) (c (r .fingerprint)) e))
-  rows-no (r ∷ rs) (suc i) z h e = ap (λ (l : List (AddressRow (Fixed 32))). newest (r .address) (r .fingerprint) (r .dirty && not (c (r .fingerprint))) ∷ l) (rows-no rs i z (le-of-suc-le-suc h) e)
+  rows-no (r ∷ rs) zero z h e = ap (λ (d : Bool). newest (r .address) (r .fingerprint) d (r .seat) ∷ rs) (sym (and-no (r .dirty) (c (r .fingerprint)) e))
+  rows-no (r ∷ rs) (suc i) z h e = ap (λ (l : List (AddressRow (Fixed 32))). newest (r .address) (r .fingerprint) (r .dirty && not (c (r .fingerprint))) (r .seat) ∷ l) (rows-no rs i z (le-of-suc-le-suc h) e)
 
   row-part : (l : List (AddressRow (Fixed 32))) (i : ℕ) (z : AddressRow (Fixed 32)) → i < length l → getD (cleaned H c (take i l) ++ drop i l) i z ≡ getD l i z
   row-part [] i z h = absurd (omega arith)

@@ -14,11 +14,11 @@ use Rattle.tables.specs.Find.{isDirty, isUsed}
 use Rattle.tables.specs.Operations.{rowOut, rowAdded, rowCleaned, rowNewest, rowFreed, rowFilled}
 use Rattle.tables.specs.SoundLaws.{map-at}
 use Rattle.tables.specs.ShiftLaws.{length-zeros}
-use Rattle.tables.specs.OperationLaws.{map-++, map-removeAt, map-set}
+use Rattle.tables.specs.OperationLaws.{addr-forth, map-++, map-removeAt, map-set}
 use Rattle.table_laws.specs.Written.{cleanRow, address-address, address-dirty, block-slot, held-at, held-out, held-added, held-cleaned, block-at}
 use Rattle.table_laws.specs.Written.{blocks-newest, blocks-freed, blocks-filled}
 use Rattle.paper.specs.KeyedLaws.{All}
-use Rattle.paper.specs.Cache.{AddressRow, BlockRow, newest, blockRow}
+use Rattle.paper.specs.Cache.{Seat, AddressRow, BlockRow, newest, blockRow}
 use Rattle.paper.specs.Engine.{Fixed}
 use Rattle.paper.specs.Lent.{bit, heldRow, usedRow}
 use Rattle.paper.specs.LentLaws.{bit-back, held-wide, table-wide, table-length, tableRows}
@@ -57,6 +57,13 @@ module _ (P m n : ℕ) (t : List ℕ) (l : List (AddressRow (Fixed 32))) (h : Ad
     dirty-is =
         ap isDirty row-is ∙ ap (λ (k : ℕ). eqb k 1) (address-dirty (heldRow (getD l i z)) (getD l i z .fingerprint .1)) ∙ bit-back (getD l i z .dirty)
 
+    pub seat-is : readAddress (rowAt t i) .seat ≡ getD l i z .seat
+    seat-is =
+        let r = getD l i z in
+        ap (λ (x : List ℕ). readAddress x .seat) row-is
+        ∙ ap (λ (x : R.AddressRow). x .seat)
+        (addr-forth (r .address) (r .fingerprint .0) (bit (r .dirty)) (r .seat) (omega (arith, h .small, address-below)) (r .fingerprint .1))
+
     pub fp-is : readAddress (rowAt t i) .fingerprint ≡ getD l i z .fingerprint .0
     fp-is = ap (λ (x : List ℕ). readAddress x .fingerprint) row-is ∙ fp-of (getD l i z)
 
@@ -74,11 +81,12 @@ module _ (P m n : ℕ) (t : List ℕ) (l : List (AddressRow (Fixed 32))) (h : Ad
         ∙ ap (addressTable m) (ap (λ (r : R.AddressRow). set (map heldRow l) i (cleanRow r)) held-row ∙ sym (map-set heldRow l i (clean (getD l i z))))
 
   -- push_address
-  pub pushed : n < m → (a : ℕ) (f : Fixed 32) (w : Bool) → rowAdded n (addressBytes (addressRow a (f .0) (bit w))) t ≡ addressesOf m (l ++ (newest a f w ∷ []))
+  pub pushed : n < m → (a : ℕ) (f : Fixed 32) (w : Bool) (z : Seat)
+      → rowAdded n (addressBytes (addressRow a (f .0) (bit w) z)) t ≡ addressesOf m (l ++ (newest a f w z ∷ []))
   unfolding addressesOf
-  pushed b a f w =
-      ap (rowAdded n (addressBytes (addressRow a (f .0) (bit w)))) (h .is) ∙ held-added m (map heldRow l) (held-wide l) n count b (heldRow (newest a f w))
-      ∙ ap (addressTable m) (sym (map-++ heldRow l (newest a f w ∷ [])))
+  pushed b a f w z =
+      ap (rowAdded n (addressBytes (addressRow a (f .0) (bit w) z))) (h .is) ∙ held-added m (map heldRow l) (held-wide l) n count b (heldRow (newest a f w z))
+      ∙ ap (addressTable m) (sym (map-++ heldRow l (newest a f w z ∷ [])))
 
 -- ---- block rows
 getD-right : {A : Type 0} (xs ys : List A) (k : ℕ) (e : A) → getD (xs ++ ys) (length xs + k) e ≡ getD ys k e

@@ -48,11 +48,11 @@ LentWith b disk flash addrs blocks g k = (s : Box (Fixed 32) (Fixed (b .size))) 
 
 -- a row that stands for none
 abbrev pub noRow : AddressRow (Fixed 32)
-noRow = newest 0 (fit 32 []) false
+noRow = newest 0 (fit 32 []) false (0, 0)
 
 -- a row made clean
 abbrev pub clean : AddressRow (Fixed 32) → AddressRow (Fixed 32)
-clean r = newest (r .address) (r .fingerprint) false
+clean r = newest (r .address) (r .fingerprint) false (r .seat)
 
 -- what a copy of dirty rows' blocks to the disk leaves
 pub record Copied : Type 0 where

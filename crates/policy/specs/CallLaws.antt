@@ -11,9 +11,10 @@ use borrow.Author.Tests.{leb-false, eqb-true, not-false}
 use Rattle.counters.specs.declared.Counters as Code
 use Rattle.counters.specs.Added.{added}
 use Rattle.paper.specs.KeyedLaws.{or-false-right}
-use Rattle.paper.specs.Cache.{Numbers, AddressRow, Box, Call, Outcome, Word, hit, miss, sameBlock, newBlock, Counters, counted, oneIf, isRead, isHit}
+use Rattle.paper.specs.Cache.{Seat, Numbers, AddressRow, Box, Call, Outcome, Word, hit, miss, sameBlock, newBlock, Counters, counted, oneIf, isRead, isHit}
 use Rattle.paper.specs.Cache.{answer, cached, serve, readAs, rowWithBlock, writeThrough, writeBack, writeInvalidate}
 use Rattle.paper.specs.Engine.{Fixed, fit, labelled}
+use Rattle.tables.specs.Records.{bytes2}
 use Rattle.paper.specs.Lent.{Lent, Ask, calling, refusal, callOf, boxIn, lentOf, served, answered, blockAfter, partAfter, wrongBuffers, wrongBlock}
 use Rattle.paper.specs.Lent.{lentBlock, outside, addressOf, counts, over}
 use Rattle.paper.specs.RowBytes.{Bytes}
@@ -182,12 +183,12 @@ module _ (N : Numbers) (s : Box (Fixed 32) (Fixed (N .B))) (a : ℕ) where
       go x none = refl
 
   -- a write's word is same or new
-  pub write-says : (kind : Write) (x : Fixed (N .B))
-      → (serve (labelled N) N s (writing kind a x)) .word ≡ cond (isYes ((serve (labelled N) N s (writing kind a x)) .word)) sameBlock newBlock
+  pub write-says : (kind : Write) (x : Fixed (N .B)) (z : Seat)
+      → (serve (labelled N) N s (writing kind a x z)) .word ≡ cond (isYes ((serve (labelled N) N s (writing kind a x z)) .word)) sameBlock newBlock
   unfolding serve writeThrough writeBack writeInvalidate answer
-  write-says Through x = or-new (cached (labelled N) (labelled N .hash x) (s .used))
-  write-says Back x = or-new (cached (labelled N) (labelled N .hash x) (s .used))
-  write-says Invalidate x = or-new (cached (labelled N) (labelled N .hash x) (s .used))
+  write-says Through x z = or-new (cached (labelled N) (labelled N .hash x) (s .used))
+  write-says Back x z = or-new (cached (labelled N) (labelled N .hash x) (s .used))
+  write-says Invalidate x z = or-new (cached (labelled N) (labelled N .hash x) (s .used))
 
 -- a word that is one of two, from what the code says of it
 pub said-is : (w u v : Word) (said : Bool) → w ≡ cond (isYes w) u v → said ≡ isYes w → cond said u v ≡ w
@@ -229,49 +230,49 @@ module _ (b : BoxRecord) (own : List ℕ) (o : Outcome (Fixed 32) (Fixed (b .siz
 -- ---- the writes
 
 -- what a write of any kind asks: an access with its address and its block, which it keeps; no read
-pub record AsksWrite (kind : Write) (B a : ℕ) (l : List ℕ) : Type 0 where
-  pub call : callOf B (askOf kind a l) ≡ writing kind a (fit B l)
-  pub refusal-is : (N : Numbers) (t : Lent) → refusal N t (calling (Ask.read a l)) ≡ refusal N t (calling (askOf kind a l))
-  pub address : addressOf (askOf kind a l) ≡ some a
-  pub block : lentBlock (askOf kind a l) ≡ some l
-  pub counted : (k : Counters) → over k ≡ counts (askOf kind a l) && over k
-  pub no-read : isRead (callOf B (askOf kind a l)) ≡ false
-  pub kept : (o : Option (Fixed B)) → some l ≡ blockAfter (askOf kind a l) o
-  pub no-part : (o : Option (Fixed B)) → partAfter (askOf kind a l) o ≡ []
+pub record AsksWrite (kind : Write) (B a z : ℕ) (l : List ℕ) : Type 0 where
+  pub call : callOf B (askOf kind a l z) ≡ writing kind a (fit B l) (bytes2 z)
+  pub refusal-is : (N : Numbers) (t : Lent) → refusal N t (calling (Ask.read a l)) ≡ refusal N t (calling (askOf kind a l z))
+  pub address : addressOf (askOf kind a l z) ≡ some a
+  pub block : lentBlock (askOf kind a l z) ≡ some l
+  pub counted : (k : Counters) → over k ≡ counts (askOf kind a l z) && over k
+  pub no-read : isRead (callOf B (askOf kind a l z)) ≡ false
+  pub kept : (o : Option (Fixed B)) → some l ≡ blockAfter (askOf kind a l z) o
+  pub no-part : (o : Option (Fixed B)) → partAfter (askOf kind a l z) o ≡ []
 
-pub asks-write : (kind : Write) (B a : ℕ) (l : List ℕ) → AsksWrite kind B a l
+pub asks-write : (kind : Write) (B a z : ℕ) (l : List ℕ) → AsksWrite kind B a z l
 unfolding callOf refusal
-asks-write Through B a l =
+asks-write Through B a z l =
     record { call = refl; refusal-is = λ N t. refl; address = refl; block = refl; counted = λ k. refl; no-read = refl; kept = λ o. refl; no-part = λ o. refl }
-asks-write Back B a l =
+asks-write Back B a z l =
     record { call = refl; refusal-is = λ N t. refl; address = refl; block = refl; counted = λ k. refl; no-read = refl; kept = λ o. refl; no-part = λ o. refl }
-asks-write Invalidate B a l =
+asks-write Invalidate B a z l =
     record { call = refl; refusal-is = λ N t. refl; address = refl; block = refl; counted = λ k. refl; no-read = refl; kept = λ o. refl; no-part = λ o. refl }
 
 -- a write, from what its steps leave
-module _ (b : BoxRecord) (disk flash addrs blocks : List ℕ) (c : Code.Counters) (kind : Write) (a : ℕ) (l : List ℕ)
-    (e : refusal (numbersOf b) (lent b disk flash addrs blocks (countersOf c)) (calling (askOf kind a l)) ≡ 0) where
+module _ (b : BoxRecord) (disk flash addrs blocks : List ℕ) (c : Code.Counters) (kind : Write) (a : ℕ) (l : List ℕ) (z : ℕ)
+    (e : refusal (numbersOf b) (lent b disk flash addrs blocks (countersOf c)) (calling (askOf kind a l z)) ≡ 0) where
   pub written : (w : CodeWord.Word) (r : CodeServed.Served) (disk′ flash′ addrs′ blocks′ : List ℕ)
       → left r disk′ flash′ addrs′ blocks′ l ≡ leaves b l (serve (engine b) (numbersOf b)
-      (boxIn (numbersOf b) (lent b disk flash addrs blocks (countersOf c))) (writing kind a (fit (b .size) l)))
+      (boxIn (numbersOf b) (lent b disk flash addrs blocks (countersOf c))) (writing kind a (fit (b .size) l) (bytes2 z)))
       → wordOf w ≡ cond (r .yes) sameBlock newBlock
       → told (record {
         answer = Answered w (r .flashed) (r .primary);
         box_record = withHeld b (r .held);
         counters = added c 0 0 (r .flashed) (r .primary);
       }) disk′ flash′ addrs′ blocks′ (some l)
-      ≡ called b (lent b disk flash addrs blocks (countersOf c)) (askOf kind a l)
+      ≡ called b (lent b disk flash addrs blocks (countersOf c)) (askOf kind a l z)
   written w r disk′ flash′ addrs′ blocks′ x ew =
-      let q = askOf kind a l in
+      let q = askOf kind a l z in
       let k = countersOf c in
       let o = outcome (numbersOf b) (lent b disk flash addrs blocks k) q in
-      let f = asks-write kind (b .size) a l in
+      let f = asks-write kind (b .size) a z l in
       let on : Call (Fixed (b .size)) → Outcome (Fixed 32) (Fixed (b .size))
       = serve (engine b) (numbersOf b) (boxIn (numbersOf b) (lent b disk flash addrs blocks k)) in
       let says : o .word ≡ cond (isYes (o .word)) sameBlock newBlock
-      = subst (λ (z : Call (Fixed (b .size))). (on z) .word ≡ cond (isYes ((on z) .word)) sameBlock newBlock) (sym (f .call))
-      (write-says (numbersOf b) (boxIn (numbersOf b) (lent b disk flash addrs blocks k)) a kind (fit (b .size) l)) in
-      let y : left r disk′ flash′ addrs′ blocks′ l ≡ leaves b l o = x ∙ ap (λ (z : Call (Fixed (b .size))). leaves b l (on z)) (sym (f .call)) in
+      = subst (λ (u : Call (Fixed (b .size))). (on u) .word ≡ cond (isYes ((on u) .word)) sameBlock newBlock) (sym (f .call))
+      (write-says (numbersOf b) (boxIn (numbersOf b) (lent b disk flash addrs blocks k)) a kind (fit (b .size) l) (bytes2 z)) in
+      let y : left r disk′ flash′ addrs′ blocks′ l ≡ leaves b l o = x ∙ ap (λ (u : Call (Fixed (b .size))). leaves b l (on u)) (sym (f .call)) in
       finish b disk flash addrs blocks k q e w (r .yes) (r .held) (r .flashed) (r .primary) 0 0 c l disk′ flash′ addrs′ blocks′ l (some l) refl y
       (ew ∙ said-is (o .word) sameBlock newBlock (r .yes) says (yes-of b l o y)) (sym (ap oneIf (f .no-read))) (no-hit (o .word) says)
       (f .kept (o .block)) (f .no-part (o .block))

@@ -56,10 +56,10 @@ abbrev pub called : BoxRecord → Lent → Ask → Told
 called b t q = record { numbers = numbersOf b; after = call (numbersOf b) t q }
 
 -- a write of each kind, as it is asked
-abbrev pub askOf : Write → ℕ → List ℕ → Ask
-askOf Through a l = Ask.through a l
-askOf Back a l = Ask.back a l
-askOf Invalidate a l = Ask.invalidate a l
+abbrev pub askOf : Write → ℕ → List ℕ → (seat : ℕ) → Ask
+askOf Through a l z = Ask.through a l z
+askOf Back a l z = Ask.back a l z
+askOf Invalidate a l z = Ask.invalidate a l z
 
 -- ---- a folder read
 

@@ -109,12 +109,13 @@ pub fn read(
     answered(b, read_word(s.yes), s, c, 1, one_if(s.yes))
 }
 
-// Write of any kind: through, the lent block goes to the disk and into the cache; back, into the cache, and to the disk later;
+// Write of any kind by a seat: through, the lent block goes to the disk and into the cache; back, into the cache, and to the disk later;
 // invalidate, to the disk, and its address out of the cache.
 pub fn write(
     kind: Write,
     b: BoxRecord,
     a: SourceAddress,
+    seat: u16,
     disk: &mut [u8],
     flash: &mut [u8],
     addresses: &mut [u8],
@@ -124,14 +125,25 @@ pub fn write(
 ) -> Outcome
     ensures { λ r. ⌜ told r (now (disk .exit)) (now (flash .exit)) (now (addresses .exit)) (now (blocks .exit)) (Option.some (now (block .entry)))
         ≡ called b (lent b (now (disk .entry)) (now (flash .entry)) (now (addresses .entry)) (now (blocks .entry)) (countersOf c))
-        (askOf kind (a .0) (now (block .entry))) ⌝ }
+        (askOf kind (a .0) (now (block .entry)) seat) ⌝ }
 {
     let mut heads = [0u16; index::ENTRIES];
     let number = refusals::of_access(b, a, disk, flash, addresses, blocks, c, block, &mut heads);
     if number != 0 {
         return refused(number, b, c);
     }
-    let s = serve::serve_write(kind, b, a, disk, flash, addresses, blocks, block, &heads);
+    let s = serve::serve_write(
+        kind,
+        b,
+        a,
+        seat,
+        disk,
+        flash,
+        addresses,
+        blocks,
+        block,
+        &heads,
+    );
     answered(b, write_word(s.yes), s, c, 0, 0)
 }
 

@@ -1,5 +1,6 @@
 // The refusals, in the documents' order.
 pub mod many;
+pub mod report;
 
 use checks::index;
 use parts::BoxRecord;

@@ -3,5 +3,3 @@ pub mod Chunks
 pub mod Reads
 -- what it prints is the replay of what it read
 pub mod ReadLaws
--- inputs beside their whole outputs, by computation on the definition
-pub mod Examples

@@ -10,7 +10,7 @@ use Rattle.parts.specs.declared.BoxRecord.{BoxRecord}
 use Rattle.serve.specs.declared.Served.{Served}
 use Rattle.serve.specs.declared.Write.{Write}
 use Rattle.serve.specs.declared.Write.the-variants.{Through, Back, Invalidate}
-use Rattle.paper.specs.Cache.{Box, Call, Outcome, Word, serve, hit, miss, sameBlock, newBlock, fromCache, fromDisk, done}
+use Rattle.paper.specs.Cache.{Seat, Box, Call, Outcome, Word, serve, hit, miss, sameBlock, newBlock, fromCache, fromDisk, done}
 use Rattle.paper.specs.Engine.{Fixed, comparing}
 use Prim.Native.Nat.{_+_, _<_, _≤_}
 use lib.Dec.{eqb}
@@ -67,10 +67,10 @@ left r disk flash addrs blocks block =
     }
 
 -- the paper's write of each kind
-abbrev pub writing : {B : ℕ} → Write → ℕ → Fixed B → Call (Fixed B)
-writing Through a x = Call.through a x
-writing Back a x = Call.back a x
-writing Invalidate a x = Call.invalidate a x
+abbrev pub writing : {B : ℕ} → Write → ℕ → Fixed B → Seat → Call (Fixed B)
+writing Through a x z = Call.through a x z
+writing Back a x z = Call.back a x z
+writing Invalidate a x z = Call.invalidate a x z
 
 unfoldable pub leaves : (b : BoxRecord) → List ℕ → Outcome (Fixed 32) (Fixed (b .size)) → Leaves
 leaves b lent o = record {
@@ -81,10 +81,10 @@ leaves b lent o = record {
 }
 
 -- a write leaves the bytes of the paper's write, of every sound box that the bytes before it are of
-abbrev pub Wrote : Write → (b : BoxRecord) → (a : ℕ) → (disk flash addrs blocks block : List ℕ) → Leaves → Type 0
-Wrote kind b a disk flash addrs blocks block l =
+abbrev pub Wrote : Write → (b : BoxRecord) → (a : ℕ) → Seat → (disk flash addrs blocks block : List ℕ) → Leaves → Type 0
+Wrote kind b a z disk flash addrs blocks block l =
     (s : Box (Fixed 32) (Fixed (b .size))) (x : Fixed (b .size)) → Rep b disk flash addrs blocks s → Sure b s → x .0 ≡ block
-    → l ≡ leaves b block (serve (engine b) (numbersOf b) s (writing kind a x))
+    → l ≡ leaves b block (serve (engine b) (numbersOf b) s (writing kind a x z))
 
 -- a is held in row i, and its fingerprint has the block row at j
 pub record HitAt (b : BoxRecord) (s : Box (Fixed 32) (Fixed (b .size))) (a i j : ℕ) : Type 0 where

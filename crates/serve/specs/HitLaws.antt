@@ -13,7 +13,7 @@ use Rattle.tables.specs.Operations.{rowOut, rowAdded, rowNewest}
 use Rattle.parts.specs.declared.BoxRecord.{BoxRecord}
 use Rattle.paper.specs.Keyed.{has}
 use Rattle.paper.specs.KeyedLaws.{All, by-test, eqb→≡}
-use Rattle.paper.specs.Cache.{AddressRow, BlockRow, Box, Stepped, newest, blockRow, held, known, cached, slotOf, withoutAddress}
+use Rattle.paper.specs.Cache.{Seat, AddressRow, BlockRow, Box, Stepped, newest, blockRow, held, known, cached, slotOf, withoutAddress}
 use Rattle.paper.specs.Cache.{withoutBlock, rowOf, step1, step3, step4, step}
 use Rattle.paper.specs.Sound.{sound-step1}
 use Rattle.paper.specs.Engine.{Fixed, comparing}
@@ -34,7 +34,7 @@ less-one : {A : Type 0} (l : List A) (i : ℕ) → i < length l → length (remo
 less-one l i h = simp (length-append, length-take, length-drop) (omega arith)
 
 module _ (b : BoxRecord) (disk flash addrs blocks : List ℕ) (s : Box (Fixed 32) (Fixed (b .size))) (h : Rep b disk flash addrs blocks s) (sd : Sure b s)
-    (m1 : 0 < b .rows) (a i j : ℕ) (q : HitAt b s a i j) (w : Bool) (x : Fixed (b .size)) where
+    (m1 : 0 < b .rows) (a i j : ℕ) (q : HitAt b s a i j) (w : Bool) (z : Seat) (x : Fixed (b .size)) where
   abbrev g : Fixed 32
   g = getD (s .rows) i noRow .fingerprint
 
@@ -56,15 +56,15 @@ module _ (b : BoxRecord) (disk flash addrs blocks : List ℕ) (s : Box (Fixed 32
   is-cached : cached (engine b) g (s .used) ≡ true
   is-cached = has-yes (comparing .same) (λ (u : BlockRow (Fixed 32)). u .fingerprint) g (s .used) block-below
 
-  is-known : known (engine b) g (withoutAddress a (s .rows) ++ (newest a g w ∷ [])) ≡ true
-  is-known = has-last (engine b .same) (λ (r : AddressRow (Fixed 32)). r .fingerprint) g (withoutAddress a (s .rows)) (newest a g w)
+  is-known : known (engine b) g (withoutAddress a (s .rows) ++ (newest a g w z ∷ [])) ≡ true
+  is-known = has-last (engine b .same) (λ (r : AddressRow (Fixed 32)). r .fingerprint) g (withoutAddress a (s .rows)) (newest a g w z)
       (engine b .same-refl g)
 
   abbrev stepped : Stepped (Fixed 32) (Fixed (b .size))
   stepped =
       record {
         box = record {
-          rows = withoutAddress a (s .rows) ++ (newest a g w ∷ []);
+          rows = withoutAddress a (s .rows) ++ (newest a g w z ∷ []);
           free = s .free;
           used = withoutBlock (engine b) g (s .used) ++ (blockRow g (slotOf (engine b) g (s .used)) ∷ []);
           flash = s .flash;
@@ -74,7 +74,7 @@ module _ (b : BoxRecord) (disk flash addrs blocks : List ℕ) (s : Box (Fixed 32
         primaryWrites = 0;
       }
 
-  pub hit-stepped : step (engine b) (b .rows) s (asks a g x w) ≡ stepped
+  pub hit-stepped : step (engine b) (b .rows) s (asks a g x w z) ≡ stepped
   unfolding step step1 step3 step4
   hit-stepped = rw (is-held, own-row, is-cached, is-known, is-cached) refl
 
@@ -93,21 +93,21 @@ module _ (b : BoxRecord) (disk flash addrs blocks : List ℕ) (s : Box (Fixed 32
         is = refl;
       }
 
-  pub hit-step : (addrs′ blocks′ : List ℕ) → addrs′ ≡ rowAdded (b .held - 1) (addressBytes (addressRow a (g .0) (bit w))) (rowOut (b .held) i addrs)
+  pub hit-step : (addrs′ blocks′ : List ℕ) → addrs′ ≡ rowAdded (b .held - 1) (addressBytes (addressRow a (g .0) (bit w) z)) (rowOut (b .held) i addrs)
       → blocks′ ≡ rowNewest (b .slots) j blocks
       → _≡_ {A = StepLeft} (record {
         held = b .held;
         left = (record { flashed = 0; primary = 0; disk = disk; flash = flash; addrs = addrs′; blocks = blocks′ });
-      }) (after b (step (engine b) (b .rows) s (asks a g x w)))
+      }) (after b (step (engine b) (b .rows) s (asks a g x w z)))
   unfolding after out4
   hit-step addrs′ blocks′ ea eb =
       let k : ℕ = indexWhere (λ (u : BlockRow (Fixed 32)). comparing .same g (u .fingerprint)) (s .used) in
-      let e1 : addrs′ ≡ addressesOf (b .rows) (withoutAddress a (s .rows) ++ (newest a g w ∷ []))
-      = ea ∙ ap (rowAdded (b .held - 1) (addressBytes (addressRow a (g .0) (bit w))))
+      let e1 : addrs′ ≡ addressesOf (b .rows) (withoutAddress a (s .rows) ++ (newest a g w z ∷ []))
+      = ea ∙ ap (rowAdded (b .held - 1) (addressBytes (addressRow a (g .0) (bit w) z)))
       (removed (b .blocks) (b .rows) (b .held) addrs (s .rows) (h .rows-are) i (q .is-held) noRow)
       ∙ pushed (b .blocks) (b .rows) (b .held - 1) (addressesOf (b .rows) (removeAt (s .rows) i)) (removeAt (s .rows) i) addrs-left
-      (omega (arith, q .is-held, h .rows-are .few)) a g w
-      ∙ ap (λ (l : List (AddressRow (Fixed 32))). addressesOf (b .rows) (l ++ (newest a g w ∷ []))) (sym rest) in
+      (omega (arith, q .is-held, h .rows-are .few)) a g w z
+      ∙ ap (λ (l : List (AddressRow (Fixed 32))). addressesOf (b .rows) (l ++ (newest a g w z ∷ []))) (sym rest) in
       let fe : getD (s .used) k noBlock .fingerprint ≡ g
       = sym (comparing .same→≡ g (getD (s .used) k noBlock .fingerprint)
       (index-holds (λ (u : BlockRow (Fixed 32)). comparing .same g (u .fingerprint)) (s .used) noBlock block-below)) in
@@ -119,9 +119,9 @@ module _ (b : BoxRecord) (disk flash addrs blocks : List ℕ) (s : Box (Fixed 32
       = eb ∙ ap (λ (n : ℕ). rowNewest (b .slots) n blocks) (q .place) ∙ renewed (b .slots) blocks (s .free) (s .used) (h .blocks-are) k block-below noBlock
       ∙ ap₂ {C = List ℕ} (λ u v. blocksOf (s .free) (u ++ (v ∷ []))) (sym wo) ue in
       let n : length (removeAt (s .rows) i) ≡ length (s .rows) - 1 = less-one (s .rows) i (omega (arith, q .is-held, h .rows-are .count)) in
-      let m : length (withoutAddress a (s .rows) ++ (newest a g w ∷ [])) ≡ length (removeAt (s .rows) i) + 1
-      = length-append (withoutAddress a (s .rows)) (newest a g w ∷ []) ∙ ap (λ (l : List (AddressRow (Fixed 32))). length l + 1) rest in
-      let e0 : b .held ≡ length (withoutAddress a (s .rows) ++ (newest a g w ∷ [])) = omega (arith, n, m, q .is-held, h .rows-are .count) in
+      let m : length (withoutAddress a (s .rows) ++ (newest a g w z ∷ [])) ≡ length (removeAt (s .rows) i) + 1
+      = length-append (withoutAddress a (s .rows)) (newest a g w z ∷ []) ∙ ap (λ (l : List (AddressRow (Fixed 32))). length l + 1) rest in
+      let e0 : b .held ≡ length (withoutAddress a (s .rows) ++ (newest a g w z ∷ [])) = omega (arith, n, m, q .is-held, h .rows-are .count) in
       _∙_ {A = StepLeft}
       (λ t. record {
         held = e0 t;

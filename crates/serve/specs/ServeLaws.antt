@@ -13,7 +13,7 @@ use Rattle.parts.specs.declared.BoxRecord.{BoxRecord}
 use Rattle.paper.specs.KeyedLaws.{by-test}
 use Rattle.paper.specs.Cache.{Numbers, AddressRow, BlockRow, Box, Call, Word, sameBlock, newBlock, Stepped, answer, cached, serve, writeBack, writeThrough}
 use Rattle.paper.specs.Cache.{writeInvalidate, flushed, reach, partly, dirtied, onDisk, withoutAddress, dropped, step, hit, miss, readAs, rowWithBlock}
-use Rattle.paper.specs.Cache.{rowOf, ifCached, blockOf}
+use Rattle.paper.specs.Cache.{Seat, seatIn, rowOf, ifCached, blockOf}
 use Rattle.paper.specs.Partly.{length-partly}
 use Rattle.paper.specs.Engine.{Fixed, labelled, comparing}
 use Rattle.paper.specs.Lent.{bit}
@@ -21,8 +21,9 @@ use Rattle.paper.specs.Index.{indexWhere, has-yes, has-no, find-yes, find-no}
 use Rattle.parts.specs.Rep.{numbersOf, noRow, Rep, Copied, copiedRows, partBox, engine}
 use Rattle.paper.specs.Layout.{Addrs, Blocks, addressesOf}
 use Rattle.tables.specs.Rows.{rowAt}
+use Rattle.tables.specs.Records.{readAddress}
 use Rattle.tables.specs.Find.{isDirty, hasFingerprint}
-use Rattle.parts.specs.MoveLaws.{row-is, dirty-is}
+use Rattle.parts.specs.MoveLaws.{row-is, dirty-is, seat-is}
 use Rattle.parts.specs.TableLaws.{has-fp}
 use Rattle.step.specs.Steps.{out4, StepLeft, after, asks, blockBytes}
 use Rattle.serve.specs.Calls.{isYes, returnedOr, Leaves, leaves, HitAt}
@@ -67,40 +68,50 @@ answer-is b lent w o more t y0 held flashed p q disk flash addrs blocks block e 
       block = eb j;
     }
 
--- the dirty value of a write back: no such row, a dirty row, the same fingerprint, another
-module _ (N : Numbers) (P m n : ℕ) (t : List ℕ) (l : List (AddressRow (Fixed 32))) (h : Addrs P m n t l) (a i : ℕ)
-    (ei : i ≡ indexWhere (λ x. eqb a (x .address)) l) (f : Fixed 32) (g : List ℕ) (ef : f .0 ≡ g) where
-  pub value-none : n ≤ i → 1 ≡ bit (dirtied (labelled N) f (rowOf a l))
-  value-none k =
-      let e : rowOf a l ≡ none = find-no eqb (λ (x : AddressRow (Fixed 32)). x .address) a l (omega (arith, ei, k, h .count)) in
-      rw e refl
+module _ (P m n : ℕ) (t : List ℕ) (l : List (AddressRow (Fixed 32))) (h : Addrs P m n t l) (a i : ℕ)
+    (ei : i ≡ indexWhere (λ x. eqb a (x .address)) l) where
+  no-row : n ≤ i → rowOf a l ≡ none
+  no-row k = find-no eqb (λ (x : AddressRow (Fixed 32)). x .address) a l (omega (arith, ei, k, h .count))
 
   row-here : i < n → rowOf a l ≡ some (getD l i noRow)
   row-here k =
       find-yes eqb (λ (x : AddressRow (Fixed 32)). x .address) a l noRow (omega (arith, ei, k, h .count)) ∙ ap (λ (j : ℕ). some (getD l j noRow)) (sym ei)
 
+  -- the seat of a read that misses: no such row, a row
+  pub seat-none : n ≤ i → (0, 0) ≡ seatIn (rowOf a l)
+  seat-none k = rw (no-row k) refl
+
+  pub seat-kept : i < n → readAddress (rowAt t i) .seat ≡ seatIn (rowOf a l)
+  seat-kept k = seat-is P m n t l h i k noRow ∙ rw (row-here k) refl
+
+-- the dirty value of a write back: no such row, a dirty row, the same fingerprint, another
+module _ (N : Numbers) (P m n : ℕ) (t : List ℕ) (l : List (AddressRow (Fixed 32))) (h : Addrs P m n t l) (a i : ℕ)
+    (ei : i ≡ indexWhere (λ x. eqb a (x .address)) l) (f : Fixed 32) (g : List ℕ) (ef : f .0 ≡ g) where
+  pub value-none : n ≤ i → 1 ≡ bit (dirtied (labelled N) f (rowOf a l))
+  value-none k = rw (no-row P m n t l h a i ei k) refl
+
   pub value-dirty : i < n → isDirty (rowAt t i) ≡ true → 1 ≡ bit (dirtied (labelled N) f (rowOf a l))
-  value-dirty k d = rw (row-here k, sym (dirty-is P m n t l h i k noRow) ∙ d) refl
+  value-dirty k d = rw (row-here P m n t l h a i ei k, sym (dirty-is P m n t l h i k noRow) ∙ d) refl
 
   pub value-clean : i < n → isDirty (rowAt t i) ≡ false → (y : Bool) → hasFingerprint g (rowAt t i) ≡ y → bit (not y) ≡ bit (dirtied (labelled N) f (rowOf a l))
   value-clean k d y e =
       let z : labelled N .same f (getD l i noRow .fingerprint) ≡ y
       = sym (has-fp g f ef (getD l i noRow)) ∙ ap (hasFingerprint g) (sym (row-is P m n t l h i k noRow)) ∙ e in
-      rw (row-here k, sym (dirty-is P m n t l h i k noRow) ∙ d, z) refl
+      rw (row-here P m n t l h a i ei k, sym (dirty-is P m n t l h i k noRow) ∙ d, z) refl
 
-pub back-is : (b : BoxRecord) (lent : List ℕ) (s : Box (Fixed 32) (Fixed (b .size))) (a : ℕ) (x : Fixed (b .size))
+pub back-is : (b : BoxRecord) (lent : List ℕ) (s : Box (Fixed 32) (Fixed (b .size))) (a : ℕ) (x : Fixed (b .size)) (z : Seat)
     → leaves b lent (answer (engine b) (cond (cached (engine b) (engine b .hash x) (s .used)) sameBlock newBlock) none 0
-    (step (engine b) (b .rows) s (asks a (engine b .hash x) x (dirtied (engine b) (engine b .hash x) (rowOf a (s .rows))))))
-    ≡ leaves b lent (serve (engine b) (numbersOf b) s (Call.back a x))
+    (step (engine b) (b .rows) s (asks a (engine b .hash x) x (dirtied (engine b) (engine b .hash x) (rowOf a (s .rows))) z)))
+    ≡ leaves b lent (serve (engine b) (numbersOf b) s (Call.back a x z))
 unfolding serve writeBack
-back-is b lent s a x = refl
+back-is b lent s a x z = refl
 
-pub through-is : (b : BoxRecord) (lent : List ℕ) (s : Box (Fixed 32) (Fixed (b .size))) (a : ℕ) (x : Fixed (b .size))
+pub through-is : (b : BoxRecord) (lent : List ℕ) (s : Box (Fixed 32) (Fixed (b .size))) (a : ℕ) (x : Fixed (b .size)) (z : Seat)
     → leaves b lent (answer (engine b) (cond (cached (engine b) (engine b .hash x) (s .used)) sameBlock newBlock) none 1
-    (step (engine b) (b .rows) (onDisk (engine b) s a x) (asks a (engine b .hash x) x false)))
-    ≡ leaves b lent (serve (engine b) (numbersOf b) s (Call.through a x))
+    (step (engine b) (b .rows) (onDisk (engine b) s a x) (asks a (engine b .hash x) x false z)))
+    ≡ leaves b lent (serve (engine b) (numbersOf b) s (Call.through a x z))
 unfolding serve writeThrough
-through-is b lent s a x = refl
+through-is b lent s a x z = refl
 
 -- the disk with the block on it
 pub rep-onDisk : (b : BoxRecord) (disk flash addrs blocks : List ℕ) (s : Box (Fixed 32) (Fixed (b .size))) → Rep b disk flash addrs blocks s → (a : ℕ)
@@ -142,7 +153,7 @@ flush-is b k lent disk flash addrs blocks s h count disk′ addrs′ e =
 
 -- invalidate
 pub invalidate-is : (b : BoxRecord) (lent disk flash addrs blocks : List ℕ) (s : Box (Fixed 32) (Fixed (b .size))) → Rep b disk flash addrs blocks s
-    → (a : ℕ) → a < b .blocks → (x : Fixed (b .size)) (yes : Bool) (held : ℕ) (disk′ addrs′ blocks′ : List ℕ)
+    → (a : ℕ) → a < b .blocks → (x : Fixed (b .size)) (z : Seat) (yes : Bool) (held : ℕ) (disk′ addrs′ blocks′ : List ℕ)
     → yes ≡ isYes (cond (cached (engine b) (engine b .hash x) (s .used)) sameBlock newBlock) → disk′ ≡ splice (a * b .size) (x .0) disk
     → (held ≡ length (withoutAddress a (s .rows))) × (addrs′ ≡ addressesOf (b .rows) (withoutAddress a (s .rows))) ×
     (blocks′ ≡ blockBytes (dropped (engine b) (withoutAddress a (s .rows)) (record { free = s .free; used = s .used }) (rowOf a (s .rows))))
@@ -151,9 +162,9 @@ pub invalidate-is : (b : BoxRecord) (lent disk flash addrs blocks : List ℕ) (s
       held = held;
       left = (record { flashed = 0; primary = 1; disk = disk′; flash = flash; addrs = addrs′; blocks = blocks′ });
       block = lent;
-    }) (leaves b lent (serve (engine b) (numbersOf b) s (Call.invalidate a x)))
+    }) (leaves b lent (serve (engine b) (numbersOf b) s (Call.invalidate a x z)))
 unfolding leaves serve writeInvalidate out4
-invalidate-is b lent disk flash addrs blocks s h a l x y0 n disk′ addrs′ blocks′ ey ed q =
+invalidate-is b lent disk flash addrs blocks s h a l x z y0 n disk′ addrs′ blocks′ ey ed q =
     let d = rep-onDisk b disk flash addrs blocks s h a l x disk′ ed in
     λ j. record {
       yes = ey j;
@@ -165,7 +176,7 @@ invalidate-is b lent disk flash addrs blocks s h a l x y0 n disk′ addrs′ blo
 -- ---- read
 -- a read that takes x where it misses
 pub taken-is : (b : BoxRecord) (lent : List ℕ) (s : Box (Fixed 32) (Fixed (b .size))) (a : ℕ) (x : Fixed (b .size))
-    → leaves b lent (answer (engine b) miss (some x) 0 (step (engine b) (b .rows) s (asks a (engine b .hash x) x false)))
+    → leaves b lent (answer (engine b) miss (some x) 0 (step (engine b) (b .rows) s (asks a (engine b .hash x) x false (seatIn (rowOf a (s .rows))))))
     ≡ leaves b lent (readAs (engine b) (b .rows) s a x none)
 unfolding readAs
 taken-is b lent s a x = refl
@@ -186,7 +197,7 @@ module _ (b : BoxRecord) (disk flash addrs blocks : List ℕ) (s : Box (Fixed 32
   pub hit-is : (lent : List ℕ) (y : Fixed (b .size)) (i j : ℕ) → HitAt b s a i j
       → leaves b lent (answer (engine b) hit (some (blockOf (engine b) (getD (s .rows) i noRow .fingerprint) (s .used) (s .flash))) 0
       (step (engine b) (b .rows) s (asks a (getD (s .rows) i noRow .fingerprint)
-      (blockOf (engine b) (getD (s .rows) i noRow .fingerprint) (s .used) (s .flash)) (getD (s .rows) i noRow .dirty))))
+      (blockOf (engine b) (getD (s .rows) i noRow .fingerprint) (s .used) (s .flash)) (getD (s .rows) i noRow .dirty) (getD (s .rows) i noRow .seat))))
       ≡ leaves b lent (readAs (engine b) (b .rows) s a y (rowWithBlock (engine b) s a))
   unfolding readAs
   hit-is lent y i j q = rw (hit-row i j q) refl

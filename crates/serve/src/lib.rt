@@ -13,7 +13,8 @@ ghost use Prim.Native.Nat.{ℕ, _+_, _*_, _<_, _≤_};
 ghost use lib.ListN.{length, getD};
 ghost use mathlib.Core.Option.{Option};
 ghost use Rattle.hash.specs.LastChunk.{Size};
-ghost use Rattle.paper.specs.Cache.{Numbers, AddressRow, Box, Call, serve, rowOf, rowWithBlock, readAs, dirtied};
+ghost use Rattle.tables.specs.Records.{Seat, bytes2};
+ghost use Rattle.paper.specs.Cache.{Numbers, AddressRow, Box, Call, serve, seatIn, rowOf, rowWithBlock, readAs, dirtied};
 ghost use Rattle.paper.specs.Engine.{Fixed, labelled};
 ghost use Rattle.paper.specs.Layout.{Addrs};
 ghost use Rattle.paper.specs.Lent.{bit};
@@ -67,10 +68,24 @@ fn dirty_value(b: BoxRecord, a: SourceAddress, addrs: &[u8], g: &[u8]) -> u8
     1
 }
 
+// The seat that a read of `a` leaves where it misses: that of the row of `a`, 0 where `a` is not held.
+fn seat_of(b: BoxRecord, a: SourceAddress, addrs: &[u8]) -> u16
+    requires { ⌜ (b .held ≤ b .rows) × (length (now addrs) ≡ tableBytes (b .rows)) ⌝ }
+    ensures { λ r. ⌜ ((l : List (AddressRow (Fixed 32))) → Addrs (b .blocks) (b .rows) (b .held) (now (addrs .entry)) l
+        → bytes2 r ≡ seatIn (rowOf (a .0) l)) ⌝ }
+{
+    let i = rows::row_of(addrs, b.held, a);
+    if i < b.held {
+        return row::seat_at(addrs, i);
+    }
+    0
+}
+
 // Write back.
 fn serve_back(
     b: BoxRecord,
     a: SourceAddress,
+    seat: u16,
     disk: &mut [u8],
     flash: &mut [u8],
     addrs: &mut [u8],
@@ -82,13 +97,13 @@ fn serve_back(
     requires { ⌜ LentSound b (now disk) (now flash) (now addrs) (now blocks) ⌝ }
     requires { ⌜ Indexed (b .slots) (now blocks) (now heads) ⌝ }
     ensures { λ r. ⌜ (r .flashed ≤ 1) × (r .primary ≤ 2 + b .rows) ⌝ }
-    ensures { λ r. ⌜ Wrote Back b (a .0) (now (disk .entry)) (now (flash .entry)) (now (addrs .entry)) (now (blocks .entry)) (now (block .entry))
+    ensures { λ r. ⌜ Wrote Back b (a .0) (bytes2 seat) (now (disk .entry)) (now (flash .entry)) (now (addrs .entry)) (now (blocks .entry)) (now (block .entry))
         (left r (now (disk .exit)) (now (flash .exit)) (now (addrs .exit)) (now (blocks .exit)) (now (block .entry))) ⌝ }
 {
     let g = fingerprint_of(b, block);
     let j = rows::place_of(blocks, b.slots, &g);
     let w = dirty_value(b, a, addrs, &g);
-    let d = steps::step(b, a, w, disk, flash, addrs, blocks, &g, block, heads);
+    let d = steps::step(b, a, w, seat, disk, flash, addrs, blocks, &g, block, heads);
     Served {
         yes: j < b.slots,
         held: d.held,
@@ -129,6 +144,7 @@ pub fn serve_flush(
 fn serve_through(
     b: BoxRecord,
     a: SourceAddress,
+    seat: u16,
     disk: &mut [u8],
     flash: &mut [u8],
     addrs: &mut [u8],
@@ -140,13 +156,13 @@ fn serve_through(
     requires { ⌜ LentSound b (now disk) (now flash) (now addrs) (now blocks) ⌝ }
     requires { ⌜ Indexed (b .slots) (now blocks) (now heads) ⌝ }
     ensures { λ r. ⌜ (r .flashed ≤ 1) × (r .primary ≤ 2 + b .rows) ⌝ }
-    ensures { λ r. ⌜ Wrote Through b (a .0) (now (disk .entry)) (now (flash .entry)) (now (addrs .entry)) (now (blocks .entry)) (now (block .entry))
+    ensures { λ r. ⌜ Wrote Through b (a .0) (bytes2 seat) (now (disk .entry)) (now (flash .entry)) (now (addrs .entry)) (now (blocks .entry)) (now (block .entry))
         (left r (now (disk .exit)) (now (flash .exit)) (now (addrs .exit)) (now (blocks .exit)) (now (block .entry))) ⌝ }
 {
     let g = fingerprint_of(b, block);
     let j = rows::place_of(blocks, b.slots, &g);
     block::put_address(block, disk, a, b.size);
-    let d = steps::step(b, a, 0, disk, flash, addrs, blocks, &g, block, heads);
+    let d = steps::step(b, a, 0, seat, disk, flash, addrs, blocks, &g, block, heads);
     Served {
         yes: j < b.slots,
         held: d.held,
@@ -167,7 +183,7 @@ fn serve_invalidate(
     requires { ⌜ (length (now disk) ≡ b .blocks * b .size) × Access b (a .0) (now block) (now addrs) (now blocks) ⌝ }
     requires { ⌜ ((flash : List ℕ) × LentSound b (now disk) flash (now addrs) (now blocks)) ⌝ }
     ensures { λ r. ⌜ (r .flashed ≤ 1) × (r .primary ≤ 2 + b .rows) ⌝ }
-    ensures { λ r. ⌜ ((flash : List ℕ) → Wrote Invalidate b (a .0) (now (disk .entry)) flash (now (addrs .entry)) (now (blocks .entry)) (now (block .entry))
+    ensures { λ r. ⌜ ((flash : List ℕ) (z : Seat) → Wrote Invalidate b (a .0) z (now (disk .entry)) flash (now (addrs .entry)) (now (blocks .entry)) (now (block .entry))
         (left r (now (disk .exit)) flash (now (addrs .exit)) (now (blocks .exit)) (now (block .entry)))) ⌝ }
 {
     let g = fingerprint_of(b, block);
@@ -188,6 +204,7 @@ pub fn serve_write(
     kind: Write,
     b: BoxRecord,
     a: SourceAddress,
+    seat: u16,
     disk: &mut [u8],
     flash: &mut [u8],
     addrs: &mut [u8],
@@ -199,12 +216,12 @@ pub fn serve_write(
     requires { ⌜ LentSound b (now disk) (now flash) (now addrs) (now blocks) ⌝ }
     requires { ⌜ Indexed (b .slots) (now blocks) (now heads) ⌝ }
     ensures { λ r. ⌜ (r .flashed ≤ 1) × (r .primary ≤ 2 + b .rows) ⌝ }
-    ensures { λ r. ⌜ Wrote kind b (a .0) (now (disk .entry)) (now (flash .entry)) (now (addrs .entry)) (now (blocks .entry)) (now (block .entry))
+    ensures { λ r. ⌜ Wrote kind b (a .0) (bytes2 seat) (now (disk .entry)) (now (flash .entry)) (now (addrs .entry)) (now (blocks .entry)) (now (block .entry))
         (left r (now (disk .exit)) (now (flash .exit)) (now (addrs .exit)) (now (blocks .exit)) (now (block .entry))) ⌝ }
 {
     match kind {
-        Write::Through => serve_through(b, a, disk, flash, addrs, blocks, block, heads),
-        Write::Back => serve_back(b, a, disk, flash, addrs, blocks, block, heads),
+        Write::Through => serve_through(b, a, seat, disk, flash, addrs, blocks, block, heads),
+        Write::Back => serve_back(b, a, seat, disk, flash, addrs, blocks, block, heads),
         Write::Invalidate => serve_invalidate(b, a, disk, addrs, blocks, block),
     }
 }
@@ -230,9 +247,10 @@ pub fn read_hit(
 {
     let g = rows::fp_at(addrs, i);
     let dirty = rows::dirty_at(addrs, i);
+    let seat = row::seat_at(addrs, i);
     let slot = row::slot_at(blocks, j);
     block::copy_all(block::in_slot(flash, slot, b.size), block);
-    steps::renew(b, a, i, j, dirty, addrs, blocks, &g);
+    steps::renew(b, a, i, j, dirty, seat, addrs, blocks, &g);
     Served {
         yes: true,
         held: b.held,
@@ -262,7 +280,8 @@ pub fn read_taken(
         ≡ leaves b lent (readAs (engine b) (b .rows) s (a .0) x Option.none)) ⌝ }
 {
     let g = fingerprint_of(b, block);
-    let d = steps::step(b, a, 0, disk, flash, addrs, blocks, &g, block, heads);
+    let seat = seat_of(b, a, addrs);
+    let d = steps::step(b, a, 0, seat, disk, flash, addrs, blocks, &g, block, heads);
     Served {
         yes: false,
         held: d.held,

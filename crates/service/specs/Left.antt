@@ -11,6 +11,8 @@ use Rattle.block.specs.Blocks.{part}
 use Rattle.paper.specs.Cache.{Numbers}
 use Rattle.paper.specs.Lent.{Lent, Ask, Answer, refused, answered, After, lentBlock, call}
 use Rattle.paper.specs.BatchLent.{BatchAfter, callBatch}
+use Rattle.paper.specs.Reports.{Reader}
+use Rattle.reports.specs.Contract.{Reported, reports}
 use Rattle.parts.specs.declared.BoxRecord.{BoxRecord}
 use Rattle.parts.specs.Rep.{numbersOf, emptyBox}
 use Rattle.refusals.specs.Given.{countersOf, lent}
@@ -94,6 +96,15 @@ leavesMany q f s disk flash addresses blocks l =
     cond (fitting 32 s l)
     (toldManyIn s l (callBatch (numbersOf (recordIn s)) (lentIn s disk flash addresses blocks) q f))
     (record { number = 2; state = s; disk = disk; flash = flash; addresses = addresses; blocks = blocks; buffer = f; answer = l })
+
+-- ---- a report
+
+-- A state of another length: 2, and nothing is changed. Nothing else is lent to it to be written.
+unfoldable pub leavesReport : Reader → (state disk flash addresses blocks report : List ℕ) → Reported
+leavesReport w s disk flash addresses blocks report =
+    cond (eqb (length s) stateBytes)
+    (reports w (numbersOf (recordIn s)) (lentIn s disk flash addresses blocks) report)
+    (record { number = 2; report = report })
 
 -- ---- opening
 

@@ -12,7 +12,9 @@ use Rattle.paper.specs.KeyedLaws.{by-test}
 use Rattle.paper.specs.Cache.{Numbers}
 use Rattle.paper.specs.Lent.{Lent, Ask, opening, refusal, lentBlock, call, opened, fresh, withLabel}
 use Rattle.paper.specs.RefusalLaws.{opened-is, label-carried}
-use Rattle.paper.specs.BatchLent.{Asking, one, many, callBatch}
+use Rattle.paper.specs.BatchLent.{Asking, one, many, report, callBatch}
+use Rattle.paper.specs.Reports.{Reader}
+use Rattle.reports.specs.Contract.{reports}
 use Rattle.paper.specs.CallLaws.{In64}
 use Rattle.paper.specs.Demand3.{next, Demand3}
 use Rattle.paper.specs.Demand3Laws.{demand-3, Written, opened-written, next-written, next-64, look-stays}
@@ -20,22 +22,26 @@ use Rattle.parts.specs.Rep.{numbersOf}
 use Rattle.refusals.specs.Given.{countersOf, lent}
 use Rattle.fields.specs.Fields.{recordIn, countersIn, fitting, stateBytes}
 use Rattle.fields.specs.Noted.{LeftLook}
-use Rattle.service.specs.Left.{lentIn, toldIn, Left, leaves, LeftMany, toldManyIn, leavesMany, freshRecord, openedIn, leavesOpen, leavesLook, Shows}
+use Rattle.service.specs.Left.{lentIn, toldIn, Left, leaves, LeftMany, toldManyIn, leavesMany, freshRecord, openedIn, leavesOpen, leavesLook, leavesReport}
+use Rattle.service.specs.Left.{Shows}
 use Rattle.service.specs.Carried.{Carries, carried-64, carried-many, carried-open}
 
--- a C call: what is asked, and the answer's buffer; or the addresses and the buffer of a folder read, and the answer's buffer
+-- a C call: what is asked, and the answer's buffer; or the addresses and the buffer of a folder read, and the answer's buffer; or a report's bytes
 pub data Made : Type 0 where
   single : Ask → (answer : List ℕ) → Made
   folder : (asked buffer answer : List ℕ) → Made
+  reporting : Reader → (lent : List ℕ) → Made
 
 abbrev pub askedBy : Made → Asking
 askedBy (single q l) = one q
 askedBy (folder q f l) = many q f
+askedBy (reporting w l) = report w l
 
--- the answer's buffer has its length: 24 bytes, of a folder read 32
+-- the answer's buffer has its length: 24 bytes, of a folder read 32; a report has none
 abbrev pub fitsIts : Made → Bool
 fitsIts (single q l) = eqb (length l) 24
 fitsIts (folder q f l) = eqb (length l) 32
+fitsIts (reporting w l) = true
 
 -- what passes from call to call
 pub record Kept : Type 0 where
@@ -90,18 +96,18 @@ LookReturns N t a l r k =
 abbrev pub Says : Numbers → Lent → Kept → Ask → List ℕ → Type 0
 Says N t y (Ask.look a) l = (r : ℕ) (k : List ℕ) → LookGives a y l r k → LookReturns N t a l r k
 Says N t y (Ask.read a x) l = Returns N t y (Ask.read a x) l
-Says N t y (Ask.through a x) l = Returns N t y (Ask.through a x) l
-Says N t y (Ask.back a x) l = Returns N t y (Ask.back a x) l
-Says N t y (Ask.invalidate a x) l = Returns N t y (Ask.invalidate a x) l
+Says N t y (Ask.through a x seat) l = Returns N t y (Ask.through a x seat) l
+Says N t y (Ask.back a x seat) l = Returns N t y (Ask.back a x seat) l
+Says N t y (Ask.invalidate a x seat) l = Returns N t y (Ask.invalidate a x seat) l
 Says N t y (Ask.flush n) l = Returns N t y (Ask.flush n) l
 
 -- the buffers after a call: a look keeps them
 abbrev pub keptBy : Kept → Ask → List ℕ → Kept
 keptBy y (Ask.look a) l = y
 keptBy y (Ask.read a x) l = keptOf (leftBy y (Ask.read a x) l)
-keptBy y (Ask.through a x) l = keptOf (leftBy y (Ask.through a x) l)
-keptBy y (Ask.back a x) l = keptOf (leftBy y (Ask.back a x) l)
-keptBy y (Ask.invalidate a x) l = keptOf (leftBy y (Ask.invalidate a x) l)
+keptBy y (Ask.through a x seat) l = keptOf (leftBy y (Ask.through a x seat) l)
+keptBy y (Ask.back a x seat) l = keptOf (leftBy y (Ask.back a x seat) l)
+keptBy y (Ask.invalidate a x seat) l = keptOf (leftBy y (Ask.invalidate a x seat) l)
 keptBy y (Ask.flush n) l = keptOf (leftBy y (Ask.flush n) l)
 
 -- ---- a folder read
@@ -130,15 +136,23 @@ untoldMany y f l =
 abbrev pub ReturnsMany : Numbers → Lent → Kept → (asked buffer answer : List ℕ) → Type 0
 ReturnsMany N t y q f l = leftMany y q f l ≡ cond (eqb (length l) 32) (toldManyIn (y .state) l (callBatch N t q f)) (untoldMany y f l)
 
--- ---- a call of either kind
+-- ---- a report
+
+-- it returns and leaves what the paper's on t does
+abbrev pub ReturnsReport : Numbers → Lent → Kept → Reader → List ℕ → Type 0
+ReturnsReport N t y w l = leavesReport w (y .state) (y .disk) (y .flash) (y .addresses) (y .blocks) l ≡ reports w N t l
+
+-- ---- a call of any kind
 
 abbrev pub SaysIts : Numbers → Lent → Kept → Made → Type 0
 SaysIts N t y (single q l) = Says N t y q l
 SaysIts N t y (folder q f l) = ReturnsMany N t y q f l
+SaysIts N t y (reporting w l) = ReturnsReport N t y w l
 
 abbrev pub keptIts : Kept → Made → Kept
 keptIts y (single q l) = keptBy y q l
 keptIts y (folder q f l) = keptMany (leftMany y q f l)
+keptIts y (reporting w l) = y
 
 -- the paper's list has the calls whose answer's buffer has its length; the others do nothing
 abbrev pub nextBy : Numbers → Lent → Made → Lent
@@ -190,9 +204,9 @@ module _ (N : Numbers) where
   says : (t : Lent) (y : Kept) (q : Ask) (l : List ℕ) → CarriesIn y N t → Says N t y q l
   says t y (Ask.look a) l k = look-returns t y a l k
   says t y (Ask.read a x) l k = returns t y (Ask.read a x) l k
-  says t y (Ask.through a x) l k = returns t y (Ask.through a x) l k
-  says t y (Ask.back a x) l k = returns t y (Ask.back a x) l k
-  says t y (Ask.invalidate a x) l k = returns t y (Ask.invalidate a x) l k
+  says t y (Ask.through a x seat) l k = returns t y (Ask.through a x seat) l k
+  says t y (Ask.back a x seat) l k = returns t y (Ask.back a x seat) l k
+  says t y (Ask.invalidate a x seat) l k = returns t y (Ask.invalidate a x seat) l k
   says t y (Ask.flush n) l k = returns t y (Ask.flush n) l k
 
   -- the bytes carry on what a call leaves
@@ -207,9 +221,9 @@ module _ (N : Numbers) where
       → CarriesIn (keptBy y q l) N (next N t (one q))
   carries-on t y (Ask.look a) l k b w z = subst (λ (x : Lent). CarriesIn y N x) (sym (look-stays N t a w)) k
   carries-on t y (Ask.read a x) l k b w z = carry t y (Ask.read a x) l k b z
-  carries-on t y (Ask.through a x) l k b w z = carry t y (Ask.through a x) l k b z
-  carries-on t y (Ask.back a x) l k b w z = carry t y (Ask.back a x) l k b z
-  carries-on t y (Ask.invalidate a x) l k b w z = carry t y (Ask.invalidate a x) l k b z
+  carries-on t y (Ask.through a x seat) l k b w z = carry t y (Ask.through a x seat) l k b z
+  carries-on t y (Ask.back a x seat) l k b w z = carry t y (Ask.back a x seat) l k b z
+  carries-on t y (Ask.invalidate a x seat) l k b w z = carry t y (Ask.invalidate a x seat) l k b z
   carries-on t y (Ask.flush n) l k b w z = carry t y (Ask.flush n) l k b z
 
   -- a call with an answer of another length changes nothing
@@ -219,9 +233,9 @@ module _ (N : Numbers) where
   stays : (t : Lent) (y : Kept) (q : Ask) (l : List ℕ) → CarriesIn y N t → eqb (length l) 24 ≡ false → keptBy y q l ≡ y
   stays t y (Ask.look a) l k z = refl
   stays t y (Ask.read a x) l k z = unchanged t y (Ask.read a x) l k z
-  stays t y (Ask.through a x) l k z = unchanged t y (Ask.through a x) l k z
-  stays t y (Ask.back a x) l k z = unchanged t y (Ask.back a x) l k z
-  stays t y (Ask.invalidate a x) l k z = unchanged t y (Ask.invalidate a x) l k z
+  stays t y (Ask.through a x seat) l k z = unchanged t y (Ask.through a x seat) l k z
+  stays t y (Ask.back a x seat) l k z = unchanged t y (Ask.back a x seat) l k z
+  stays t y (Ask.invalidate a x seat) l k z = unchanged t y (Ask.invalidate a x seat) l k z
   stays t y (Ask.flush n) l k z = unchanged t y (Ask.flush n) l k z
 
   -- the same of a folder read
@@ -241,19 +255,27 @@ module _ (N : Numbers) where
   unfolding leavesMany
   left-many y q f l z = rw z refl
 
-  -- of a call of either kind
+  -- and of a report
+  returns-report : (t : Lent) (y : Kept) (w : Reader) (l : List ℕ) → CarriesIn y N t → ReturnsReport N t y w l
+  unfolding leavesReport
+  returns-report t y w l k = rw (eq-eqb (length (y .state)) stateBytes (k .long), k .numbers, k .lent) refl
+
+  -- of a call of any kind
   says-its : (t : Lent) (y : Kept) (c : Made) → CarriesIn y N t → SaysIts N t y c
   says-its t y (single q l) k = says t y q l k
   says-its t y (folder q f l) k = returns-many t y q f l k
+  says-its t y (reporting w l) k = returns-report t y w l k
 
   carries-its : (t : Lent) (y : Kept) (c : Made) → CarriesIn y N t → In64 (t .counters) → Written N t → fitsIts c ≡ true
       → CarriesIn (keptIts y c) N (next N t (askedBy c))
   carries-its t y (single q l) k b w z = carries-on t y q l k b w z
   carries-its t y (folder q f l) k b w z = carry-many t y q f l k b z
+  carries-its t y (reporting r l) k b w z = k
 
   stays-its : (t : Lent) (y : Kept) (c : Made) → CarriesIn y N t → fitsIts c ≡ false → keptIts y c ≡ y
   stays-its t y (single q l) k z = stays t y q l k z
   stays-its t y (folder q f l) k z = ap keptMany (left-many y q f l (unfit-is 32 y l (k .long) z))
+  stays-its t y (reporting w l) k z = refl
 
   follows : (t : Lent) (y : Kept) (cs : List Made) → CarriesIn y N t → In64 (t .counters) → Written N t → Follows N t y cs
   unfolding Follows

@@ -1,5 +1,6 @@
 // The service that C calls: numbers and byte slices. Each call reads the box record and the counters in the state's bytes,
 // does the cache's call, and writes what it tells into the state and the answer.
+use reports::Reader;
 use serve::Write;
 use tables::SourceAddress;
 ghost use mathlib.Core.Path.{_≡_};
@@ -7,9 +8,11 @@ ghost use mathlib.Core.Option.{Option};
 ghost use mathlib.Core.Bool.{true};
 ghost use Rattle.paper.specs.Lent.{Ask, call};
 ghost use Rattle.parts.specs.Rep.{numbersOf};
+ghost use Rattle.paper.specs.Reports.{manager, desk};
 ghost use Rattle.policy.specs.Contract.{askOf};
+ghost use Rattle.reports.specs.Contract.{readerOf};
 ghost use Rattle.fields.specs.Fields.{recordIn, fitting};
-ghost use Rattle.service.specs.Left.{lentIn, leaving, leaves, leavesMany, leavesOpen, leavesLook, Shows, leavesScores};
+ghost use Rattle.service.specs.Left.{lentIn, leaving, leaves, leavesMany, leavesOpen, leavesLook, leavesReport, Shows, leavesScores};
 
 // Reads the block at `address` into `block`.
 #[no_mangle]
@@ -80,11 +83,12 @@ pub extern "C" fn mindavehu_read_many(
     fields::write_many(state, answer, o)
 }
 
-// Writes `block`, by the kind of the write.
+// Writes `block` by a seat, by the kind of the write.
 fn write(
     kind: Write,
     state: &mut [u8],
     address: u32,
+    seat: u16,
     disk: &mut [u8],
     flash: &mut [u8],
     addresses: &mut [u8],
@@ -94,7 +98,7 @@ fn write(
 ) -> u32
     ensures { λ r. ⌜ leaving r (now (state .exit)) (now (disk .exit)) (now (flash .exit)) (now (addresses .exit)) (now (blocks .exit))
         (Option.some (now (block .entry))) (now (answer .exit))
-        ≡ leaves (askOf kind address (now (block .entry))) (now (state .entry)) (now (disk .entry)) (now (flash .entry)) (now (addresses .entry))
+        ≡ leaves (askOf kind address (now (block .entry)) seat) (now (state .entry)) (now (disk .entry)) (now (flash .entry)) (now (addresses .entry))
         (now (blocks .entry)) (now (answer .entry)) ⌝ }
 {
     if !fields::fit(24, state, answer) {
@@ -106,6 +110,7 @@ fn write(
         kind,
         b,
         SourceAddress(address),
+        seat,
         disk,
         flash,
         addresses,
@@ -121,6 +126,7 @@ fn write(
 pub extern "C" fn mindavehu_write_through(
     state: &mut [u8],
     address: u32,
+    seat: u16,
     disk: &mut [u8],
     flash: &mut [u8],
     addresses: &mut [u8],
@@ -130,13 +136,14 @@ pub extern "C" fn mindavehu_write_through(
 ) -> u32
     ensures { λ r. ⌜ leaving r (now (state .exit)) (now (disk .exit)) (now (flash .exit)) (now (addresses .exit)) (now (blocks .exit))
         (Option.some (now (block .entry))) (now (answer .exit))
-        ≡ leaves (Ask.through address (now (block .entry))) (now (state .entry)) (now (disk .entry)) (now (flash .entry)) (now (addresses .entry))
+        ≡ leaves (Ask.through address (now (block .entry)) seat) (now (state .entry)) (now (disk .entry)) (now (flash .entry)) (now (addresses .entry))
         (now (blocks .entry)) (now (answer .entry)) ⌝ }
 {
     write(
         Write::Through,
         state,
         address,
+        seat,
         disk,
         flash,
         addresses,
@@ -151,6 +158,7 @@ pub extern "C" fn mindavehu_write_through(
 pub extern "C" fn mindavehu_write_back(
     state: &mut [u8],
     address: u32,
+    seat: u16,
     disk: &mut [u8],
     flash: &mut [u8],
     addresses: &mut [u8],
@@ -160,13 +168,14 @@ pub extern "C" fn mindavehu_write_back(
 ) -> u32
     ensures { λ r. ⌜ leaving r (now (state .exit)) (now (disk .exit)) (now (flash .exit)) (now (addresses .exit)) (now (blocks .exit))
         (Option.some (now (block .entry))) (now (answer .exit))
-        ≡ leaves (Ask.back address (now (block .entry))) (now (state .entry)) (now (disk .entry)) (now (flash .entry)) (now (addresses .entry))
+        ≡ leaves (Ask.back address (now (block .entry)) seat) (now (state .entry)) (now (disk .entry)) (now (flash .entry)) (now (addresses .entry))
         (now (blocks .entry)) (now (answer .entry)) ⌝ }
 {
     write(
         Write::Back,
         state,
         address,
+        seat,
         disk,
         flash,
         addresses,
@@ -181,6 +190,7 @@ pub extern "C" fn mindavehu_write_back(
 pub extern "C" fn mindavehu_write_invalidate(
     state: &mut [u8],
     address: u32,
+    seat: u16,
     disk: &mut [u8],
     flash: &mut [u8],
     addresses: &mut [u8],
@@ -190,13 +200,14 @@ pub extern "C" fn mindavehu_write_invalidate(
 ) -> u32
     ensures { λ r. ⌜ leaving r (now (state .exit)) (now (disk .exit)) (now (flash .exit)) (now (addresses .exit)) (now (blocks .exit))
         (Option.some (now (block .entry))) (now (answer .exit))
-        ≡ leaves (Ask.invalidate address (now (block .entry))) (now (state .entry)) (now (disk .entry)) (now (flash .entry)) (now (addresses .entry))
+        ≡ leaves (Ask.invalidate address (now (block .entry)) seat) (now (state .entry)) (now (disk .entry)) (now (flash .entry)) (now (addresses .entry))
         (now (blocks .entry)) (now (answer .entry)) ⌝ }
 {
     write(
         Write::Invalidate,
         state,
         address,
+        seat,
         disk,
         flash,
         addresses,
@@ -279,6 +290,69 @@ pub extern "C" fn mindavehu_look(
     let a = SourceAddress(address);
     let p = look::place_of(b, a, disk, flash, addresses, blocks);
     fields::write_place(answer, b.size, a, p)
+}
+
+// The report of the held rows, oldest first, in `report`; nothing else is written.
+fn held_report(
+    reader: Reader,
+    state: &[u8],
+    disk: &[u8],
+    flash: &[u8],
+    addresses: &[u8],
+    blocks: &[u8],
+    report: &mut [u8],
+) -> u32
+    ensures { λ r. ⌜ record { number = r; report = now (report .exit) }
+        ≡ leavesReport (readerOf reader) (now (state .entry)) (now (disk .entry)) (now (flash .entry)) (now (addresses .entry)) (now (blocks .entry))
+        (now (report .entry)) ⌝ }
+{
+    if state.len() != fields::STATE {
+        return 2;
+    }
+    let b = fields::record_in(state);
+    reports::report(reader, b, disk, flash, addresses, blocks, report)
+}
+
+// The manager's report: address, dirty byte and seat of each held row.
+#[no_mangle]
+pub extern "C" fn mindavehu_manager_report(
+    state: &[u8],
+    disk: &[u8],
+    flash: &[u8],
+    addresses: &[u8],
+    blocks: &[u8],
+    report: &mut [u8],
+) -> u32
+    ensures { λ r. ⌜ record { number = r; report = now (report .exit) }
+        ≡ leavesReport manager (now (state .entry)) (now (disk .entry)) (now (flash .entry)) (now (addresses .entry)) (now (blocks .entry))
+        (now (report .entry)) ⌝ }
+{
+    held_report(
+        Reader::Manager,
+        state,
+        disk,
+        flash,
+        addresses,
+        blocks,
+        report,
+    )
+}
+
+// The desk's report: address and dirty byte of each held row.
+#[no_mangle]
+pub extern "C" fn mindavehu_desk_report(
+    state: &[u8],
+    disk: &[u8],
+    flash: &[u8],
+    addresses: &[u8],
+    blocks: &[u8],
+    report: &mut [u8],
+) -> u32
+    ensures { λ r. ⌜ record { number = r; report = now (report .exit) }
+        ≡ leavesReport desk (now (state .entry)) (now (disk .entry)) (now (flash .entry)) (now (addresses .entry)) (now (blocks .entry))
+        (now (report .entry)) ⌝ }
+{
+    held_report(Reader::Desk, state, disk, flash, addresses, blocks, report)
 }
 
 // Opens a box of the numbers in `state` and the label `label`: the tables become fresh, n and the counters 0; disk and flash keep their bytes.

@@ -140,7 +140,7 @@ module _ (N : Numbers) (d : ℕ) (t : List ℕ) (others l : List (AddressRow (Fi
 -- ---- step 4
 none-cleaned : (N : Numbers) (l : List (AddressRow (Fixed 32))) → cleaned (labelled N) (λ f. false) l ≡ l
 none-cleaned N [] = refl
-none-cleaned N (r ∷ l) = by-test (r .dirty) (λ e. ap₂ {C = List (AddressRow (Fixed 32))} (λ x y. record { address = r .address; fingerprint = r .fingerprint; dirty = x } ∷ y) (rw e refl) (none-cleaned N l)) (λ e. ap₂ {C = List (AddressRow (Fixed 32))} (λ x y. record { address = r .address; fingerprint = r .fingerprint; dirty = x } ∷ y) (rw e refl) (none-cleaned N l))
+none-cleaned N (r ∷ l) = by-test (r .dirty) (λ e. ap₂ {C = List (AddressRow (Fixed 32))} (λ x y. record { address = r .address; fingerprint = r .fingerprint; dirty = x; seat = r .seat } ∷ y) (rw e refl) (none-cleaned N l)) (λ e. ap₂ {C = List (AddressRow (Fixed 32))} (λ x y. record { address = r .address; fingerprint = r .fingerprint; dirty = x; seat = r .seat } ∷ y) (rw e refl) (none-cleaned N l))
 
 none-copied : (N : Numbers) (l : List (AddressRow (Fixed 32))) (used : List (BlockRow (Fixed 32))) (fl di : List (Fixed (N .B))) → copied (labelled N) (λ f. false) l used fl di ≡ di
 none-copied N [] used fl di = refl

@@ -11,7 +11,7 @@ use lib.Seq.{take-at}
 use Rattle.parts.specs.declared.BoxRecord.{BoxRecord}
 use Rattle.tables.specs.Records.{addressRow, addressBytes, slotsFrom}
 use Rattle.paper.specs.KeyedLaws.{All, all-map, all-perm, all-append, by-test, Distinct, all-of-map, all-left, all-right}
-use Rattle.paper.specs.Cache.{Numbers, AddressRow, BlockRow, BlockRows, Box, RowOut, Stepped, newest, blockRow, cached, withoutBlock, slotOf, step1, step3, step4, stored, taken, step, copies, isLost}
+use Rattle.paper.specs.Cache.{Seat, Numbers, AddressRow, BlockRow, BlockRows, Box, RowOut, Stepped, newest, blockRow, cached, withoutBlock, slotOf, step1, step3, step4, stored, taken, step, copies, isLost}
 use Rattle.paper.specs.Sound.{Out, DirtyCached, sound-step1, sound-step3, length-perm, length-slotsFrom, length-cleaned}
 use Rattle.paper.specs.Sound as S
 use Rattle.paper.specs.Faithful.{slots-below-0}
@@ -50,9 +50,9 @@ step4-rows : (N : Numbers) (l : List (AddressRow (Fixed 32))) (t : BlockRows (Fi
 unfolding step4 stored
 step4-rows N l t fl di f x w = by-test (cached (labelled N) f (t .used)) (λ e. rw e refl) (λ e. rw e (length-cleaned (labelled N) (isLost (labelled N) (taken (labelled N) l (t .free) (t .used) .lost)) l))
 
-module _ (b : BoxRecord) (disk flash addrs blocks : List ℕ) (s : Box (Fixed 32) (Fixed (b .size))) (h : Rep b disk flash addrs blocks s) (sd : Sure b s) (m1 : 0 < b .rows) (d1 : 0 < b .slots) (a : ℕ) (la : a < b .blocks) (f : Fixed 32) (w : Bool)
+module _ (b : BoxRecord) (disk flash addrs blocks : List ℕ) (s : Box (Fixed 32) (Fixed (b .size))) (h : Rep b disk flash addrs blocks s) (sd : Sure b s) (m1 : 0 < b .rows) (d1 : 0 < b .slots) (a : ℕ) (la : a < b .blocks) (f : Fixed 32) (w : Bool) (z : Seat)
     (n place primary : ℕ) (disk₁ addrs₁ : List ℕ) (e₁ : _≡_ {A = Out1} (record { held = n; place = place; primary = primary; disk = disk₁; addrs = addrs₁ }) (out1 b s (step1 (engine b) (b .rows) s a)))
-    (addrs₂ : List ℕ) (e₂ : addrs₂ ≡ rowAdded n (addressBytes (addressRow a (f .0) (bit w))) addrs₁) where
+    (addrs₂ : List ℕ) (e₂ : addrs₂ ≡ rowAdded n (addressBytes (addressRow a (f .0) (bit w) z)) addrs₁) where
   abbrev o : RowOut (Fixed 32) (Fixed (b .size))
   o = step1 (engine b) (b .rows) s a
 
@@ -67,34 +67,34 @@ module _ (b : BoxRecord) (disk flash addrs blocks : List ℕ) (s : Box (Fixed 32
   unfolding out1
   addrs₁-are = record { count = sym n-is; few = omega (arith, n-is, out .few); below = out .below; small = h .rows-are .small; is = ap (λ (x : Out1). x .addrs) e₁ }
 
-  pub addrs₂-are : Addrs (b .blocks) (b .rows) (n + 1) addrs₂ (step1 (engine b) (b .rows) s a .rows ++ (newest a f w ∷ []))
+  pub addrs₂-are : Addrs (b .blocks) (b .rows) (n + 1) addrs₂ (step1 (engine b) (b .rows) s a .rows ++ (newest a f w z ∷ []))
   addrs₂-are =
       record {
-        count = length-append (step1 (engine b) (b .rows) s a .rows) (newest a f w ∷ []) ∙ ap (λ (k : ℕ). k + 1) (sym n-is);
+        count = length-append (step1 (engine b) (b .rows) s a .rows) (newest a f w z ∷ []) ∙ ap (λ (k : ℕ). k + 1) (sym n-is);
         few = omega (arith, n-is, out .few);
-        below = all-append (λ (r : AddressRow (Fixed 32)). r .address < b .blocks) (step1 (engine b) (b .rows) s a .rows) (newest a f w ∷ []) (out .below) (la, tt);
+        below = all-append (λ (r : AddressRow (Fixed 32)). r .address < b .blocks) (step1 (engine b) (b .rows) s a .rows) (newest a f w z ∷ []) (out .below) (la, tt);
         small = h .rows-are .small;
-        is = e₂ ∙ pushed (b .blocks) (b .rows) n addrs₁ (step1 (engine b) (b .rows) s a .rows) addrs₁-are (omega (arith, n-is, out .few)) a f w;
+        is = e₂ ∙ pushed (b .blocks) (b .rows) n addrs₁ (step1 (engine b) (b .rows) s a .rows) addrs₁-are (omega (arith, n-is, out .few)) a f w z;
       }
 
   pub place-is : place ≡ placeOf (step1 (engine b) (b .rows) s a .gone) (s .free) (s .used)
   unfolding out1
   place-is = ap (λ (x : Out1). x .place) e₁
 
-  others : take (n + 1 - 1) (step1 (engine b) (b .rows) s a .rows ++ (newest a f w ∷ [])) ≡ step1 (engine b) (b .rows) s a .rows
-  others = let e : n + 1 - 1 ≡ n = omega arith in ap (λ (k : ℕ). take k (step1 (engine b) (b .rows) s a .rows ++ (newest a f w ∷ []))) e ∙ take-at (step1 (engine b) (b .rows) s a .rows) (newest a f w ∷ []) n (sym n-is)
+  others : take (n + 1 - 1) (step1 (engine b) (b .rows) s a .rows ++ (newest a f w z ∷ [])) ≡ step1 (engine b) (b .rows) s a .rows
+  others = let e : n + 1 - 1 ≡ n = omega arith in ap (λ (k : ℕ). take k (step1 (engine b) (b .rows) s a .rows ++ (newest a f w z ∷ []))) e ∙ take-at (step1 (engine b) (b .rows) s a .rows) (newest a f w z ∷ []) n (sym n-is)
 
-  module _ (blocks₃ : List ℕ) (e₃ : blocks₃ ≡ blockBytes (step3 (engine b) (step1 (engine b) (b .rows) s a .gone) (take (n + 1 - 1) (step1 (engine b) (b .rows) s a .rows ++ (newest a f w ∷ []))) (step1 (engine b) (b .rows) s a .rows ++ (newest a f w ∷ [])) (record { free = s .free; used = s .used }))) where
+  module _ (blocks₃ : List ℕ) (e₃ : blocks₃ ≡ blockBytes (step3 (engine b) (step1 (engine b) (b .rows) s a .gone) (take (n + 1 - 1) (step1 (engine b) (b .rows) s a .rows ++ (newest a f w z ∷ []))) (step1 (engine b) (b .rows) s a .rows ++ (newest a f w z ∷ [])) (record { free = s .free; used = s .used }))) where
     abbrev pub t₃ : BlockRows (Fixed 32)
-    t₃ = step3 (engine b) (step1 (engine b) (b .rows) s a .gone) (step1 (engine b) (b .rows) s a .rows) (step1 (engine b) (b .rows) s a .rows ++ (newest a f w ∷ [])) (record { free = s .free; used = s .used })
+    t₃ = step3 (engine b) (step1 (engine b) (b .rows) s a .gone) (step1 (engine b) (b .rows) s a .rows) (step1 (engine b) (b .rows) s a .rows ++ (newest a f w z ∷ [])) (record { free = s .free; used = s .used })
 
-    sound₃ : S.Blocks (engine b) (b .slots) f (step1 (engine b) (b .rows) s a .rows ++ (newest a f w ∷ [])) t₃
+    sound₃ : S.Blocks (engine b) (b .slots) f (step1 (engine b) (b .rows) s a .rows ++ (newest a f w z ∷ [])) t₃
     sound₃ =
-        sound-step3 (engine b) (b .slots) (step1 (engine b) (b .rows) s a .gone) (step1 (engine b) (b .rows) s a .rows) (step1 (engine b) (b .rows) s a .rows ++ (newest a f w ∷ [])) (record { free = s .free; used = s .used }) f
+        sound-step3 (engine b) (b .slots) (step1 (engine b) (b .rows) s a .gone) (step1 (engine b) (b .rows) s a .rows) (step1 (engine b) (b .rows) s a .rows ++ (newest a f w z ∷ [])) (record { free = s .free; used = s .used }) f
         (record {
           fingerprints = sd .fingerprints;
           slots = sd .slots;
-          dirtyCached = all-append (λ (r : AddressRow (Fixed 32)). r .dirty ≡ true → (cached (engine b) (r .fingerprint) (s .used) ≡ true) ⊎ (r .fingerprint ≡ f)) (step1 (engine b) (b .rows) s a .rows) (newest a f w ∷ [])
+          dirtyCached = all-append (λ (r : AddressRow (Fixed 32)). r .dirty ≡ true → (cached (engine b) (r .fingerprint) (s .used) ≡ true) ⊎ (r .fingerprint ≡ f)) (step1 (engine b) (b .rows) s a .rows) (newest a f w z ∷ [])
               (all-map (DirtyCached (engine b) (s .used)) (λ (r : AddressRow (Fixed 32)). r .dirty ≡ true → (cached (engine b) (r .fingerprint) (s .used) ≡ true) ⊎ (r .fingerprint ≡ f)) (λ r y e. inl (y e)) (step1 (engine b) (b .rows) s a .rows) (out .dirtyCached))
               ((λ e. inr refl), tt);
         })
@@ -103,14 +103,14 @@ module _ (b : BoxRecord) (disk flash addrs blocks : List ℕ) (s : Box (Fixed 32
     distinct₃ = sound₃ .fingerprints
 
     abbrev pub s₃ : Box (Fixed 32) (Fixed (b .size))
-    s₃ = record { rows = step1 (engine b) (b .rows) s a .rows ++ (newest a f w ∷ []); free = t₃ .free; used = t₃ .used; flash = s .flash; disk = step1 (engine b) (b .rows) s a .disk }
+    s₃ = record { rows = step1 (engine b) (b .rows) s a .rows ++ (newest a f w z ∷ []); free = t₃ .free; used = t₃ .used; flash = s .flash; disk = step1 (engine b) (b .rows) s a .disk }
 
     pub rep₃ : Rep (withHeld b (n + 1)) disk₁ flash addrs₂ blocks₃ s₃
     unfolding out1
     rep₃ =
         record {
           rows-are = addrs₂-are;
-          blocks-are = blocks-from (b .slots) blocks₃ (t₃ .free) (t₃ .used) (sound₃ .slots) (h .blocks-are .small) (e₃ ∙ ap (λ (l : List (AddressRow (Fixed 32))). blockBytes (step3 (engine b) (step1 (engine b) (b .rows) s a .gone) l (step1 (engine b) (b .rows) s a .rows ++ (newest a f w ∷ [])) (record { free = s .free; used = s .used }))) others);
+          blocks-are = blocks-from (b .slots) blocks₃ (t₃ .free) (t₃ .used) (sound₃ .slots) (h .blocks-are .small) (e₃ ∙ ap (λ (l : List (AddressRow (Fixed 32))). blockBytes (step3 (engine b) (step1 (engine b) (b .rows) s a .gone) l (step1 (engine b) (b .rows) s a .rows ++ (newest a f w z ∷ [])) (record { free = s .free; used = s .used }))) others);
           flash-is = h .flash-is;
           disk-is = record { count = out .diskLength; is = ap (λ (x : Out1). x .disk) e₁ };
         }
@@ -118,7 +118,7 @@ module _ (b : BoxRecord) (disk flash addrs blocks : List ℕ) (s : Box (Fixed 32
     pub step-is : (x : Fixed (b .size)) (flashed copies : ℕ) (disk₄ flash₄ addrs₄ blocks₄ : List ℕ)
         → _≡_ {A = Out4} (record { flashed = flashed; primary = copies; disk = disk₄; flash = flash₄; addrs = addrs₄; blocks = blocks₄ })
         (out4 (withHeld b (n + 1)) (step4 (engine b) (s₃ .rows) (record { free = s₃ .free; used = s₃ .used }) (s₃ .flash) (s₃ .disk) f x 0))
-        → _≡_ {A = StepLeft} (record { held = n + 1; left = (record { flashed = flashed; primary = primary + copies; disk = disk₄; flash = flash₄; addrs = addrs₄; blocks = blocks₄ }) }) (after b (step (engine b) (b .rows) s (asks a f x w)))
+        → _≡_ {A = StepLeft} (record { held = n + 1; left = (record { flashed = flashed; primary = primary + copies; disk = disk₄; flash = flash₄; addrs = addrs₄; blocks = blocks₄ }) }) (after b (step (engine b) (b .rows) s (asks a f x w z)))
     unfolding out4 out1 after step more
     step-is x flashed copies disk₄ flash₄ addrs₄ blocks₄ e =
         let P : primary ≡ step1 (engine b) (b .rows) s a .primary = ap (λ (x : Out1). x .primary) e₁ in

@@ -9,7 +9,7 @@ use Rattle.parts.specs.declared.BoxRecord.{BoxRecord}
 use Rattle.parts.specs.Rep.{numbersOf, engine}
 use Rattle.paper.specs.KeyedLaws.{Distinct}
 use Rattle.paper.specs.Sound.{Sound}
-use Rattle.paper.specs.Cache.{Request, BlockRow, BlockRows, Box, RowOut, Taken, Stepped}
+use Rattle.paper.specs.Cache.{Seat, Request, BlockRow, BlockRows, Box, RowOut, Taken, Stepped}
 use Rattle.paper.specs.Engine.{Fixed, comparing}
 use Rattle.paper.specs.Lent.{join}
 use Rattle.paper.specs.Index.{indexWhere}
@@ -86,8 +86,8 @@ unfoldable pub after : (b : BoxRecord) → Stepped (Fixed 32) (Fixed (b .size)) 
 after b t = record { held = length (t .box .rows); left = out4 b t }
 
 -- the request of a step
-abbrev pub asks : {B : ℕ} → ℕ → Fixed 32 → Fixed B → Bool → Request (Fixed 32) (Fixed B)
-asks a f x w = record { address = a; fingerprint = f; block = x; dirty = w }
+abbrev pub asks : {B : ℕ} → ℕ → Fixed 32 → Fixed B → Bool → Seat → Request (Fixed 32) (Fixed B)
+asks a f x w z = record { address = a; fingerprint = f; block = x; dirty = w; seat = z }
 
 -- no two used block rows have one fingerprint
 abbrev pub OnceEach : List (BlockRow (Fixed 32)) → Type 0

@@ -15,7 +15,7 @@ ghost use Prim.Native.Nat.{ℕ, _+_, _*_, _-_, _<_, _≤_};
 ghost use lib.ListN.{length, getD, take, set};
 ghost use lib.Dec.{eqb};
 ghost use Rattle.tables.specs.Rows.{tableBytes, removeAt};
-ghost use Rattle.tables.specs.Records.{addressRow, addressBytes};
+ghost use Rattle.tables.specs.Records.{addressRow, addressBytes, bytes2};
 ghost use Rattle.tables.specs.Operations.{rowOut, rowAdded, rowNewest};
 ghost use Rattle.tables.specs.Index.{Indexed};
 ghost use Rattle.paper.specs.KeyedLaws.{Distinct};
@@ -254,6 +254,7 @@ pub fn step(
     b: BoxRecord,
     a: SourceAddress,
     dirty: u8,
+    seat: u16,
     disk: &mut [u8],
     flash: &mut [u8],
     addrs: &mut [u8],
@@ -282,10 +283,10 @@ pub fn step(
             blocks = now (blocks .exit);
           });
         }
-        ≡ after b (step (engine b) (b .rows) s (asks (a .0) f x w))) ⌝ }
+        ≡ after b (step (engine b) (b .rows) s (asks (a .0) f x w (bytes2 seat)))) ⌝ }
 {
     let o = step1(b, a, disk, flash, addrs, blocks, heads);
-    put::push_address(addrs, o.held, a, g, dirty);
+    put::push_address(addrs, o.held, a, g, dirty, seat);
     let n = o.held + 1;
     let c = parts::with_held(b, n);
     step3(c, o.place, addrs, blocks, heads);
@@ -304,18 +305,19 @@ pub fn renew(
     i: usize,
     j: usize,
     dirty: u8,
+    seat: u16,
     addrs: &mut [u8],
     blocks: &mut [u8],
     g: &[u8],
 )
     requires { ⌜ (i < b .held) × (j < b .slots) × (length (now g) ≡ 32) × Sized b (now addrs) (now blocks) ⌝ }
-    ensures { λ _. ⌜ now (addrs .exit) ≡ rowAdded (b .held - 1) (addressBytes (addressRow (a .0) (now (g .entry)) dirty))
+    ensures { λ _. ⌜ now (addrs .exit) ≡ rowAdded (b .held - 1) (addressBytes (addressRow (a .0) (now (g .entry)) dirty (bytes2 seat)))
         (rowOut (b .held) i (now (addrs .entry))) ⌝ }
     ensures { λ _. ⌜ now (blocks .exit) ≡ rowNewest (b .slots) j (now (blocks .entry)) ⌝ }
 {
     let n = b.held - 1;
     shift::remove_row(addrs, b.held, i);
-    put::push_address(addrs, n, a, g, dirty);
+    put::push_address(addrs, n, a, g, dirty, seat);
     shift::to_newest(blocks, b.slots, j);
 }
 

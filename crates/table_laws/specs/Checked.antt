@@ -11,9 +11,9 @@ use Rattle.tables.specs.Rows.{rows}
 use Rattle.tables.specs.Records.{readAddress, readBlock, slotsFrom}
 use Rattle.tables.specs.Find.{all, any, every, findFrom, pick, absent, caches, isUsed, isDirty}
 use Rattle.tables.specs.declared.Found.the-variants.{At}
-use Rattle.tables.specs.Unsound.{elem, twice, count, nonzero, nonzeroPadding, addressesUnsound, freeAfterUsed, freeWithFingerprint, eachOnce}
+use Rattle.tables.specs.Unsound.{elem, twice, count, nonzero, nonzeroPadding, nonzeroLast, addressesUnsound, freeAfterUsed, freeWithFingerprint, eachOnce}
 use Rattle.tables.specs.Unsound.{usedTwice, blocksUnsound, dirtyUncached}
-use Rattle.tables.specs.Sound.{distinct, tailOk, addressOk, isZero, zeroRow, soundAddresses, addressesFit, blocksFit, rowAddress, rowSlot}
+use Rattle.tables.specs.Sound.{distinct, tailOk, seatedTail, addressOk, isZero, zeroRow, soundAddresses, addressesFit, blocksFit, rowAddress, rowSlot}
 use Rattle.tables.specs.Index.{unique, rowOk, dirtyOk}
 use Rattle.tables.specs.RowLaws.{rows-length, drop-rows}
 use Rattle.tables.specs.SoundLaws.{and-left, and-right, or-left, or-right, not-true-false}
@@ -95,19 +95,23 @@ six-tests true true true true false r = refl
 six-tests true true true true true true = refl
 six-tests true true true true true false = refl
 
+-- the last padding byte is zero
+abbrev lastOk : List ℕ → Bool
+lastOk r = eqb (getD r 39 0) 0
+
 pub addresses-checked : (P m n : ℕ) (t : List ℕ) → addressesUnsound P m n t ≡ not (soundAddresses P m n t)
-unfolding addressesUnsound soundAddresses readAddress tailOk
+unfolding addressesUnsound soundAddresses readAddress seatedTail
 addresses-checked P m n t =
     let rs = rows n t in
     let a = any-all (λ r. leb P (readAddress r .address)) (λ r. ltb (rowAddress r) P) (λ r. below P (rowAddress r)) rs in
     let w = twice-distinct (map (λ r. readAddress r .address) rs) in
     let f = any-all (λ r. ltb 1 (readAddress r .dirty)) (λ r. leb (getD r 36 0) 1) (λ r. above 1 (getD r 36 0)) rs in
-    let z = any-all nonzeroPadding padOk padding rs in
+    let z = any-all nonzeroLast lastOk (λ r. refl) rs in
     let r = any-all nonzero isZero (λ x. refl) (drop (n * 40) t) in
-    let each : all (addressOk P) rs ≡ all (λ r. ltb (rowAddress r) P) rs && (all (λ r. leb (getD r 36 0) 1) rs && all padOk rs) =
-    all-and (λ r. ltb (rowAddress r) P) tailOk rs ∙ ap (λ b. all (λ r. ltb (rowAddress r) P) rs && b) (all-and (λ r. leb (getD r 36 0) 1) padOk rs) in
+    let each : all (addressOk P) rs ≡ all (λ r. ltb (rowAddress r) P) rs && (all (λ r. leb (getD r 36 0) 1) rs && all lastOk rs) =
+    all-and (λ r. ltb (rowAddress r) P) seatedTail rs ∙ ap (λ b. all (λ r. ltb (rowAddress r) P) rs && b) (all-and (λ r. leb (getD r 36 0) 1) lastOk rs) in
     rw (above m n, a, w, f, z, r, each) (six-tests (leb n m) (all (λ r. ltb (rowAddress r) P) rs) (distinct (map rowAddress rs))
-    (all (λ r. leb (getD r 36 0) 1) rs) (all padOk rs) (all isZero (drop (n * 40) t)))
+    (all (λ r. leb (getD r 36 0) 1) rs) (all lastOk rs) (all isZero (drop (n * 40) t)))
 
 -- the bytes from row n on are zero where the rows are
 all-both : {A : Type 0} (p : A → Bool) (xs ys : List A) → all p (xs ++ ys) ≡ all p xs && all p ys

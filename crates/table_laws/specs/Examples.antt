@@ -6,7 +6,7 @@ use mathlib.Core.List.{List, [], _∷_, _++_}
 use Prim.Native.Nat.{ℕ}
 use lib.ListN.{replicate}
 use Rattle.tables.specs.Rows.{rows, flat, zeros}
-use Rattle.tables.specs.Records.{addressRow, addressBytes, readAddress, blockRow, blockBytes, readBlock, freeRow}
+use Rattle.tables.specs.Records.{AddressRow, bytes2, addressRow, addressBytes, readAddress, blockRow, blockBytes, readBlock, freeRow}
 use Rattle.tables.specs.Records.{addressTable, heldRows, blockTable, blockRows, freshAddresses, freshBlocks}
 use Rattle.tables.specs.Find.{any, all, same}
 use Rattle.tables.specs.Unsound.{elem, twice, count, addressesUnsound, freeAfterUsed, eachOnce, usedTwice, blocksUnsound, dirtyUncached}
@@ -17,15 +17,18 @@ sample =
     1 ∷ 2 ∷ 3 ∷ 4 ∷ 5 ∷ 6 ∷ 7 ∷ 8 ∷ 9 ∷ 10 ∷ 11 ∷ 12 ∷ 13 ∷ 14 ∷ 15 ∷ 16
     ∷ 17 ∷ 18 ∷ 19 ∷ 20 ∷ 21 ∷ 22 ∷ 23 ∷ 24 ∷ 25 ∷ 26 ∷ 27 ∷ 28 ∷ 29 ∷ 30 ∷ 31 ∷ 32 ∷ []
 
--- a dirty row of the address 0x01020304
+-- a dirty row of the address 0x01020304, written by the seat 0x0506
 abbrev dirtyRow : List ℕ
-dirtyRow = 0x04 ∷ 0x03 ∷ 0x02 ∷ 0x01 ∷ (sample ++ (1 ∷ 0 ∷ 0 ∷ 0 ∷ []))
+dirtyRow = 0x04 ∷ 0x03 ∷ 0x02 ∷ 0x01 ∷ (sample ++ (1 ∷ 0x06 ∷ 0x05 ∷ 0 ∷ []))
 
-pub address-row : addressBytes (addressRow 0x01020304 sample 1) ≡ dirtyRow
+abbrev dirtyRecord : AddressRow
+dirtyRecord = addressRow 0x01020304 sample 1 (bytes2 0x0506)
+
+pub address-row : addressBytes dirtyRecord ≡ dirtyRow
 unfolding addressBytes
 address-row = refl
 
-pub address-row-read : readAddress dirtyRow ≡ addressRow 0x01020304 sample 1
+pub address-row-read : readAddress dirtyRow ≡ dirtyRecord
 unfolding readAddress readBlock
 address-row-read = refl
 
@@ -53,11 +56,11 @@ unfolding zeros readAddress readBlock
 free-row-read = refl
 
 -- a table of three rows that holds one, and what it holds
-pub held-one : addressTable 3 (addressRow 0x01020304 sample 1 ∷ []) ≡ dirtyRow ++ replicate 80 0
+pub held-one : addressTable 3 (dirtyRecord ∷ []) ≡ dirtyRow ++ replicate 80 0
 unfolding addressTable addressBytes flat zeros
 held-one = refl
 
-pub held-one-read : heldRows 1 (dirtyRow ++ replicate 80 0) ≡ addressRow 0x01020304 sample 1 ∷ []
+pub held-one-read : heldRows 1 (dirtyRow ++ replicate 80 0) ≡ dirtyRecord ∷ []
 unfolding heldRows rows readAddress readBlock
 held-one-read = refl
 
@@ -74,27 +77,32 @@ pub fresh-blocks-read : blockRows 3 (freeBytes 0 ++ (freeBytes 1 ++ freeBytes 2)
 unfolding blockRows rows zeros readAddress readBlock
 fresh-blocks-read = refl
 
--- refusal 6 by example, P = 9: tables of two rows, with the address, the dirty byte and the last padding byte of the first
+-- refusal 6 by example, P = 9: tables of two rows, with the address, the dirty byte and the last padding byte of the first; its seat is 0x0807
 abbrev addressBytes-of : ℕ → ℕ → ℕ → List ℕ
-addressBytes-of a x y = a ∷ 0 ∷ 0 ∷ 0 ∷ (sample ++ (x ∷ 0 ∷ 0 ∷ y ∷ []))
+addressBytes-of a x y = a ∷ 0 ∷ 0 ∷ 0 ∷ (sample ++ (x ∷ 7 ∷ 8 ∷ y ∷ []))
+
+-- a row that has a seat and nothing else
+abbrev seatAlone : List ℕ
+seatAlone = replicate 37 0 ++ (0 ∷ 1 ∷ 0 ∷ [])
 
 abbrev six : ℕ → List ℕ → List ℕ → Bool
 six n r s = addressesUnsound 9 2 n (r ++ s)
 
--- one row held: address 8 passes; address 9, dirty byte 2, padding, a second row that is not zero. Then: no row held, two of one address, two
--- that differ, three of two
+-- one row held: address 8 passes; address 9, dirty byte 2, padding, a second row that is not zero, or has a seat alone. Then: no row held,
+-- two of one address, two that differ, three of two
 pub sixes :
     six 1 (addressBytes-of 8 1 0) (replicate 40 0)
     ∷ six 1 (addressBytes-of 9 1 0) (replicate 40 0)
     ∷ six 1 (addressBytes-of 8 2 0) (replicate 40 0)
     ∷ six 1 (addressBytes-of 8 1 1) (replicate 40 0)
     ∷ six 1 (addressBytes-of 8 1 0) (addressBytes-of 0 0 1)
+    ∷ six 1 (addressBytes-of 8 1 0) seatAlone
     ∷ six 0 (addressBytes-of 8 1 0) (replicate 40 0)
     ∷ six 2 (addressBytes-of 8 1 0) (addressBytes-of 8 0 0)
     ∷ six 2 (addressBytes-of 8 1 0) (addressBytes-of 7 0 0)
     ∷ six 3 (addressBytes-of 8 1 0) (addressBytes-of 7 0 0)
     ∷ []
-    ≡ false ∷ true ∷ true ∷ true ∷ true ∷ true ∷ true ∷ false ∷ true ∷ []
+    ≡ false ∷ true ∷ true ∷ true ∷ true ∷ true ∷ true ∷ true ∷ false ∷ true ∷ []
 unfolding addressesUnsound rows any twice elem readAddress readBlock
 sixes = refl
 

@@ -13,8 +13,8 @@ use Rattle.tables.specs.Find.{all, findFrom, pick, hasAddress}
 use Rattle.tables.specs.declared.Found.{Found}
 use Rattle.tables.specs.declared.Found.the-variants.{At, Nothing}
 use Rattle.tables.specs.Unsound.{elem}
-use Rattle.tables.specs.Sound.{distinct, tailOk, addressOk, isZero, soundAddresses, rowAddress}
-use Rattle.tables.specs.Records.{addressBytes, addressRow, addressTable, freshAddresses, readAddress}
+use Rattle.tables.specs.Sound.{distinct, seatedTail, addressOk, isZero, soundAddresses, rowAddress}
+use Rattle.tables.specs.Records.{Seat, addressBytes, addressRow, addressTable, freshAddresses, readAddress}
 use Rattle.tables.specs.RowLaws.{rows-length, rows-at, length-part}
 use Rattle.tables.specs.SoundLaws.{and-left, and-right, or-left, or-right, all-at, values-at, values-length}
 use Rattle.tables.specs.FindLaws.{found-at}
@@ -88,7 +88,7 @@ addrs-pushed P m n t r h l lr ok f s =
 
 -- set_clean
 pub addrs-clean : (P m n : ℕ) (t : List ℕ) (k : ℕ) → k < n → length t ≡ m * 40 → Addrs P m n t → Addrs P m n (rowCleaned k t)
-unfolding readAddress tailOk rowCleaned
+unfolding readAddress seatedTail rowCleaned
 addrs-clean P m n t k h l s =
     let g : n * 40 ≤ length t = omega (arith, s .few) in
     let r : List ℕ = rowAt t k in
@@ -103,13 +103,13 @@ addrs-clean P m n t k h l s =
     ) in
     let o : addressOk P r ≡ true = ap (addressOk P) (sym (rows-at n t k h)) ∙ all-at (addressOk P) (rows n t) k [] (s .each) (rw rows-length h) in
     let z : getD (set r 36 0) 36 0 ≡ 0 = getD-set-same r 36 0 0 (omega arith) in
-    let pad : Bool = eqb (getD r 37 0) 0 && (eqb (getD r 38 0) 0 && eqb (getD r 39 0) 0) in
-    let tl : tailOk (set r 36 0) ≡ true = rw (z, far 37 (λ e. omega arith), far 38 (λ e. omega arith), far 39 (λ e. omega arith))
-    (and-right (leb (getD r 36 0) 1) pad (and-right (ltb (rowAddress r) P) (tailOk r) o)) in
+    let tl : seatedTail (set r 36 0) ≡ true = rw (z, far 39 (λ e. omega arith))
+    (and-right (leb (getD r 36 0) 1) (eqb (getD r 39 0) 0) (and-right (ltb (rowAddress r) P) (seatedTail r) o)) in
     record {
       few = s .few;
       each = rw (rows-set n t k 36 0 (omega arith)) (all-set (addressOk P) (rows n t) k (set r 36 0) (s .each)
-          (both (ltb (rowAddress (set r 36 0)) P) (tailOk (set r 36 0)) (ap (λ (x : ℕ). ltb x P) w ∙ and-left (ltb (rowAddress r) P) (tailOk r) o) tl));
+          (both (ltb (rowAddress (set r 36 0)) P) (seatedTail (set r 36 0))
+          (ap (λ (x : ℕ). ltb x P) w ∙ and-left (ltb (rowAddress r) P) (seatedTail r) o) tl));
       apart = rw (rows-set n t k 36 0 (omega arith), map-set-same rowAddress (rows n t) k (set r 36 0) [] (w ∙ ap rowAddress (sym (rows-at n t k h))))
           (s .apart);
       rest = rw (rest-clean n t k h g) (s .rest);
@@ -148,19 +148,20 @@ nothing-out n t a i e = unseen a 0 (removeAt (rows n t) i)
     (ap (elem a) (map-removeAt rowAddress (rows n t) i) ∙ elem-removeAt a (map rowAddress (rows n t)) i (not-found a 0 (rows n t) e))
 
 -- the row that push_address writes
-pub addressOk-of : (P a : ℕ) (g : List ℕ) (x : ℕ) → a < P → P ≤ 2 ^ 32 → x ≤ 1 → length g ≡ 32 → addressOk P (addressBytes (addressRow a g x)) ≡ true
-unfolding addressBytes tailOk readAddress
-addressOk-of P a g x h hp hx l =
-    let w : List ℕ = x ∷ 0 ∷ 0 ∷ 0 ∷ [] in
-    let r : List ℕ = addressBytes (addressRow a g x) in
-    both (ltb (rowAddress r) P) (tailOk r)
+pub addressOk-of : (P a : ℕ) (g : List ℕ) (x : ℕ) (z : Seat) → a < P → P ≤ 2 ^ 32 → x ≤ 1 → length g ≡ 32
+    → addressOk P (addressBytes (addressRow a g x z)) ≡ true
+unfolding addressBytes seatedTail readAddress
+addressOk-of P a g x z h hp hx l =
+    let w : List ℕ = x ∷ z .0 ∷ z .1 ∷ 0 ∷ [] in
+    let r : List ℕ = addressBytes (addressRow a g x z) in
+    both (ltb (rowAddress r) P) (seatedTail r)
     (ap (λ (k : ℕ). ltb k P) (le4-bytes4 a (omega arith)) ∙ lt-ltb a P h)
-    (rw (off g w 0 l, off g w 1 l, off g w 2 l, off g w 3 l) (both (leb x 1) true (le-leb x 1 hx) refl))
+    (rw (off g w 0 l, off g w 3 l) (both (leb x 1) true (le-leb x 1 hx) refl))
 
-pub length-ofAddr : (a : ℕ) (g : List ℕ) (x : ℕ) → length g ≡ 32 → length (addressBytes (addressRow a g x)) ≡ 40
+pub length-ofAddr : (a : ℕ) (g : List ℕ) (x : ℕ) (z : Seat) → length g ≡ 32 → length (addressBytes (addressRow a g x z)) ≡ 40
 unfolding addressBytes
-length-ofAddr a g x l = omega (arith, length-append g (x ∷ 0 ∷ 0 ∷ 0 ∷ []))
+length-ofAddr a g x z l = omega (arith, length-append g (x ∷ z .0 ∷ z .1 ∷ 0 ∷ []))
 
-pub le4-ofAddr : (a : ℕ) (g : List ℕ) (x : ℕ) → a < 2 ^ 32 → rowAddress (addressBytes (addressRow a g x)) ≡ a
+pub le4-ofAddr : (a : ℕ) (g : List ℕ) (x : ℕ) (z : Seat) → a < 2 ^ 32 → rowAddress (addressBytes (addressRow a g x z)) ≡ a
 unfolding addressBytes readAddress
-le4-ofAddr a g x h = le4-bytes4 a h
+le4-ofAddr a g x z h = le4-bytes4 a h

@@ -8,7 +8,7 @@ use native.Mathlib.Omega.{arith}
 use lib.ListN.{length, getD}
 use borrow.Author.Tests.{not-false}
 use Rattle.tables.specs.Rows.{rows, rowAt}
-use Rattle.tables.specs.Records.{addressBytes, addressRow, addressTable, heldRows, blockTable, blockRows, freshAddresses, freshBlocks}
+use Rattle.tables.specs.Records.{Seat, addressBytes, addressRow, addressTable, heldRows, blockTable, blockRows, freshAddresses, freshBlocks}
 use Rattle.tables.specs.Find.{every, findFrom, hasAddress, caches, isUsed}
 use Rattle.tables.specs.declared.Found.the-variants.{Nothing}
 use Rattle.tables.specs.Unsound.{addressesUnsound, blocksUnsound, dirtyUncached, tablesRefused}
@@ -47,13 +47,13 @@ module _ (P m n : ℕ) (t : List ℕ) (e : addressesUnsound P m n t ≡ false) (
   remove-row-kept i h = passes P m (n - 1) (rowOut n i t) (addrs-removed P m n t i h l parts)
 
   -- an address below P that is not held, where a row is left
-  pub push-address-kept : (a : ℕ) (g : List ℕ) (x : ℕ) → n < m → P ≤ 2 ^ 32 → a < P → length g ≡ 32 → x ≤ 1 → findFrom (hasAddress a) 0 (rows n t) ≡ Nothing
-      → addressesUnsound P m (n + 1) (rowAdded n (addressBytes (addressRow a g x)) t) ≡ false
-  push-address-kept a g x hn hp ha lg hx f =
-      let r : List ℕ = addressBytes (addressRow a g x) in
+  pub push-address-kept : (a : ℕ) (g : List ℕ) (x : ℕ) (z : Seat) → n < m → P ≤ 2 ^ 32 → a < P → length g ≡ 32 → x ≤ 1
+      → findFrom (hasAddress a) 0 (rows n t) ≡ Nothing → addressesUnsound P m (n + 1) (rowAdded n (addressBytes (addressRow a g x z)) t) ≡ false
+  push-address-kept a g x z hn hp ha lg hx f =
+      let r : List ℕ = addressBytes (addressRow a g x z) in
       passes P m (n + 1) (rowAdded n r t)
-      (addrs-pushed P m n t r hn l (length-ofAddr a g x lg) (addressOk-of P a g x ha hp hx lg)
-      (ap (λ (k : ℕ). findFrom (hasAddress k) 0 (rows n t)) (le4-ofAddr a g x (omega arith)) ∙ f) parts)
+      (addrs-pushed P m n t r hn l (length-ofAddr a g x z lg) (addressOk-of P a g x z ha hp hx lg)
+      (ap (λ (k : ℕ). findFrom (hasAddress k) 0 (rows n t)) (le4-ofAddr a g x z (omega arith)) ∙ f) parts)
 
   pub set-clean-kept : (k : ℕ) → k < n → addressesUnsound P m n (rowCleaned k t) ≡ false
   set-clean-kept k h = passes P m n (rowCleaned k t) (addrs-clean P m n t k h l parts)

@@ -25,7 +25,7 @@ module _ (n : ℕ) (t : List ℕ) (g : tableBytes n ≤ length t) where
   read-added r h l =
       ap (map readAddress) (rows-pushed n t (addressBytes r) (drop (n * 40 + 40) t) g (address-wide r l))
       ∙ map-++ readAddress (rows n t) (addressBytes r ∷ [])
-      ∙ ap (λ (x : AddressRow). map readAddress (rows n t) ++ (x ∷ [])) (addr-forth (r .address) (r .fingerprint) (r .dirty) h l)
+      ∙ ap (λ (x : AddressRow). map readAddress (rows n t) ++ (x ∷ [])) (addr-forth (r .address) (r .fingerprint) (r .dirty) (r .seat) h l)
 
   pub read-cleaned : (k : ℕ) → k < n → heldRows n (rowCleaned k t) ≡ set (heldRows n t) k (cleanRow (readAddress (rowAt t k)))
   unfolding rowCleaned heldRows

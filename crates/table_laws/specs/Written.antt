@@ -14,7 +14,7 @@ use Rattle.tables.specs.Records.{AddressRow, BlockRow, addressRow, blockRow, fr
 use Rattle.tables.specs.Records.{addressTable, blockTable, slotsFrom, freshAddresses, freshBlocks}
 use Rattle.tables.specs.Find.{all, isUsed}
 use Rattle.tables.specs.Operations.{freedRow, filled, rowOut, rowAdded, rowCleaned, rowNewest, rowFreed, rowFilled}
-use Rattle.tables.specs.Sound.{isZero, tailOk}
+use Rattle.tables.specs.Sound.{isZero, tailOk, seatedTail}
 use Rattle.tables.specs.Index.{rowOk}
 use Rattle.tables.specs.RowLaws.{rows-at, length-part}
 use Rattle.tables.specs.SoundLaws.{and-left, map-at}
@@ -35,20 +35,24 @@ pub block-print-length : (r : List ℕ) → length r ≡ rowBytes → length (re
 unfolding readBlock
 block-print-length r l = length-take-le 32 r (omega arith)
 
--- the dirty byte and the used byte of a row whose last four bytes pass
-pub low-byte : (r : List ℕ) → tailOk r ≡ true → (readAddress r .dirty ≤ 1) × (readBlock r .used ≤ 1)
-unfolding tailOk readAddress readBlock
-low-byte r e = let l = leb-true (getD r 36 0) 1 (and-left (leb (getD r 36 0) 1) _ e) in (l, l)
+-- the dirty byte, and the used byte, of a row whose last four bytes pass
+pub low-dirty : (r : List ℕ) → seatedTail r ≡ true → readAddress r .dirty ≤ 1
+unfolding seatedTail readAddress
+low-dirty r e = leb-true (getD r 36 0) 1 (and-left (leb (getD r 36 0) 1) _ e)
+
+pub low-used : (r : List ℕ) → tailOk r ≡ true → readBlock r .used ≤ 1
+unfolding tailOk readBlock
+low-used r e = leb-true (getD r 36 0) 1 (and-left (leb (getD r 36 0) 1) _ e)
 
 -- an address row that is written
 module _ (r : AddressRow) where
   pub address-wide : length (r .fingerprint) ≡ 32 → length (addressBytes r) ≡ rowBytes
   unfolding addressBytes
-  address-wide l = omega (arith, length-append (r .fingerprint) (r .dirty ∷ 0 ∷ 0 ∷ 0 ∷ []))
+  address-wide l = omega (arith, length-append (r .fingerprint) (r .dirty ∷ r .seat .0 ∷ r .seat .1 ∷ 0 ∷ []))
 
   print-length : length (addressBytes r) ≡ rowBytes → length (r .fingerprint) ≡ 32
   unfolding addressBytes
-  print-length l = omega (arith, length-append (r .fingerprint) (r .dirty ∷ 0 ∷ 0 ∷ 0 ∷ []))
+  print-length l = omega (arith, length-append (r .fingerprint) (r .dirty ∷ r .seat .0 ∷ r .seat .1 ∷ 0 ∷ []))
 
   pub address-address : r .address < 2 ^ 32 → readAddress (addressBytes r) .address ≡ r .address
   unfolding addressBytes readAddress
@@ -56,11 +60,11 @@ module _ (r : AddressRow) where
 
   pub address-print : length (r .fingerprint) ≡ 32 → readAddress (addressBytes r) .fingerprint ≡ r .fingerprint
   unfolding addressBytes readAddress
-  address-print l = take-at (r .fingerprint) (r .dirty ∷ 0 ∷ 0 ∷ 0 ∷ []) 32 l
+  address-print l = take-at (r .fingerprint) (r .dirty ∷ r .seat .0 ∷ r .seat .1 ∷ 0 ∷ []) 32 l
 
   pub address-dirty : length (r .fingerprint) ≡ 32 → readAddress (addressBytes r) .dirty ≡ r .dirty
   unfolding addressBytes readAddress
-  address-dirty l = getD-at (r .fingerprint) (r .dirty) (0 ∷ 0 ∷ 0 ∷ []) 0 32 l
+  address-dirty l = getD-at (r .fingerprint) (r .dirty) (r .seat .0 ∷ r .seat .1 ∷ 0 ∷ []) 0 32 l
 
 -- a block row that is written
 module _ (r : BlockRow) (l : length (r .fingerprint) ≡ 32) where
@@ -117,11 +121,11 @@ drop-zeros a b = ap (drop a) (sym (zeros-add a b)) ∙ drop-at (zeros a) (zeros 
 
 -- a row made clean
 abbrev pub cleanRow : AddressRow → AddressRow
-cleanRow r = addressRow (r .address) (r .fingerprint) 0
+cleanRow r = addressRow (r .address) (r .fingerprint) 0 (r .seat)
 
 clean-bytes : (r : AddressRow) → length (r .fingerprint) ≡ 32 → set (addressBytes r) 36 0 ≡ addressBytes (cleanRow r)
 unfolding addressBytes
-clean-bytes r l = ap (λ (x : List ℕ). bytes4 (r .address) ++ x) (set-at (r .fingerprint) (r .dirty) (0 ∷ 0 ∷ 0 ∷ []) 0 32 l)
+clean-bytes r l = ap (λ (x : List ℕ). bytes4 (r .address) ++ x) (set-at (r .fingerprint) (r .dirty) (r .seat .0 ∷ r .seat .1 ∷ 0 ∷ []) 0 32 l)
 
 module _ (m : ℕ) (rs : List AddressRow) (w : Wide (map addressBytes rs)) (n : ℕ) (e : length rs ≡ n) where
   count : n ≡ length (map addressBytes rs)

@@ -10,7 +10,7 @@ use lib.ListN.{length, getD, set, take, drop, length-append, length-drop, take-a
 use lib.Seq.{getD-append-add, getD-at, take-at, drop-at, length-take-le, drop-drop, take-set-lt, take-set-le, drop-set-lt, drop-set-add}
 use lib.Seq.{getD-set-same, getD-set-other}
 use Rattle.tables.specs.Rows.{rows, flat, zeros, rowAt, removeAt, le4}
-use Rattle.tables.specs.Records.{readAddress, addressBytes, readBlock, blockBytes, blockRows, addressRow, blockRow, freeRow, slotsFrom}
+use Rattle.tables.specs.Records.{Seat, readAddress, addressBytes, readBlock, blockBytes, blockRows, addressRow, blockRow, freeRow, slotsFrom}
 use Rattle.tables.specs.Sound.{tailOk, rowSlot}
 use Rattle.tables.specs.RecordLaws.{four}
 use Rattle.tables.specs.ShiftLaws.{length-zeros}
@@ -137,20 +137,24 @@ le4-bytes4 a h =
     let b : a / 16777216 < 256 = omega (arith, h) in
     rw (mod-eq-of-lt b) (digits a _ _ _ _ _ _ (div-add-mod a 256) d1 d2)
 
-addressRow-eq : {a b x y : ℕ} {g k : List ℕ} → a ≡ b → g ≡ k → x ≡ y → addressRow a g x ≡ addressRow b k y
-addressRow-eq p q r = rw (p, q, r)
+addressRow-eq : {a b x y : ℕ} {g k : List ℕ} {z v : Seat} → a ≡ b → g ≡ k → x ≡ y → z ≡ v → addressRow a g x z ≡ addressRow b k y v
+addressRow-eq p q r s = λ i. addressRow (p i) (q i) (r i) (s i)
 
 blockRow-eq : {a b x y : ℕ} {g k : List ℕ} → g ≡ k → a ≡ b → x ≡ y → blockRow g a x ≡ blockRow k b y
 blockRow-eq p q r = rw (p, q, r)
 
--- a record's bytes give the record back
-pub addr-forth : (a : ℕ) (g : List ℕ) (x : ℕ) → a < 2 ^ 32 → length g ≡ 32 → readAddress (addressBytes (addressRow a g x)) ≡ addressRow a g x
-unfolding addressBytes readAddress
-addr-forth a g x h l = addressRow-eq (le4-bytes4 a h) (take-at g (x ∷ 0 ∷ 0 ∷ 0 ∷ []) 32 l) (getD-at g x (0 ∷ 0 ∷ 0 ∷ []) 0 32 l)
-
 -- what stands behind 32 elements
 pub off : (x w : List ℕ) (j : ℕ) → length x ≡ 32 → getD (x ++ w) (32 + j) 0 ≡ getD w j 0
 off x w j l = ap (λ (k : ℕ). getD (x ++ w) (k + j) 0) (sym l) ∙ getD-append-add x w j 0
+
+-- a record's bytes give the record back
+pub addr-forth : (a : ℕ) (g : List ℕ) (x : ℕ) (z : Seat) → a < 2 ^ 32 → length g ≡ 32 → readAddress (addressBytes (addressRow a g x z)) ≡ addressRow a g x z
+unfolding addressBytes readAddress
+addr-forth a g x z h l =
+    let w : List ℕ = x ∷ z .0 ∷ z .1 ∷ 0 ∷ [] in
+    let low = off g w 1 l in
+    let high = off g w 2 l in
+    addressRow-eq (le4-bytes4 a h) (take-at g w 32 l) (getD-at g x (z .0 ∷ z .1 ∷ 0 ∷ []) 0 32 l) (λ i. (low i, high i))
 
 -- a block row with another fingerprint and used byte
 block-parts : (x r ys : List ℕ) (y : ℕ) → length x ≡ 32 → length r ≡ 40 → readBlock (x ++ (take 4 (drop 32 r) ++ (y ∷ ys))) ≡ blockRow x (readBlock r .slot) y
@@ -250,11 +254,15 @@ module _ (n : ℕ) (t : List ℕ) (k : ℕ) (h : k < n) (g : n * 40 ≤ length t
       sym (take-append-drop (n * 40) u) ∙ rw (← flat-rows n u, rows-set n t k 36 0 (omega arith), rest-clean)
 
 -- an address row made clean
-pub address-clean : (r : List ℕ) → length r ≡ 40 → readAddress (set r 36 0) ≡ addressRow (readAddress r .address) (readAddress r .fingerprint) 0
+pub address-clean : (r : List ℕ) → length r ≡ 40
+    → readAddress (set r 36 0) ≡ addressRow (readAddress r .address) (readAddress r .fingerprint) 0 (readAddress r .seat)
 unfolding readAddress
 address-clean r l =
     let far : (j : ℕ) → (j ≡ 36 → ⊥) → getD (set r 36 0) j 0 ≡ getD r j 0 = λ j n. getD-set-other r 36 j 0 0 n in
+    let low = far 37 (λ e. omega arith) in
+    let high = far 38 (λ e. omega arith) in
     addressRow-eq
     (rw (far 0 (λ e. omega arith), far 1 (λ e. omega arith), far 2 (λ e. omega arith), far 3 (λ e. omega arith)))
     (ap (take 32) (drop-set-add 4 r 32 0) ∙ take-set-le 32 (drop 4 r) 32 0 (omega arith))
     (getD-set-same r 36 0 0 (omega arith))
+    (λ i. (low i, high i))

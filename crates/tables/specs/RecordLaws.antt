@@ -13,7 +13,7 @@ use lib.Seq.{drop-cons, drop-drop, take-all}
 use borrow.Author.Tests.{eqb-true, leb-true}
 use Rattle.tables.specs.Rows.{rows, zeros, rowAt, le4}
 use Rattle.tables.specs.Find.{all, every}
-use Rattle.tables.specs.Sound.{tailOk, addressOk, isZero, distinct, soundAddresses, blockOk, soundBlocks, rowAddress, rowSlot}
+use Rattle.tables.specs.Sound.{tailOk, seatedTail, addressOk, isZero, distinct, soundAddresses, blockOk, soundBlocks, rowAddress, rowSlot}
 use Rattle.tables.specs.Records.{readAddress, addressBytes, readBlock, blockBytes, bytes4, heldRows, blockRows, addressTable, blockTable}
 use Rattle.tables.specs.RowLaws.{rows-length, rows-at, flat-rows, flat-all, getD-rowAt, length-part}
 use Rattle.tables.specs.SoundLaws.{all-at, every-at, and-left, and-right}
@@ -70,13 +70,21 @@ tail-is r l e =
     let k : length (drop 36 r) ≤ 4 = simp length-drop (omega arith) in
     sym (take-all 4 (drop 36 r) k) ∙ four r 36 (omega arith) ∙ rw (e1, e2, e3)
 
+-- .. of a held address row
+seated-is : (r : List ℕ) → length r ≡ 40 → seatedTail r ≡ true → drop 36 r ≡ getD r 36 0 ∷ getD r 37 0 ∷ getD r 38 0 ∷ 0 ∷ []
+unfolding seatedTail
+seated-is r l e =
+    let last : getD r 39 0 ≡ 0 = eqb-true _ _ (and-right (leb (getD r 36 0) 1) _ e) in
+    let k : length (drop 36 r) ≤ 4 = simp length-drop (omega arith) in
+    sym (take-all 4 (drop 36 r) k) ∙ four r 36 (omega arith) ∙ rw last
+
 -- a row that is a record's bytes
-pub addr-back : (r : List ℕ) → length r ≡ 40 → ((j : ℕ) → j < 40 → getD r j 0 < 256) → tailOk r ≡ true → addressBytes (readAddress r) ≡ r
+pub addr-back : (r : List ℕ) → length r ≡ 40 → ((j : ℕ) → j < 40 → getD r j 0 < 256) → seatedTail r ≡ true → addressBytes (readAddress r) ≡ r
 unfolding addressBytes readAddress
 addr-back r l b e =
-    ap (λ (x : List ℕ). x ++ (take 32 (drop 4 r) ++ (getD r 36 0 ∷ 0 ∷ 0 ∷ 0 ∷ [])))
+    ap (λ (x : List ℕ). x ++ (take 32 (drop 4 r) ++ (getD r 36 0 ∷ getD r 37 0 ∷ getD r 38 0 ∷ 0 ∷ [])))
     (bytes4-le4 r 0 (omega arith) (b 0 (omega arith)) (b 1 (omega arith)) (b 2 (omega arith)) (b 3 (omega arith)))
-    ∙ ap (λ (x : List ℕ). take 4 r ++ (take 32 (drop 4 r) ++ x)) (sym (tail-is r l e) ∙ sym (drop-drop 32 4 r))
+    ∙ ap (λ (x : List ℕ). take 4 r ++ (take 32 (drop 4 r) ++ x)) (sym (seated-is r l e) ∙ sym (drop-drop 32 4 r))
     ∙ ap (λ (x : List ℕ). take 4 r ++ x) (take-append-drop 32 (drop 4 r))
     ∙ take-append-drop 4 r
 
@@ -102,21 +110,21 @@ zeros-all [] e = refl
 zeros-all (x ∷ l) e = rw (eqb-true x 0 (and-left _ _ e), ← zeros-all l (and-right (isZero x) _ e))
 
 -- each row of a table passes a test that is part of its soundness
-module _ (n : ℕ) (t : List ℕ) (b : Bytes t) (h : n * 40 ≤ length t) (ok : (k : ℕ) → k < n → tailOk (rowAt t k) ≡ true) where
+module _ (n : ℕ) (t : List ℕ) (b : Bytes t) (h : n * 40 ≤ length t) where
   row-fits : (k : ℕ) → k < n → length (rowAt t k) ≡ 40
   row-fits k g = length-part t (k * 40) 40 (omega arith)
 
-  pub addrs-back : map addressBytes (map readAddress (rows n t)) ≡ rows n t
-  addrs-back = map-back addressBytes readAddress (rows n t)
+  pub addrs-back : ((k : ℕ) → k < n → seatedTail (rowAt t k) ≡ true) → map addressBytes (map readAddress (rows n t)) ≡ rows n t
+  addrs-back ok = map-back addressBytes readAddress (rows n t)
       (λ k g. let g1 : k < n = rw rows-length at g in rw (rows-at n t k g1) (addr-back (rowAt t k) (row-fits k g1) (bytes-rowAt t k b) (ok k g1)))
 
-  pub blocks-back : map blockBytes (map readBlock (rows n t)) ≡ rows n t
-  blocks-back = map-back blockBytes readBlock (rows n t)
+  pub blocks-back : ((k : ℕ) → k < n → tailOk (rowAt t k) ≡ true) → map blockBytes (map readBlock (rows n t)) ≡ rows n t
+  blocks-back ok = map-back blockBytes readBlock (rows n t)
       (λ k g. let g1 : k < n = rw rows-length at g in rw (rows-at n t k g1) (block-back (rowAt t k) (row-fits k g1) (bytes-rowAt t k b) (ok k g1)))
 
-addr-tails : (P n : ℕ) (t : List ℕ) → all (addressOk P) (rows n t) ≡ true → (k : ℕ) → k < n → tailOk (rowAt t k) ≡ true
+addr-tails : (P n : ℕ) (t : List ℕ) → all (addressOk P) (rows n t) ≡ true → (k : ℕ) → k < n → seatedTail (rowAt t k) ≡ true
 addr-tails P n t o k g =
-    and-right (ltb (rowAddress (rowAt t k)) P) (tailOk (rowAt t k))
+    and-right (ltb (rowAddress (rowAt t k)) P) (seatedTail (rowAt t k))
     (ap (addressOk P) (sym (rows-at n t k g)) ∙ all-at (addressOk P) (rows n t) k [] o (rw rows-length g))
 
 block-tails : (d : ℕ) (t : List ℕ) → every (blockOk d) (rows d t) ≡ true → (k : ℕ) → k < d → tailOk (rowAt t k) ≡ true

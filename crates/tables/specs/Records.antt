@@ -9,20 +9,29 @@ use Rattle.tables.specs.Rows.{rows, flat, zeros, le4}
 abbrev pub bytes4 : ℕ → List ℕ
 bytes4 a = a % 256 ∷ a / 256 % 256 ∷ a / 65536 % 256 ∷ a / 16777216 % 256 ∷ []
 
+-- a seat number as two bytes, "little-endian": its low byte and its high byte
+abbrev pub Seat : Type 0
+Seat = ℕ × ℕ
+
+abbrev pub bytes2 : ℕ → Seat
+bytes2 z = (z % 256, z / 256 % 256)
+
 -- "An address row: address (4 bytes, little-endian), fingerprint (32), dirty byte (1 if flash is newer than disk, else 0), 3 zero bytes."
+-- U7: "The first two padding bytes of an address row become a seat number, little-endian"
 pub record AddressRow : Type 0 where
   pub address : ℕ
   pub fingerprint : List ℕ
   pub dirty : ℕ
+  pub seat : Seat
 
-abbrev pub addressRow : ℕ → List ℕ → ℕ → AddressRow
-addressRow a g x = record { address = a; fingerprint = g; dirty = x }
+abbrev pub addressRow : ℕ → List ℕ → ℕ → Seat → AddressRow
+addressRow a g x z = record { address = a; fingerprint = g; dirty = x; seat = z }
 
 unfoldable pub addressBytes : AddressRow → List ℕ
-addressBytes r = bytes4 (r .address) ++ (r .fingerprint ++ (r .dirty ∷ 0 ∷ 0 ∷ 0 ∷ []))
+addressBytes r = bytes4 (r .address) ++ (r .fingerprint ++ (r .dirty ∷ r .seat .0 ∷ r .seat .1 ∷ 0 ∷ []))
 
 unfoldable pub readAddress : List ℕ → AddressRow
-readAddress r = record { address = le4 r 0; fingerprint = take 32 (drop 4 r); dirty = getD r 36 0 }
+readAddress r = record { address = le4 r 0; fingerprint = take 32 (drop 4 r); dirty = getD r 36 0; seat = (getD r 37 0, getD r 38 0) }
 
 -- "A block row: fingerprint (32), slot (4, little-endian), used byte (1 or 0), 3 zero bytes."
 pub record BlockRow : Type 0 where

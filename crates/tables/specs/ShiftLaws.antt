@@ -104,6 +104,20 @@ addr-made row w g x l lg e z =
     ap (λ (n : ℕ). set (take 4 row ++ take n g ++ drop (4 + n) row) 36 x) lg
     ∙ rw (e, take-all 32 g (omega arith), d, set-at (w ++ g) y (0 ∷ 0 ∷ 0 ∷ []) x 36 lp) (append-assoc w g (x ∷ 0 ∷ 0 ∷ 0 ∷ []))
 
+-- .. then the seat
+pub seat-made : (w g : List ℕ) (x s t : ℕ) → length w ≡ 4 → length g ≡ 32
+    → set (set (w ++ (g ++ (x ∷ 0 ∷ 0 ∷ 0 ∷ []))) 37 s) 38 t ≡ w ++ (g ++ (x ∷ s ∷ t ∷ 0 ∷ []))
+seat-made w g x s t lw lg =
+    let p : List ℕ = w ++ (g ++ (x ∷ [])) in
+    let q : List ℕ = w ++ (g ++ (x ∷ s ∷ [])) in
+    let lp : length p ≡ 37 = omega (arith, lw, lg, length-append w (g ++ (x ∷ [])), length-append g (x ∷ [])) in
+    let lq : length q ≡ 38 = omega (arith, lw, lg, length-append w (g ++ (x ∷ s ∷ [])), length-append g (x ∷ s ∷ [])) in
+    let shape : (u v : List ℕ) → (w ++ (g ++ u)) ++ v ≡ w ++ (g ++ (u ++ v))
+    = λ u v. append-assoc w (g ++ u) v ∙ ap (λ (y : List ℕ). w ++ y) (append-assoc g u v) in
+    ap (λ (y : List ℕ). set (set y 37 s) 38 t) (sym (shape (x ∷ []) (0 ∷ 0 ∷ 0 ∷ [])))
+    ∙ ap (λ (y : List ℕ). set y 38 t) (set-at p 0 (0 ∷ 0 ∷ []) s 37 lp ∙ shape (x ∷ []) (s ∷ 0 ∷ 0 ∷ []) ∙ sym (shape (x ∷ s ∷ []) (0 ∷ 0 ∷ [])))
+    ∙ set-at q 0 (0 ∷ []) t 38 lq ∙ shape (x ∷ s ∷ []) (t ∷ 0 ∷ [])
+
 -- filled_row
 pub fill-made : (r g : List ℕ) → length r ≡ 40 → length g ≡ 32 → set (paste (paste r 0 g (length g)) 36 (zeros 4) 4) 36 1 ≡ filled g r
 unfolding zeros filled

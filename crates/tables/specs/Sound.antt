@@ -31,9 +31,13 @@ numberIn Slot r = rowSlot r
 unfoldable pub tailOk : List ℕ → Bool
 tailOk r = leb (getD r 36 0) 1 && (eqb (getD r 37 0) 0 && (eqb (getD r 38 0) 0 && eqb (getD r 39 0) 0))
 
+-- U7, of a held address row: a byte that is 0 or 1, and the last byte zero; the two between are the seat
+unfoldable pub seatedTail : List ℕ → Bool
+seatedTail r = leb (getD r 36 0) 1 && eqb (getD r 39 0) 0
+
 -- a held address row: the address is below P
 abbrev pub addressOk : ℕ → List ℕ → Bool
-addressOk P r = ltb (rowAddress r) P && tailOk r
+addressOk P r = ltb (rowAddress r) P && seatedTail r
 
 abbrev pub isZero : ℕ → Bool
 isZero x = eqb x 0

@@ -12,7 +12,7 @@ use borrow.Author.Tests.{eqb-true, eqb-false, ltb-true, leb-true, leb-false, le-
 use Rattle.tables.specs.Rows.{rows, rowAt, le4}
 use Rattle.tables.specs.Find.{all, every, same}
 use Rattle.tables.specs.Unsound.{elem}
-use Rattle.tables.specs.Sound.{distinct, tailOk, addressOk, mark, rowAddress, rowSlot}
+use Rattle.tables.specs.Sound.{distinct, tailOk, seatedTail, addressOk, mark, rowAddress, rowSlot}
 use Rattle.tables.specs.Index.{rowOk}
 use Rattle.tables.specs.RowLaws.{rows-length, rows-at, getD-rowAt}
 use Rattle.tables.specs.FindLaws.{all-hit, all-miss, all-end}
@@ -23,6 +23,11 @@ pub tail-rowAt : (t : List ℕ) (k : ℕ)
     (eqb (getD t (k * 40 + 37) 0) 0 && (eqb (getD t (k * 40 + 38) 0) 0 && eqb (getD t (k * 40 + 39) 0) 0))
 unfolding tailOk
 tail-rowAt t k = rw (getD-rowAt t k 36 (omega arith), getD-rowAt t k 37 (omega arith), getD-rowAt t k 38 (omega arith), getD-rowAt t k 39 (omega arith))
+
+-- the dirty byte and the last byte of row k
+pub seated-rowAt : (t : List ℕ) (k : ℕ) → seatedTail (rowAt t k) ≡ leb (getD t (k * 40 + 36) 0) 1 && eqb (getD t (k * 40 + 39) 0) 0
+unfolding seatedTail
+seated-rowAt t k = rw (getD-rowAt t k 36 (omega arith), getD-rowAt t k 39 (omega arith))
 
 -- a turn on row k of a check of all rows, or of those from some row on: b is what it finds
 module _ {b : Bool} (p : List ℕ → Bool) (n : ℕ) (t : List ℕ) (k : ℕ) (i : b ≡ all p (drop k (rows n t))) where

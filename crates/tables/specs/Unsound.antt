@@ -29,6 +29,10 @@ nonzero x = not (eqb x 0)
 abbrev pub nonzeroPadding : List ℕ → Bool
 nonzeroPadding r = any nonzero (getD r (paddingByte 0 0) 0 ∷ getD r (paddingByte 0 1) 0 ∷ getD r (paddingByte 0 2) 0 ∷ [])
 
+-- U7: "In a held row refusal 6 now wants only the last padding byte zero."
+abbrev pub nonzeroLast : List ℕ → Bool
+nonzeroLast r = nonzero (getD r (paddingByte 0 2) 0)
+
 -- "6: address table unsound: n above m, a held address ≥ P or held twice, dirty byte above 1, nonzero padding, or a row from n on not zero."
 unfoldable pub addressesUnsound : (P m n : ℕ) → List ℕ → Bool
 addressesUnsound P m n t =
@@ -36,7 +40,7 @@ addressesUnsound P m n t =
     || any (λ r. leb P (readAddress r .address)) (rows n t)
     || twice (map (λ r. readAddress r .address) (rows n t))
     || any (λ r. ltb 1 (readAddress r .dirty)) (rows n t)
-    || any nonzeroPadding (rows n t)
+    || any nonzeroLast (rows n t)
     || any nonzero (drop (tableBytes n) t)
 
 -- "a free row after a used one"

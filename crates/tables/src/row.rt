@@ -9,9 +9,9 @@ ghost use lib.Dec.{eqb};
 ghost use lib.ListN.{length, getD};
 ghost use Rattle.tables.specs.Rows.{rowAt, rowBytes, le4, le8, HasRow, IsPrint};
 ghost use Rattle.tables.specs.Find.{all, isDirty, isUsed};
-ghost use Rattle.tables.specs.Records.{readAddress, readBlock, addressBytes, addressRow, blockBytes, freeRow};
+ghost use Rattle.tables.specs.Records.{bytes2, readAddress, readBlock, addressBytes, addressRow, blockBytes, freeRow};
 ghost use Rattle.tables.specs.Operations.{filled, freedRow, rowCleaned};
-ghost use Rattle.tables.specs.Sound.{isZero, numberIn, tailOk, zeroRow};
+ghost use Rattle.tables.specs.Sound.{isZero, numberIn, tailOk, seatedTail, zeroRow};
 
 // The bytes of a row.
 pub const BYTES: usize = 40;
@@ -28,8 +28,16 @@ const SLOT: usize = 32;
 // Where a row has the byte that says dirty or used.
 const FLAG: usize = 36;
 
-// The bytes of a row from there on: that byte, and three zero bytes.
+// The bytes of a row from there on: that byte, and three zero bytes, of which the first two are a held address row's seat.
 const TAIL: usize = 4;
+
+// Where an address row has its seat: the low byte behind its dirty byte, then the high byte.
+const SEAT: usize = 37;
+
+const SEAT_HIGH: usize = 38;
+
+// The last byte of a row, which is zero.
+const LAST: usize = 39;
 
 // Which number of a row: an address row's address, or a block row's slot.
 pub(crate) enum Number {
@@ -115,6 +123,16 @@ pub fn is_dirty(t: &[u8], k: usize) -> bool
     t[k * BYTES + FLAG] == 1
 }
 
+// The seat in row `k` of an address table.
+pub fn seat_at(t: &[u8], k: usize) -> u16
+    requires { ⌜ HasRow (now t) k ⌝ }
+    ensures { λ r. ⌜ bytes2 r ≡ readAddress (rowAt (now (t .entry)) k) .seat ⌝ }
+{
+    let low = byte_at(t, k * BYTES + SEAT);
+    let high = byte_at(t, k * BYTES + SEAT_HIGH);
+    (low + 256 * high) as u16
+}
+
 // The fingerprint in row `k` of a block table, as a part of it.
 pub fn block_fingerprint<'a>(t: &'a [u8], k: usize) -> &'a [u8]
     requires { ⌜ HasRow (now t) k ⌝ }
@@ -166,6 +184,15 @@ pub fn tail_ok(t: &[u8], k: usize) -> bool
     word_at(t, k * BYTES + FLAG) <= 1
 }
 
+// Whether, of the last four bytes of row `k` of an address table, the first is 0 or 1 and the last 0.
+pub fn seated_tail_ok(t: &[u8], k: usize) -> bool
+    requires { ⌜ HasRow (now t) k ⌝ }
+    ensures { λ r. ⌜ r ≡ seatedTail (rowAt (now (t .entry)) k) ⌝ }
+{
+    let at = k * BYTES;
+    (t[at + FLAG] <= 1) & (t[at + LAST] == 0)
+}
+
 // Whether the first four words of `s` are all `z`.
 pub(crate) fn words_are(s: &[u8], z: u64) -> bool
     requires { ⌜ 32 ≤ length (now s) ⌝ }
@@ -206,10 +233,10 @@ pub(crate) fn copy(t: &[u8], k: usize) -> [u8; BYTES]
     row
 }
 
-// The address row of `a`, `g` and `dirty`.
-pub(crate) fn new_address(a: SourceAddress, g: &[u8], dirty: u8) -> [u8; BYTES]
+// The address row of `a`, `g`, `dirty` and `seat`.
+pub(crate) fn new_address(a: SourceAddress, g: &[u8], dirty: u8, seat: u16) -> [u8; BYTES]
     requires { ⌜ IsPrint (now g) ⌝ }
-    ensures { λ r. ⌜ r ≡ addressBytes (addressRow (a .0) (now (g .entry)) dirty) ⌝ }
+    ensures { λ r. ⌜ r ≡ addressBytes (addressRow (a .0) (now (g .entry)) dirty (bytes2 seat)) ⌝ }
 {
     let x = a.0;
     let mut row = [0u8; BYTES];
@@ -219,6 +246,8 @@ pub(crate) fn new_address(a: SourceAddress, g: &[u8], dirty: u8) -> [u8; BYTES]
     row[3] = (x / 16777216 % 256) as u8;
     moves::write(&mut row, ADDRESS_PRINT, g);
     row[FLAG] = dirty;
+    row[SEAT] = (seat % 256) as u8;
+    row[SEAT_HIGH] = (seat / 256 % 256) as u8;
     row
 }
 

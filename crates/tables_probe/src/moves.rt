@@ -7,7 +7,7 @@ use tables::row;
 use tables::shift;
 ghost use mathlib.Core.Path.{_≡_};
 ghost use mathlib.Core.Bool.{cond};
-ghost use Rattle.tables.specs.Records.{addressBytes, addressRow, freshAddresses, freshBlocks};
+ghost use Rattle.tables.specs.Records.{addressBytes, addressRow, bytes2, freshAddresses, freshBlocks};
 ghost use Rattle.tables.specs.Sound.{blocksFit};
 ghost use Rattle.tables_probe.specs.Probe.{fitsMore, fitsRow, fitsTable, fitsBlock, fitsBlockWith};
 ghost use Rattle.tables.specs.Operations.{rowOut, rowAdded, rowCleaned, rowNewest, rowFreed, rowFilled};
@@ -24,12 +24,19 @@ pub extern "C" fn tables_probe_remove_row(t: &mut [u8], n: usize, i: usize)
 
 // Adds a row behind the first `n`.
 #[no_mangle]
-pub extern "C" fn tables_probe_push_address(t: &mut [u8], n: usize, a: u32, g: &[u8], dirty: u8)
+pub extern "C" fn tables_probe_push_address(
+    t: &mut [u8],
+    n: usize,
+    a: u32,
+    g: &[u8],
+    dirty: u8,
+    seat: u16,
+)
     ensures { λ _. ⌜ now (t .exit) ≡ cond (fitsMore n (now (t .entry)) (now (g .entry)))
-        (rowAdded n (addressBytes (addressRow a (now (g .entry)) dirty)) (now (t .entry))) (now (t .entry)) ⌝ }
+        (rowAdded n (addressBytes (addressRow a (now (g .entry)) dirty (bytes2 seat))) (now (t .entry))) (now (t .entry)) ⌝ }
 {
     if fit::fits_more(t, n, g) {
-        put::push_address(t, n, SourceAddress(a), g, dirty);
+        put::push_address(t, n, SourceAddress(a), g, dirty, seat);
     }
 }
 

@@ -78,6 +78,18 @@ pub struct ManyAnswer {
 pub struct Held {
     pub fingerprint: Fingerprint,
     pub dirty: bool,
+    /// The seat that last wrote the address, 0 where the address was read when it was not held, and not written since.
+    pub seat: u16,
+}
+
+impl Held {
+    /// The row of an address in a report.
+    fn reported(&self, address: u32, report: Report) -> Vec<u8> {
+        let [low, high] = self.seat.to_le_bytes();
+        let mut bytes = [&address.to_le_bytes()[..], &[self.dirty as u8, low, high]].concat();
+        bytes.truncate(report.row());
+        bytes
+    }
 }
 
 #[derive(Clone, Copy, Default)]
@@ -141,9 +153,9 @@ impl Cache {
         Ok(match call {
             Call::Open => panic!("opening makes a cache"),
             Call::Read => self.read(address, block, None),
-            Call::Through => self.write(address, block, false, true),
-            Call::Back => self.write(address, block, true, false),
-            Call::Invalidate => self.invalidate(address, block),
+            Call::Through(seat) => self.write(address, seat, block, false, true),
+            Call::Back(seat) => self.write(address, seat, block, true, false),
+            Call::Invalidate(_) => self.invalidate(address, block),
             Call::Flush => self.flush(self.m),
             Call::FlushSome(most) => self.flush(most),
             Call::Look => self.look(address),
@@ -196,31 +208,34 @@ impl Cache {
 
     /// A read. Where it misses, it takes the block that is given, or that of the disk where none is.
     fn read(&mut self, a: u32, block: &mut Vec<u8>, given: Option<Vec<u8>>) -> Answer {
-        let known = self.held.get(&a).copied().filter(|row| self.slots.contains_key(&row.fingerprint));
-        let (word, writes) = match known {
+        let held = self.held.get(&a).copied();
+        // "reads keep it, a read of an address not held sets 0" (document 02, U7)
+        let seat = held.map_or(0, |row| row.seat);
+        let (word, fingerprint, dirty) = match held.filter(|row| self.slots.contains_key(&row.fingerprint)) {
             Some(row) => {
                 *block = self.flash.block(self.slots[&row.fingerprint] as usize).to_vec();
-                (HIT, self.step(a, row.fingerprint, block, row.dirty))
+                (HIT, row.fingerprint, row.dirty)
             }
             None => {
                 *block = given.unwrap_or_else(|| self.disk.block(a as usize).to_vec());
-                (MISS, self.step(a, self.fingerprint(block), block, false))
+                (MISS, self.fingerprint(block), false)
             }
         };
+        let writes = self.step(a, Held { fingerprint, dirty, seat }, block);
         self.counters.reads += 1;
         self.counters.hits += (word == HIT) as u64;
         self.counted(word, writes)
     }
 
-    fn write(&mut self, a: u32, block: &[u8], dirty: bool, to_disk: bool) -> Answer {
-        let g = self.fingerprint(block);
-        let word = self.same_or_new(&g);
+    fn write(&mut self, a: u32, seat: u16, block: &[u8], dirty: bool, to_disk: bool) -> Answer {
+        let fingerprint = self.fingerprint(block);
+        let word = self.same_or_new(&fingerprint);
         if to_disk {
             self.disk.put(a as usize, block);
         }
         // "a write back to a held, clean address with the same fingerprint leaves the row clean" (document 02, U1)
-        let unchanged = self.held.get(&a) == Some(&Held { fingerprint: g, dirty: false });
-        let mut writes = self.step(a, g, block, dirty && !unchanged);
+        let unchanged = self.held.get(&a).is_some_and(|row| row.fingerprint == fingerprint && !row.dirty);
+        let mut writes = self.step(a, Held { fingerprint, dirty: dirty && !unchanged, seat }, block);
         writes.primary += to_disk as u64;
         self.counted(word, writes)
     }
@@ -255,8 +270,9 @@ impl Cache {
         Answer { word, first: place as u64 * self.b as u64, second: self.b as u64 }
     }
 
-    /// The step of one request, under the document's numbers.
-    fn step(&mut self, a: u32, g: Fingerprint, b: &[u8], dirty: bool) -> Writes {
+    /// The step of one request, under the document's numbers: the row that address a is to have, and its block.
+    fn step(&mut self, a: u32, new: Held, b: &[u8]) -> Writes {
+        let g = new.fingerprint;
         let mut writes = Writes::default();
         // 1
         let mut q = None;
@@ -272,7 +288,7 @@ impl Cache {
         }
         // 2
         self.addresses.push_back(a);
-        self.held.insert(a, Held { fingerprint: g, dirty });
+        self.held.insert(a, new);
         // 3
         if let Some(q) = q {
             let without_block = |x: &u32| *x != a && !self.slots.contains_key(&self.held[x].fingerprint);
@@ -292,7 +308,7 @@ impl Cache {
                 let wanted: HashSet<Fingerprint> = self.held.values().map(|row| row.fingerprint).collect();
                 let victim = self.cached.iter().find(|other| !wanted.contains(*other)).unwrap_or(&self.cached[0]).to_owned();
                 for x in self.addresses.clone() {
-                    if self.held[&x] == (Held { fingerprint: victim, dirty: true }) {
+                    if self.held[&x].fingerprint == victim && self.held[&x].dirty {
                         self.clean(x);
                         writes.primary += 1;
                     }
@@ -357,6 +373,14 @@ impl Cache {
     /// Held addresses, oldest first, with what is known of each.
     pub fn rows(&self) -> Vec<(u32, Held)> {
         self.addresses.iter().map(|a| (*a, self.held[a])).collect()
+    }
+
+    /// A report on the held rows.
+    pub fn report(&self, report: Report) -> Vec<u8> {
+        let mut bytes: Vec<u8> = self.rows().iter().flat_map(|(a, row)| row.reported(*a, report)).collect();
+        // "zeros follow"
+        bytes.resize(self.m * report.row(), 0);
+        bytes
     }
 
     /// The cached blocks' bytes, oldest first.

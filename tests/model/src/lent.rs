@@ -98,7 +98,9 @@ pub struct AddressRow {
     pub address: u32,
     pub fingerprint: Fingerprint,
     pub dirty: u8,
-    pub padding: [u8; 3],
+    /// "The first two padding bytes of an address row become a seat number, little-endian" (document 02, U7)
+    pub seat: u16,
+    pub padding: u8,
 }
 
 #[derive(Clone, Copy, Debug, PartialEq, Eq)]
@@ -115,12 +117,13 @@ impl AddressRow {
             address: u32::from_le_bytes(row[..4].try_into().unwrap()),
             fingerprint: row[4..36].try_into().unwrap(),
             dirty: row[36],
-            padding: row[37..].try_into().unwrap(),
+            seat: u16::from_le_bytes(row[37..39].try_into().unwrap()),
+            padding: row[39],
         }
     }
 
     pub fn to_bytes(&self) -> Vec<u8> {
-        [&self.address.to_le_bytes()[..], &self.fingerprint, &[self.dirty], &self.padding].concat()
+        [&self.address.to_le_bytes()[..], &self.fingerprint, &[self.dirty], &self.seat.to_le_bytes(), &[self.padding]].concat()
     }
 }
 
@@ -167,7 +170,8 @@ fn six(numbers: &Numbers, rows: &[AddressRow], bytes: &[u8]) -> bool {
     let different: BTreeSet<u32> = held.iter().map(|row| row.address).collect();
     different.len() < n
         || different.iter().any(|address| *address as u64 >= numbers.p)
-        || held.iter().any(|row| row.dirty > 1 || row.padding != [0; 3])
+        // "In a held row refusal 6 now wants only the last padding byte zero." (document 02, U7)
+        || held.iter().any(|row| row.dirty > 1 || row.padding != 0)
         || bytes[n * ROW..].iter().any(|byte| *byte != 0)
 }
 
@@ -215,6 +219,15 @@ pub fn refusal_many(lent: &Lent, folder: &Folder) -> u32 {
         _ => folder.asked.iter().any(|address| *address as u64 >= numbers.p),
     };
     first_of(&MANY_CHECKS, lent, own)
+}
+
+/// The number with which a report into so many bytes is refused, 0 where it is made. A state of another length comes before all.
+pub fn refusal_report(report: Report, lent: &Lent, length: usize) -> u32 {
+    if lent.state.len() != STATE {
+        return 2;
+    }
+    let most = lent.numbers().m as u128 * report.row() as u128;
+    first_of(&REPORT_CHECKS, lent, |_| length as u128 != most)
 }
 
 /// The first of these checks that applies, 0 where none does. `own` is the call's own part of 2, of 3 and of 10.
@@ -272,6 +285,15 @@ pub fn carry_out_many(lent: &mut Lent, folder: &mut Folder) -> u32 {
     number
 }
 
+/// The same for a report, which is lent its bytes and changes nothing else.
+pub fn carry_out_report(report: Report, lent: &Lent, bytes: &mut Vec<u8>) -> u32 {
+    let number = refusal_report(report, lent, bytes.len());
+    if number == 0 {
+        *bytes = Cache::load(&mut lent.clone()).report(report);
+    }
+    number
+}
+
 impl ManyAnswer {
     pub fn to_bytes(self) -> Vec<u8> {
         [self.hits, self.flash, self.primary, self.fetches].iter().flat_map(|number| number.to_le_bytes()).collect()
@@ -310,7 +332,7 @@ impl Cache {
             d: numbers.d as usize,
             label: numbers.label,
             addresses: held.iter().map(|row| row.address).collect(),
-            held: held.iter().map(|row| (row.address, Held { fingerprint: row.fingerprint, dirty: row.dirty == 1 })).collect(),
+            held: held.iter().map(|row| (row.address, Held { fingerprint: row.fingerprint, dirty: row.dirty == 1, seat: row.seat })).collect(),
             free: free.iter().map(|row| row.slot).collect(),
             cached: used.iter().map(|row| row.fingerprint).collect(),
             slots: used.iter().map(|row| (row.fingerprint, row.slot)).collect::<HashMap<_, _>>(),
@@ -329,7 +351,8 @@ impl Cache {
     fn address_bytes(&self) -> Vec<u8> {
         let mut bytes = Vec::with_capacity(self.m * ROW);
         for (address, row) in self.rows() {
-            bytes.extend(AddressRow { address, fingerprint: row.fingerprint, dirty: row.dirty as u8, padding: [0; 3] }.to_bytes());
+            let Held { fingerprint, dirty, seat } = row;
+            bytes.extend(AddressRow { address, fingerprint, dirty: dirty as u8, seat, padding: 0 }.to_bytes());
         }
         bytes.resize(self.m * ROW, 0);
         bytes

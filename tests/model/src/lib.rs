@@ -2,14 +2,16 @@
 //!
 //! `Cache` runs calls from a fresh box. `Lent` is a box in bytes, any bytes: `carry_out` gives what a call must answer and what every buffer
 //! must hold after it. The call that reads a folder of addresses is lent a `Folder` beside the box: `Cache::read_many`, `carry_out_many`.
+//! The two reports are lent their bytes: `Cache::report`, `carry_out_report`.
 //! `machines` has the two machines that the document compares a list of calls with, `exam` what is counted of all lists of a few reads.
 mod cache;
 pub mod exam;
 mod lent;
 pub mod machines;
 
-pub use cache::{Answer, Cache, Counters, ManyAnswer};
-pub use lent::{carry_out, carry_out_many, read_tables, refusal, refusal_many, AddressRow, BlockRow, Folder, Lent, Numbers};
+pub use cache::{Answer, Cache, Counters, Held, ManyAnswer};
+pub use lent::{carry_out, carry_out_many, carry_out_report, read_tables, refusal, refusal_many, refusal_report};
+pub use lent::{AddressRow, BlockRow, Folder, Lent, Numbers};
 
 use sha2::{Digest, Sha256};
 
@@ -42,25 +44,58 @@ pub const MOST_ASKED: usize = 64;
 /// The refusals that one call for a folder checks, in the order of the documents.
 pub const MANY_CHECKS: [u32; 8] = [1, 2, 10, 3, 6, 7, 8, 9];
 
+/// The two reports on the held rows (document 02, U7).
+#[derive(Clone, Copy, Debug, PartialEq, Eq)]
+pub enum Report {
+    Manager,
+    Desk,
+}
+
+pub const REPORTS: [Report; 2] = [Report::Manager, Report::Desk];
+/// The refusals that a report checks, in the order of the documents: "no 3 and no 9".
+pub const REPORT_CHECKS: [u32; 5] = [1, 2, 6, 7, 8];
+
+impl Report {
+    /// The bytes of a row: "address, dirty byte and seat [..] in m × 7 lent bytes", "address and dirty byte only, in m × 5".
+    pub fn row(self) -> usize {
+        match self {
+            Report::Manager => 7,
+            Report::Desk => 5,
+        }
+    }
+}
+
+/// A write carries the number of the seat that makes it.
 #[derive(Clone, Copy, Debug, PartialEq, Eq, Hash)]
 pub enum Call {
     Open,
     Read,
-    Through,
-    Back,
-    Invalidate,
+    Through(u16),
+    Back(u16),
+    Invalidate(u16),
     Flush,
     /// A flush of at most so many dirty rows (document 02, U3).
     FlushSome(usize),
     Look,
 }
 
-/// All calls. The flush in parts is of one row.
-pub const CALLS: [Call; 8] = [Call::Open, Call::Read, Call::Through, Call::Back, Call::Invalidate, Call::Flush, Call::Look, Call::FlushSome(1)];
+/// All calls. The flush in parts is of one row; each write is of a seat of its own.
+pub const CALLS: [Call; 8] =
+    [Call::Open, Call::Read, Call::Through(0x0102), Call::Back(0x0304), Call::Invalidate(0x0506), Call::Flush, Call::Look, Call::FlushSome(1)];
 
 impl Call {
     pub fn is_write(self) -> bool {
-        matches!(self, Call::Through | Call::Back | Call::Invalidate)
+        matches!(self, Call::Through(_) | Call::Back(_) | Call::Invalidate(_))
+    }
+
+    /// The same call, made by this seat where it is a write.
+    pub fn by_seat(self, seat: u16) -> Call {
+        match self {
+            Call::Through(_) => Call::Through(seat),
+            Call::Back(_) => Call::Back(seat),
+            Call::Invalidate(_) => Call::Invalidate(seat),
+            other => other,
+        }
     }
 
     /// Reads and writes are lent one block.

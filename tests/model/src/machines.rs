@@ -17,7 +17,7 @@ impl PlainDisk {
         match call {
             _ if refused => None,
             Call::Read | Call::Look => Some(&self.blocks[address as usize]),
-            Call::Through | Call::Back | Call::Invalidate => {
+            Call::Through(_) | Call::Back(_) | Call::Invalidate(_) => {
                 self.blocks[address as usize] = lent.to_vec();
                 None
             }

@@ -1,6 +1,6 @@
 //! The two ways of the model agree: a list run in maps and queues, and each of its calls loaded from bytes and stored to bytes.
 use common::Random;
-use model::{carry_out, Answer, Cache, Call, Lent, Numbers, LABEL};
+use model::{carry_out, carry_out_report, Answer, Cache, Call, Lent, Numbers, LABEL, REPORTS};
 
 #[test]
 fn lists_in_bytes() {
@@ -29,7 +29,7 @@ fn lists_in_bytes() {
         assert_eq!(carry_out(Call::Open, 0, &mut lent), 0);
         assert_eq!(cache.difference(&lent), None, "seed {seed}");
         for _ in 0..100 {
-            let call = model::CALLS[1 + random.below(7)];
+            let call = model::CALLS[1 + random.below(7)].by_seat(random.number() as u16);
             let address = random.below(p + 1) as u32;
             let length = if random.below(20) == 0 { b - 1 } else { b };
             let mut block = vec![random.below(contents) as u8; length];
@@ -49,6 +49,10 @@ fn lists_in_bytes() {
             }
             assert_eq!(lent.block, block);
             assert_eq!(cache.difference(&lent), None, "seed {seed}, {call:?} {address}");
+            for report in REPORTS {
+                let mut bytes = random.bytes(m * report.row());
+                assert_eq!((carry_out_report(report, &lent, &mut bytes), bytes), (0, cache.report(report)), "seed {seed}, {call:?} {address}");
+            }
             calls += 1;
         }
     }

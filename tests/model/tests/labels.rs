@@ -48,7 +48,7 @@ fn in_every_fingerprint() {
     let lent = used(&label);
     assert_eq!(lent.state[72..], label);
     assert_eq!(lent.addresses[4..36], fingerprint(&label, &[5; B]));
-    for call in [Call::Through, Call::Back] {
+    for call in [Call::Through(1), Call::Back(2)] {
         let mut lent = lent.clone();
         lent.block = vec![9; B];
         assert_eq!(carry_out(call, 1, &mut lent), 0);
@@ -60,7 +60,7 @@ fn in_every_fingerprint() {
         let mut lent = lent.clone();
         lent.state[72..].copy_from_slice(&other);
         lent.block = vec![5; B];
-        assert_eq!(carry_out(Call::Invalidate, 1, &mut lent), 0);
+        assert_eq!(carry_out(Call::Invalidate(3), 1, &mut lent), 0);
         assert_eq!(model::Answer::from_bytes(&lent.answer).word, word);
     }
     let mut lent = lent.clone();

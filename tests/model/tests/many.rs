@@ -25,7 +25,7 @@ fn opened(cache: &mut Cache, asked: &[u32]) -> (ManyAnswer, Vec<u8>) {
 #[test]
 fn fetched_in_turn() {
     let mut cache = fresh(2, 1, 1);
-    cache.call(Call::Back, 0, &mut vec![7; B]).unwrap();
+    cache.call(Call::Back(0), 0, &mut vec![7; B]).unwrap();
     assert_eq!(opened(&mut cache, &[1, 0]), (ManyAnswer { hits: 0, flash: 2, primary: 1, fetches: 2 }, vec![1, 7]));
     assert_eq!((cache.disk_block(0), cache.disk_block(1)), (&[7; B][..], &[1; B][..]));
     println!("write back 7 to address 0, then the folder 1 0: blocks 1 and 7");
@@ -51,7 +51,7 @@ fn repeats() {
 /// has `stored`.
 fn off_the_premise(held: bool, print: u8, stored: u8) -> Lent {
     let g = fingerprint(&OFFICE, &[print; B]);
-    let row = AddressRow { address: 3, fingerprint: g, dirty: 0, padding: [0; 3] };
+    let row = AddressRow { address: 3, fingerprint: g, dirty: 0, seat: 0x5A7, padding: 0 };
     let mut addresses = if held { row.to_bytes() } else { Vec::new() };
     addresses.resize(2 * ROW, 0);
     Lent {
@@ -115,7 +115,7 @@ fn as_the_reads_in_turn() {
         let mut cache = Cache::fresh(B, p, m, d, OFFICE, disk.clone(), flash.clone());
         let mut lent = Lent { state: vec![], disk, flash, addresses: vec![], blocks: vec![], block: vec![], answer: vec![], label: vec![] };
         for _ in 0..30 {
-            let call = model::CALLS[1 + random.below(6)];
+            let call = model::CALLS[1 + random.below(6)].by_seat(random.number() as u16);
             cache.call(call, random.below(p) as u32, &mut vec![random.below(contents) as u8; B]).unwrap();
             let asked: Vec<u32> = (0..1 + random.below(12)).map(|_| random.below(p) as u32).collect();
             let mut single = cache.clone();
@@ -164,7 +164,7 @@ fn order_of_refusals() {
     assert_eq!(refusal_many(&lent, &many), 8);
     lent.blocks[37] = 1;
     assert_eq!(refusal_many(&lent, &many), 7);
-    lent.addresses[37] = 1;
+    lent.addresses[39] = 1;
     assert_eq!(refusal_many(&lent, &many), 6);
     many.asked[1] = 8;
     assert_eq!(refusal_many(&lent, &many), 3);

@@ -19,9 +19,9 @@ fn line(cache: &mut Cache, number: usize, text: &str) -> String {
         "R" => Call::Read,
         "L" => Call::Look,
         "F" => parts.get(1).map_or(Call::Flush, |most| Call::FlushSome(most.parse().unwrap())),
-        "T" => Call::Through,
-        "B" => Call::Back,
-        "I" => Call::Invalidate,
+        "T" => Call::Through(0),
+        "B" => Call::Back(0),
+        "I" => Call::Invalidate(0),
         other => panic!("no call {other}"),
     };
     let address = parts.get(1).map_or(0, |part| part.parse().unwrap());
@@ -162,7 +162,7 @@ fn edges() {
             assert_eq!(carry_out(Call::Look, 6, &mut opened), 0);
             assert_eq!(Answer::from_bytes(&opened.answer), Answer { word: model::DISK, first: 6 * b as u64, second: b as u64 });
             let kept = opened.clone();
-            for call in [Call::Read, Call::Through, Call::Back, Call::Invalidate, Call::Look] {
+            for call in [Call::Read, Call::Through(7), Call::Back(7), Call::Invalidate(7), Call::Look] {
                 assert_eq!(carry_out(call, 8, &mut opened), 3);
             }
             assert_eq!(opened.difference(&kept), None);
@@ -176,7 +176,7 @@ fn edges() {
 fn order_of_refusals() {
     let mut sound = lent(64, 8, 3, 2);
     carry_out(Call::Open, 0, &mut sound);
-    carry_out(Call::Back, 5, &mut sound);
+    carry_out(Call::Back(9), 5, &mut sound);
     let set = |lent: &mut Lent, place: usize, number: u64| lent.state[place * 8..place * 8 + 8].copy_from_slice(&number.to_le_bytes());
     let served = {
         let mut lent = sound.clone();
@@ -193,7 +193,7 @@ fn order_of_refusals() {
         expected.push((8, model::refusal(call, 8 - 1, &lent)));
         lent.blocks[37] = 1;
         expected.push((7, model::refusal(call, 8 - 1, &lent)));
-        lent.addresses[37] = 1;
+        lent.addresses[39] = 1;
         expected.push((6, model::refusal(call, 8 - 1, &lent)));
         expected.push((3, model::refusal(call, 8, &lent)));
         lent.flash.pop();

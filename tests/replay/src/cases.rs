@@ -51,7 +51,7 @@ const BOXES: [&str; 12] = [
 ];
 
 /// Lines after `box 64 8 3 2`, with what is printed after the call number.
-const LATER: [(&str, &str); 67] = [
+const LATER: [(&str, &str); 69] = [
     ("R 0", "R 0 miss 1 0"),
     ("R 7", "R 7 miss 1 0"),
     ("R 8", "refused 3"),
@@ -103,6 +103,9 @@ const LATER: [(&str, &str); 67] = [
     ("T 1 0G", "refused 4"),
     ("T 1  00", "refused 4"),
     ("T 1 00 ", "refused 4"),
+    // A write has no seat in a replay.
+    ("T 1 00 7", "refused 4"),
+    ("B 1 00 0", "refused 4"),
     ("T 1 @0", "refused 4"),
     ("T 1 0\0", "refused 4"),
     ("T 1 \x000", "refused 4"),

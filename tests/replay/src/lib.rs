@@ -46,17 +46,32 @@ fn hexadecimal(word: &str) -> Option<u8> {
     (word.len() == 2 && word.chars().all(digit)).then(|| u8::from_str_radix(word, 16).unwrap())
 }
 
-/// With `parts` a flush may have the most rows that it cleans, where the other calls have an address.
-fn asked(line: &[u8], parts: bool) -> Option<Asked<'_>> {
-    let words = words(line)?;
+/// Which lines a list may have beside those of a replay.
+#[derive(Clone, Copy, PartialEq)]
+pub enum More {
+    Nothing,
+    /// A flush may have the most rows that it cleans, where the other calls have an address.
+    Parts,
+    /// A write may have its seat as its last word.
+    Seats,
+}
+
+fn asked(line: &[u8], more: More) -> Option<Asked<'_>> {
+    let mut words = words(line)?;
+    // "writes carry it (0 in replay)" (document 02, U7)
+    let mut seat = 0;
+    if more == More::Seats && words.len() == 4 {
+        seat = decimal(words.pop()?)?.try_into().ok()?;
+        Some(()).filter(|_| ["T", "B", "I"].contains(&words[0]))?;
+    }
     let (call, content) = match words[..] {
         ["F"] => (Call::Flush, 0),
-        ["F", most] if parts => (Call::FlushSome(decimal(most)? as usize), 0),
+        ["F", most] if more == More::Parts => (Call::FlushSome(decimal(most)? as usize), 0),
         ["R", _] => (Call::Read, 0),
         ["L", _] => (Call::Look, 0),
-        ["T", _, hh] => (Call::Through, hexadecimal(hh)?),
-        ["B", _, hh] => (Call::Back, hexadecimal(hh)?),
-        ["I", _, hh] => (Call::Invalidate, hexadecimal(hh)?),
+        ["T", _, hh] => (Call::Through(seat), hexadecimal(hh)?),
+        ["B", _, hh] => (Call::Back(seat), hexadecimal(hh)?),
+        ["I", _, hh] => (Call::Invalidate(seat), hexadecimal(hh)?),
         _ => return None,
     };
     let address = words.get(1).copied();
@@ -82,8 +97,8 @@ pub fn open(line: &[u8]) -> Result<Cache, u32> {
 }
 
 /// The output's line for a later line of the list: its fields after the call number.
-fn answered(cache: &mut Cache, line: &[u8], parts: bool) -> Result<String, u32> {
-    let Asked { call, letter, address, content } = asked(line, parts).ok_or(NOT_THE_FORM)?;
+fn answered(cache: &mut Cache, line: &[u8], more: More) -> Result<String, u32> {
+    let Asked { call, letter, address, content } = asked(line, more).ok_or(NOT_THE_FORM)?;
     let a = address.map_or(0, |address| decimal(address).unwrap());
     let mut block = vec![content; cache.b];
     let answer = cache.call(call, a, &mut block)?;
@@ -97,8 +112,8 @@ fn counters(cache: &Cache) -> String {
 }
 
 /// Replays an input. `seen` is told each line of the output, after which line of the list it comes, and the box as it is then; before the first
-/// call it is told the box alone. With `parts` the list may have lines `F k`, which no replay has.
-pub fn follow(input: &[u8], parts: bool, mut seen: impl FnMut(Option<&str>, Option<&[u8]>, Option<&Cache>)) {
+/// call it is told the box alone.
+pub fn follow(input: &[u8], more: More, mut seen: impl FnMut(Option<&str>, Option<&[u8]>, Option<&Cache>)) {
     let list = lines(input);
     let mut cache = match open(list[0]) {
         Ok(cache) => cache,
@@ -106,7 +121,7 @@ pub fn follow(input: &[u8], parts: bool, mut seen: impl FnMut(Option<&str>, Opti
     };
     seen(None, None, Some(&cache));
     for (k, line) in list.iter().enumerate().skip(1) {
-        let text = answered(&mut cache, line, parts).unwrap_or_else(|number| format!("refused {number}"));
+        let text = answered(&mut cache, line, more).unwrap_or_else(|number| format!("refused {number}"));
         seen(Some(&format!("{k} {text}")), Some(line), Some(&cache));
     }
     seen(Some(&counters(&cache)), None, Some(&cache));
@@ -115,7 +130,7 @@ pub fn follow(input: &[u8], parts: bool, mut seen: impl FnMut(Option<&str>, Opti
 /// The whole output for a whole input.
 pub fn replay(input: &[u8]) -> Vec<u8> {
     let mut output = String::new();
-    follow(input, false, |line, _, _| {
+    follow(input, More::Nothing, |line, _, _| {
         if let Some(line) = line {
             output += line;
             output.push('\n');

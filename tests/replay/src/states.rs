@@ -1,5 +1,5 @@
 //! What the program of the states must print, from the model's box. A held row's content is found by its fingerprint, not by where its block is.
-use crate::{follow, lines};
+use crate::{follow, lines, More};
 use model::{fingerprint, read_tables, Cache, Fingerprint, Lent, ZEROS};
 use std::collections::HashMap;
 
@@ -45,18 +45,34 @@ fn shown(line: &[u8]) -> String {
 
 /// The whole output of the program of the states, with `--full` or without.
 pub fn states(input: &[u8], full: bool) -> String {
-    written(input, full, false)
+    written(input, full, More::Nothing)
 }
 
 /// The same with `--parts`.
 pub fn in_parts(input: &[u8]) -> String {
-    written(input, false, true)
+    written(input, false, More::Parts)
 }
 
-fn written(input: &[u8], full: bool, parts: bool) -> String {
+/// The same with `--seats`: both reports in place of the state.
+pub fn with_seats(input: &[u8]) -> String {
+    written(input, false, More::Seats)
+}
+
+fn reports(cache: &Cache) -> String {
+    let mark = |dirty: bool| if dirty { "*" } else { "" };
+    let listed = |part: &dyn Fn(&u32, &model::Held) -> String| match &cache.rows()[..] {
+        [] => "none".to_string(),
+        rows => rows.iter().map(|(a, row)| part(a, row)).collect::<Vec<_>>().join(", "),
+    };
+    let manager = listed(&|a, row| format!("{a}{} seat {}", mark(row.dirty), row.seat));
+    let desk = listed(&|a, row| format!("{a}{}", mark(row.dirty)));
+    format!("    manager: {manager}\n    desk: {desk}\n")
+}
+
+fn written(input: &[u8], full: bool, more: More) -> String {
     let mut output = String::new();
     let mut contents = None;
-    follow(input, parts, |answer, asked, cache| {
+    follow(input, more, |answer, asked, cache| {
         let Some(cache) = cache else { return output += &format!("{}\n", answer.unwrap()) };
         let contents = contents.get_or_insert_with(|| Contents::of(cache.b));
         match (answer, asked) {
@@ -68,7 +84,7 @@ fn written(input: &[u8], full: bool, parts: bool) -> String {
         if let Some(answer) = answer {
             output += &format!("{answer}\n");
         }
-        output += &state(cache, contents);
+        output += &if more == More::Seats { reports(cache) } else { state(cache, contents) };
         if full {
             output += &picture(cache);
         }
@@ -90,7 +106,7 @@ pub fn option(asked: &[u32]) -> String {
 pub fn folder(input: &[u8], asked: &[u32]) -> String {
     let mut output = states(input, false);
     let (mut last, mut calls) = (None, 0);
-    follow(input, false, |_, line, cache| {
+    follow(input, More::Nothing, |_, line, cache| {
         last = cache.cloned();
         calls += line.is_some() as usize;
     });

@@ -1,5 +1,5 @@
-//! docs/FORMATS.md: its example, its refusals, its record and its rows against the model, the header and the proved program.
-use model::{Cache, Call, Lent, LABEL, STATE, ZEROS};
+//! docs/FORMATS.md: its example, its refusals, its record, its rows and its reports against the model, the header and the proved program.
+use model::{Cache, Call, Lent, Report, LABEL, STATE, ZEROS};
 use replay::programs::{fences, root, Program, Writing};
 
 fn read(name: &str) -> String {
@@ -15,18 +15,21 @@ fn the_example() {
     println!("the example of docs/FORMATS.md, {} lines", answers.lines().count());
 }
 
-/// A write back of content 7 to address 5 of a box of 64, 8, 3 and 2 under a label of zeros: the first address row, then both block rows.
+/// A write back of content 7 to address 5 by seat 258 of a box of 64, 8, 3 and 2 under a label of zeros: the first address row, both block rows, the manager's
+/// report and the desk's.
 #[test]
-fn the_rows() {
+fn the_rows_and_the_reports() {
     let mut cache = Cache::fresh(64, 8, 3, 2, ZEROS, (0..8).flat_map(|k| vec![k; 64]).collect(), vec![0; 128]);
-    cache.call(Call::Back, 5, &mut vec![7; 64]).unwrap();
+    cache.call(Call::Back(258), 5, &mut vec![7; 64]).unwrap();
     let mut lent = Lent { state: vec![], disk: vec![], flash: vec![], addresses: vec![], blocks: vec![], block: vec![], answer: vec![], label: vec![] };
+    let reports = [Report::Manager, Report::Desk].map(|report| cache.report(report));
     cache.store(&mut lent);
     let bytes = |text: &str| text.split_whitespace().map(|byte| u8::from_str_radix(byte, 16).unwrap()).collect::<Vec<u8>>();
     let page = read("docs/FORMATS.md");
     assert_eq!(bytes(fences(&page)[2]), lent.addresses[..40]);
     assert_eq!(bytes(fences(&page)[3]), lent.blocks);
-    println!("three rows of docs/FORMATS.md, byte for byte");
+    assert_eq!([4, 5].map(|k| bytes(fences(&page)[k])), reports);
+    println!("three rows and two reports of docs/FORMATS.md, byte for byte");
 }
 
 /// A number of the header by its name.
@@ -83,5 +86,10 @@ fn the_lengths() {
     let (first, last) = (number("STATE_LABEL"), number("STATE") - 1);
     assert_eq!((number("STATE"), number("LABEL")), (STATE as u64, LABEL as u64));
     assert!(last + 1 - first == number("LABEL") && page.contains(&format!("Bytes {first} to {last} are the label")), "the label's place");
-    println!("6 lengths, and the label in bytes {first} to {last} of the state");
+    for part in ["MANAGER_PART", "DESK_PART"] {
+        assert!(page.contains(&format!("m × {} bytes", number(part))), "{part}");
+    }
+    let fields = format!("| bytes of a part | 0 to 3 | {} | {} to 6, in the manager's alone |", number("REPORT_DIRTY"), number("REPORT_SEAT"));
+    assert!(number("REPORT_ADDRESS") == 0 && page.contains(&fields), "the fields of a report");
+    println!("6 lengths, the label in bytes {first} to {last} of the state, and the fields of a report");
 }

@@ -41,7 +41,10 @@ fn states_and_page() {
     assert_eq!(written(&["--page", "week.txt"], None), stored("docs/week.html"));
     assert!(written(&["--page"], Some("week.txt")).contains("<h1>A list of requests, line by line</h1>"));
     assert_eq!(written(&["--parts", "week.txt"], None), states);
-    println!("./replay --states, --parts and --page, of a file and of standard input");
+    let seats = written(&["--seats", "week.txt"], None);
+    assert_eq!(seats, replay::states::with_seats(stored("lessons/week.txt").as_bytes()));
+    assert_eq!(written(&["--seats"], Some("week.txt")), seats);
+    println!("./replay --states, --parts, --seats and --page, of a file and of standard input");
 }
 
 #[test]
@@ -66,7 +69,7 @@ fn counts() {
 /// Nothing on standard output, the words on standard error, and the status.
 #[test]
 fn what_cannot_be_done() {
-    let cases: [(&[&str], i32, &str); 22] = [
+    let cases: [(&[&str], i32, &str); 23] = [
         (&["no-such-list.txt"], 1, "there is no file no-such-list.txt"),
         (&["--states", "no-such-list.txt"], 1, "there is no file no-such-list.txt"),
         (&["."], 1, ". is a folder, not a list of requests"),
@@ -82,6 +85,7 @@ fn what_cannot_be_done() {
         (&["--folder", "1", "week.txt", "--states"], 2, "--folder and --states contradict each other"),
         (&["--folder", "1", "--folder", "2", "week.txt"], 2, "--folder is given twice"),
         (&["--states", "--states", "week.txt"], 2, "--states is given twice"),
+        (&["--seats", "--parts", "week.txt"], 2, "--seats and --parts contradict each other"),
         (&["--build", "week.txt"], 2, "--build takes no list"),
         (&["--mark"], 2, "--mark wants the file with the answers"),
         (&["--mark", "no-such-answers.txt", "week.txt"], 1, "there is no file no-such-answers.txt"),

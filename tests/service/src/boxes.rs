@@ -1,7 +1,7 @@
 //! Random boxes in bytes: fresh ones, sound ones that no list of calls need reach, each way of breaking one, and any bytes.
 use common::Random;
 use model::{fingerprint, read_tables, AddressRow, BlockRow, Call, Fingerprint, Folder, Label, Lent, Numbers};
-use model::{ANSWER, BLOCK_SIZES, LABEL, MANY_ANSWER, MOST_COUNTED, ROW, ZEROS};
+use model::{ANSWER, BLOCK_SIZES, LABEL, MANY_ANSWER, MOST_COUNTED, REPORT_CHECKS, ROW, ZEROS};
 use std::collections::HashSet;
 
 pub fn fill(random: &mut Random, bytes: &mut [u8]) {
@@ -34,6 +34,18 @@ pub fn any_label(random: &mut Random) -> Label {
 /// The label that is lent to an opening, of the right length.
 pub fn office(lent: &Lent) -> Label {
     lent.label[..].try_into().unwrap()
+}
+
+/// The number of a seat: any, and as often one of the edges, of which some differ in one of their two bytes alone.
+pub fn any_seat(random: &mut Random) -> u16 {
+    let any = random.number() as u16;
+    pick(random, &[0, 1, 255, 256, 65_535, any, any, any, any, any])
+}
+
+/// One of these calls, by any seat where it is a write.
+pub fn pick_call(random: &mut Random, calls: &[Call]) -> Call {
+    let call = pick(random, calls);
+    call.by_seat(any_seat(random))
 }
 
 /// How many rows a flush is to clean at most: none, few, as many as can be held, more, and the largest number.
@@ -115,7 +127,7 @@ pub fn unopened(random: &mut Random, shape: Shape, contents: &Contents) -> Lent 
 }
 
 /// A sound box, reachable or not: addresses without blocks beside blocks without addresses, dirty rows that share a block, slots in any
-/// order, a used fingerprint of zeros, fingerprints that are not those of the blocks in their slots, counters up to the largest.
+/// order, a used fingerprint of zeros, fingerprints that are not those of the blocks in their slots, any seats, counters up to the largest.
 pub fn sound(random: &mut Random, shape: Shape) -> Lent {
     sound_at(random, shape, None)
 }
@@ -186,7 +198,8 @@ pub fn sound_at(random: &mut Random, shape: Shape, place: Option<usize>) -> Lent
     for address in &addresses[..n] {
         let k = random.below(choice);
         let dirty = (k < used && random.below(2) == 0) as u8;
-        rows.extend(AddressRow { address: *address, fingerprint: fingerprints[k], dirty, padding: [0; 3] }.to_bytes());
+        let seat = any_seat(random);
+        rows.extend(AddressRow { address: *address, fingerprint: fingerprints[k], dirty, seat, padding: 0 }.to_bytes());
     }
     rows.resize(m * ROW, 0);
     lent.addresses = rows;
@@ -249,6 +262,7 @@ pub enum Damage {
     DirtyAboveOne,
     AddressPadding,
     TailNotZero,
+    SeatBehind,
     FreeAfterUsed,
     UsedAboveOne,
     BlockPadding,
@@ -264,7 +278,7 @@ pub enum Damage {
 }
 
 /// With the number of each, in the order of the checks. Several are applied from the last to the first.
-pub const DAMAGES: [(Damage, u32); 29] = [
+pub const DAMAGES: [(Damage, u32); 30] = [
     (Damage::B, 1),
     (Damage::P, 1),
     (Damage::M, 1),
@@ -282,6 +296,7 @@ pub const DAMAGES: [(Damage, u32); 29] = [
     (Damage::DirtyAboveOne, 6),
     (Damage::AddressPadding, 6),
     (Damage::TailNotZero, 6),
+    (Damage::SeatBehind, 6),
     (Damage::FreeAfterUsed, 7),
     (Damage::UsedAboveOne, 7),
     (Damage::BlockPadding, 7),
@@ -304,8 +319,18 @@ pub fn number_of(call: Call, damages: &[Damage]) -> u32 {
         Damage::Address => call.takes_address(),
         _ => true,
     };
+    first_number(call.checks(), damages, asked)
+}
+
+/// The same of a report, which has no block, no label and no address.
+pub fn number_of_report(damages: &[Damage]) -> u32 {
+    first_number(&REPORT_CHECKS, damages, |damage| ![Damage::BlockLength, Damage::LabelLength, Damage::Address].contains(damage))
+}
+
+/// The first of these checks that one of the damages fails, of those that are asked for.
+fn first_number(checks: &[u32], damages: &[Damage], asked: impl Fn(&Damage) -> bool) -> u32 {
     let numbers: Vec<u32> = DAMAGES.iter().filter(|(damage, _)| damages.contains(damage) && asked(damage)).map(|(_, number)| *number).collect();
-    call.checks().iter().copied().find(|number| numbers.contains(number)).unwrap_or(0)
+    checks.iter().copied().find(|number| numbers.contains(number)).unwrap_or(0)
 }
 
 fn set_state(lent: &mut Lent, place: usize, number: u64) {
@@ -417,8 +442,10 @@ pub fn damage(random: &mut Random, lent: &mut Lent, address: &mut u32, kind: Dam
             lent.addresses[two * ROW..two * ROW + 4].copy_from_slice(&rows[one].address.to_le_bytes());
         }
         Damage::DirtyAboveOne if n > 0 => lent.addresses[row + 36] = nonzero.max(2),
-        Damage::AddressPadding if n > 0 => lent.addresses[row + 37 + random.below(3)] = nonzero,
+        Damage::AddressPadding if n > 0 => lent.addresses[row + 39] = nonzero,
         Damage::TailNotZero if n < m => lent.addresses[n * ROW + random.below((m - n) * ROW)] = nonzero,
+        // A seat in a row that is not held.
+        Damage::SeatBehind if n < m => lent.addresses[(n + random.below(m - n)) * ROW + 37 + random.below(2)] = nonzero,
         Damage::FreeAfterUsed if !used.is_empty() && !free.is_empty() => {
             let (one, two) = (pick(random, &free), pick(random, &used));
             let (first, second) = (blocks[one].to_bytes(), blocks[two].to_bytes());
@@ -460,6 +487,28 @@ pub fn damage(random: &mut Random, lent: &mut Lent, address: &mut u32, kind: Dam
     true
 }
 
+/// Numbers of a small box, with blocks of 64 bytes more often than not.
+pub fn small(random: &mut Random) -> Shape {
+    let b = pick(random, &[64, 64, 64, 64, 128, 256]);
+    Shape::below(random, Shape { b, p: 10, m: 6, d: 5 })
+}
+
+/// A sound box with these damages, made of as many boxes as it takes; the address is of the box unless the damage is there.
+pub fn damaged(random: &mut Random, damages: &[Damage], shape: fn(&mut Random) -> Shape) -> (Lent, u32) {
+    for _ in 0..200 {
+        let shape = shape(random);
+        let mut lent = sound(random, shape);
+        let mut address = random.below(shape.p) as u32;
+        // From the last check to the first, as DAMAGES says.
+        let mut in_order: Vec<Damage> = DAMAGES.iter().map(|(kind, _)| *kind).filter(|kind| damages.contains(kind)).collect();
+        in_order.reverse();
+        if in_order.iter().all(|kind| damage(random, &mut lent, &mut address, *kind)) {
+            return (lent, address);
+        }
+    }
+    panic!("no box can be broken by {damages:?}");
+}
+
 /// Any numbers and any bytes: small tables, lengths that fit more often than not.
 pub fn noise(random: &mut Random) -> Lent {
     let edges = [0, 1, 2, 3, 64, 255, 256, 257, 1_023, 1_024, 1_025, 65_535, 65_536, 65_537, 1 << 32, 1 << 63, u64::MAX, 461_168_601_842_738_791];
@@ -496,8 +545,9 @@ pub fn noise(random: &mut Random) -> Lent {
     if random.below(2) == 0 {
         for (k, row) in lent.addresses.chunks_exact_mut(ROW).enumerate() {
             row[1..4].fill(0);
-            row[36..].fill(0);
+            // The seat may be any, and its bytes are left as they are.
             row[36] = (random.below(4) == 0) as u8;
+            row[39] = 0;
             if k as u64 >= n {
                 row.fill(0);
             }

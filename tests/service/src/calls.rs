@@ -1,6 +1,6 @@
 //! The service's C functions, on boxes in bytes.
 use model::exam::Question;
-use model::{Call, Folder, Lent};
+use model::{Call, Folder, Lent, Report};
 
 type P = *const u8;
 type M = *mut u8;
@@ -14,17 +14,19 @@ extern "C" {
         s: M, sl: usize, asked: *const u32, count: usize, d: M, dl: usize, f: M, fl: usize, a: M, al: usize, b: M, bl: usize, k: M, kl: usize, w: M, wl: usize,
     ) -> u32;
     fn mindavehu_write_through(
-        s: M, sl: usize, address: u32, d: M, dl: usize, f: M, fl: usize, a: M, al: usize, b: M, bl: usize, k: P, kl: usize, w: M, wl: usize,
+        s: M, sl: usize, address: u32, seat: u16, d: M, dl: usize, f: M, fl: usize, a: M, al: usize, b: M, bl: usize, k: P, kl: usize, w: M, wl: usize,
     ) -> u32;
     fn mindavehu_write_back(
-        s: M, sl: usize, address: u32, d: M, dl: usize, f: M, fl: usize, a: M, al: usize, b: M, bl: usize, k: P, kl: usize, w: M, wl: usize,
+        s: M, sl: usize, address: u32, seat: u16, d: M, dl: usize, f: M, fl: usize, a: M, al: usize, b: M, bl: usize, k: P, kl: usize, w: M, wl: usize,
     ) -> u32;
     fn mindavehu_write_invalidate(
-        s: M, sl: usize, address: u32, d: M, dl: usize, f: P, fl: usize, a: M, al: usize, b: M, bl: usize, k: P, kl: usize, w: M, wl: usize,
+        s: M, sl: usize, address: u32, seat: u16, d: M, dl: usize, f: P, fl: usize, a: M, al: usize, b: M, bl: usize, k: P, kl: usize, w: M, wl: usize,
     ) -> u32;
     fn mindavehu_flush(s: M, sl: usize, d: M, dl: usize, f: P, fl: usize, a: M, al: usize, b: P, bl: usize, w: M, wl: usize) -> u32;
     fn mindavehu_flush_some(s: M, sl: usize, most: usize, d: M, dl: usize, f: P, fl: usize, a: M, al: usize, b: P, bl: usize, w: M, wl: usize) -> u32;
     fn mindavehu_look(s: P, sl: usize, address: u32, d: P, dl: usize, f: P, fl: usize, a: P, al: usize, b: P, bl: usize, w: M, wl: usize) -> u32;
+    fn mindavehu_manager_report(s: P, sl: usize, d: P, dl: usize, f: P, fl: usize, a: P, al: usize, b: P, bl: usize, r: M, rl: usize) -> u32;
+    fn mindavehu_desk_report(s: P, sl: usize, d: P, dl: usize, f: P, fl: usize, a: P, al: usize, b: P, bl: usize, r: M, rl: usize) -> u32;
     fn mindavehu_scores(b: usize, p: usize, m: usize, d: usize, l: P, ll: usize, disk: P, dl: usize, k: usize, c: M, cl: usize) -> u32;
 }
 
@@ -45,9 +47,9 @@ fn on_slices(call: Call, address: u32, mut buffers: Buffers<8>) -> u32 {
         match call {
             Call::Open => mindavehu_open(s, sl, l, ll, d, dl, f, fl, a, al, b, bl),
             Call::Read => mindavehu_read(s, sl, address, d, dl, f, fl, a, al, b, bl, k, kl, w, wl),
-            Call::Through => mindavehu_write_through(s, sl, address, d, dl, f, fl, a, al, b, bl, k, kl, w, wl),
-            Call::Back => mindavehu_write_back(s, sl, address, d, dl, f, fl, a, al, b, bl, k, kl, w, wl),
-            Call::Invalidate => mindavehu_write_invalidate(s, sl, address, d, dl, f, fl, a, al, b, bl, k, kl, w, wl),
+            Call::Through(seat) => mindavehu_write_through(s, sl, address, seat, d, dl, f, fl, a, al, b, bl, k, kl, w, wl),
+            Call::Back(seat) => mindavehu_write_back(s, sl, address, seat, d, dl, f, fl, a, al, b, bl, k, kl, w, wl),
+            Call::Invalidate(seat) => mindavehu_write_invalidate(s, sl, address, seat, d, dl, f, fl, a, al, b, bl, k, kl, w, wl),
             Call::Flush => mindavehu_flush(s, sl, d, dl, f, fl, a, al, b, bl, w, wl),
             Call::FlushSome(most) => mindavehu_flush_some(s, sl, most, d, dl, f, fl, a, al, b, bl, w, wl),
             Call::Look => mindavehu_look(s, sl, address, d, dl, f, fl, a, al, b, bl, w, wl),
@@ -63,6 +65,19 @@ fn many_on_slices(asked: &[u32], mut buffers: Buffers<7>) -> u32 {
     unsafe { mindavehu_read_many(s, sl, asked.as_ptr(), asked.len(), d, dl, f, fl, a, al, b, bl, k, kl, w, wl) }
 }
 
+/// With the report in the place of the answer. Every buffer is given as one that may be written to, so that it can be looked at afterwards.
+fn report_on_slices(report: Report, mut buffers: Buffers<6>) -> u32 {
+    let [s, d, f, a, b, r] = buffers.each_mut().map(|bytes| bytes.as_mut_ptr());
+    let [sl, dl, fl, al, bl, rl] = buffers.map(|bytes| bytes.len());
+    // SAFETY: each pointer comes with the length of its own slice.
+    unsafe {
+        match report {
+            Report::Manager => mindavehu_manager_report(s, sl, d, dl, f, fl, a, al, b, bl, r, rl),
+            Report::Desk => mindavehu_desk_report(s, sl, d, dl, f, fl, a, al, b, bl, r, rl),
+        }
+    }
+}
+
 /// Calls the service on a box. The address is not used by an opening and a flush.
 pub fn call(call: Call, address: u32, lent: &mut Lent) -> u32 {
     on_slices(call, address, buffers(lent))
@@ -72,6 +87,12 @@ pub fn call(call: Call, address: u32, lent: &mut Lent) -> u32 {
 pub fn call_many(lent: &mut Lent, folder: &mut Folder) -> u32 {
     let Lent { state, disk, flash, addresses, blocks, .. } = lent;
     many_on_slices(&folder.asked, [state, disk, flash, addresses, blocks, &mut folder.buffer, &mut folder.answer])
+}
+
+/// A report into these bytes.
+pub fn call_report(report: Report, lent: &mut Lent, bytes: &mut [u8]) -> u32 {
+    let Lent { state, disk, flash, addresses, blocks, .. } = lent;
+    report_on_slices(report, [state, disk, flash, addresses, blocks, bytes])
 }
 
 fn question_on_slices(q: &Question, label: &[u8], disk: &[u8], counts: &mut [u8]) -> u32 {
@@ -142,6 +163,16 @@ pub fn call_many_guarded(lent: &mut Lent, folder: &mut Folder, shift: usize) -> 
     let wide = [&vec![u32::MAX; start][..], &folder.asked, &[u32::MAX; 4]].concat();
     let number = many_on_slices(&wide[start..start + folder.asked.len()], lifted.slices());
     lifted.put_back(own, "one call for a folder");
+    number
+}
+
+/// The same as `call_report` with every buffer lifted.
+pub fn call_report_guarded(report: Report, lent: &mut Lent, bytes: &mut [u8], shift: usize) -> u32 {
+    let Lent { state, disk, flash, addresses, blocks, .. } = lent;
+    let own: Buffers<6> = [state, disk, flash, addresses, blocks, bytes];
+    let mut lifted = Lifted::new(&own, shift);
+    let number = report_on_slices(report, lifted.slices());
+    lifted.put_back(own, &format!("the report {report:?}"));
     number
 }
 

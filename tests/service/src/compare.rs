@@ -1,6 +1,6 @@
 //! One call on the service and on the model, with every byte compared.
-use crate::calls::{call_guarded, call_many_guarded};
-use model::{carry_out, carry_out_many, Call, Folder, Lent, Numbers, STATE, ZEROS};
+use crate::calls::{call_guarded, call_many_guarded, call_report_guarded};
+use model::{carry_out, carry_out_many, carry_out_report, Call, Folder, Lent, Numbers, Report, STATE, ZEROS};
 
 /// Carries a call out on the service and on the model's copy of the box. Gives the number on which both agree.
 pub fn compare(call: Call, address: u32, lent: &mut Lent, shift: usize, context: &dyn Fn() -> String) -> u32 {
@@ -37,6 +37,21 @@ pub fn compare_many(lent: &mut Lent, folder: &mut Folder, shift: usize, context:
         if let Some(place) = lent.difference(&other.0).or(folder.difference(&other.1)) {
             panic!("after the folder {:?} with number {number}, against {what}: {place}, {}", folder.asked, context());
         }
+    }
+    given
+}
+
+/// The same for a report, which changes no buffer but its own, and that one only where it is made.
+pub fn compare_report(report: Report, lent: &mut Lent, bytes: &mut Vec<u8>, shift: usize, context: &dyn Fn() -> String) -> u32 {
+    let (before, mut expected) = (lent.clone(), bytes.clone());
+    let kept = bytes.clone();
+    let number = carry_out_report(report, lent, &mut expected);
+    let given = call_report_guarded(report, lent, bytes, shift);
+    assert_eq!(given, number, "number of the report {report:?}, {}", context());
+    assert!(*bytes == expected, "the report {report:?} with number {number} is {bytes:?} where {expected:?} is expected, {}", context());
+    assert!(number == 0 || *bytes == kept, "the refused report {report:?}, {}", context());
+    if let Some(place) = lent.difference(&before) {
+        panic!("the report {report:?} with number {number} changed the box: {place}, {}", context());
     }
     given
 }

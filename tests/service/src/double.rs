@@ -52,11 +52,12 @@ macro_rules! writes {
     ($($name:ident $function:ident $flash:ident $slice:ident;)*) => { $(
         #[no_mangle]
         unsafe extern "C" fn $name(
-            s: M, sl: usize, address: u32, d: M, dl: usize, f: $flash, fl: usize, a: M, al: usize, b: M, bl: usize, k: P, kl: usize, w: M, wl: usize,
+            s: M, sl: usize, address: u32, seat: u16, d: M, dl: usize, f: $flash, fl: usize, a: M, al: usize, b: M, bl: usize, k: P, kl: usize, w: M, wl: usize,
         ) -> u32 {
             engines::maps::$function(
                 from_raw_parts_mut(s, sl),
                 address,
+                seat,
                 from_raw_parts_mut(d, dl),
                 $slice(f, fl),
                 from_raw_parts_mut(a, al),
@@ -124,6 +125,27 @@ unsafe extern "C" fn mindavehu_look(s: P, sl: usize, address: u32, d: P, dl: usi
         from_raw_parts(b, bl),
         from_raw_parts_mut(w, wl),
     )
+}
+
+macro_rules! reports {
+    ($($name:ident $function:ident;)*) => { $(
+        #[no_mangle]
+        unsafe extern "C" fn $name(s: P, sl: usize, d: P, dl: usize, f: P, fl: usize, a: P, al: usize, b: P, bl: usize, r: M, rl: usize) -> u32 {
+            engines::maps::$function(
+                from_raw_parts(s, sl),
+                from_raw_parts(d, dl),
+                from_raw_parts(f, fl),
+                from_raw_parts(a, al),
+                from_raw_parts(b, bl),
+                from_raw_parts_mut(r, rl),
+            )
+        }
+    )* };
+}
+
+reports! {
+    mindavehu_manager_report manager_report;
+    mindavehu_desk_report desk_report;
 }
 
 #[no_mangle]

@@ -1,35 +1,14 @@
 //! Boxes that must be refused: the number is right and every byte is kept.
 use common::Random;
 use model::{Call, CALLS, LABEL, STATE};
-use service::boxes::{damage, fill, noise, number_of, pick, sound, Damage, Shape, DAMAGES};
+use service::boxes::{any_seat, damaged, fill, noise, number_of, pick, pick_call, small, sound, Damage, Shape, DAMAGES};
 use service::compare::compare;
 use service::progress::{count, seed, Progress};
-
-fn small(random: &mut Random) -> Shape {
-    let b = pick(random, &[64, 64, 64, 64, 128, 256]);
-    Shape::below(random, Shape { b, p: 10, m: 6, d: 5 })
-}
-
-/// A sound box with these damages, made of as many boxes as it takes; the address is of the box unless the damage is there.
-fn damaged(random: &mut Random, damages: &[Damage], shape: fn(&mut Random) -> Shape) -> (model::Lent, u32) {
-    for _ in 0..200 {
-        let shape = shape(random);
-        let mut lent = sound(random, shape);
-        let mut address = random.below(shape.p) as u32;
-        // From the last check to the first, as DAMAGES says.
-        let mut in_order: Vec<Damage> = DAMAGES.iter().map(|(kind, _)| *kind).filter(|kind| damages.contains(kind)).collect();
-        in_order.reverse();
-        if in_order.iter().all(|kind| damage(random, &mut lent, &mut address, *kind)) {
-            return (lent, address);
-        }
-    }
-    panic!("no box can be broken by {damages:?}");
-}
 
 /// Tries damages with every call and gives how many calls were refused with each number.
 fn try_all(random: &mut Random, damages: &[Damage], shape: fn(&mut Random) -> Shape, numbers: &mut [usize; 10], seed: u64) -> usize {
     let (lent, address) = damaged(random, damages, shape);
-    for call in CALLS {
+    for call in CALLS.map(|call| call.by_seat(any_seat(random))) {
         let mut lent = lent.clone();
         let expected = number_of(call, damages);
         let context = || format!("damages {damages:?}, seed {seed}");
@@ -94,7 +73,7 @@ fn in_large_tables() {
     for _ in 0..turns {
         for (kind, _) in DAMAGES {
             let (lent, address) = damaged(&mut random, &[kind], large);
-            let call = CALLS[random.below(8)];
+            let call = pick_call(&mut random, &CALLS);
             let mut lent = lent.clone();
             let number = compare(call, address, &mut lent, random.below(32), &|| format!("{kind:?}, seed {seed}"));
             assert_eq!(number, number_of(call, &[kind]), "{call:?} with {kind:?}, seed {seed}");
@@ -131,7 +110,7 @@ fn changed_bytes() {
             }
         }
         let address = random.below(shape.p + 1) as u32;
-        let call = CALLS[random.below(8)];
+        let call = pick_call(&mut random, &CALLS);
         let number = compare(call, address, &mut lent, random.below(32), &|| format!("turn {turn}, {shape:?}, seed {seed}"));
         numbers[number as usize] += 1;
         progress.at(turn);
@@ -148,7 +127,7 @@ fn any_bytes() {
     for turn in 0..total {
         let mut lent = noise(&mut random);
         let address = pick(&mut random, &[0, 0, 1, 2, u32::MAX]);
-        let call = CALLS[random.below(8)];
+        let call = pick_call(&mut random, &CALLS);
         let number = compare(call, address, &mut lent, random.below(32), &|| format!("turn {turn}, seed {seed}"));
         numbers[number as usize] += 1;
         progress.at(turn);

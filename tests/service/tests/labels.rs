@@ -1,60 +1,17 @@
 //! The office's label: two offices with equal pages, each bit of the label, refused openings, what the calls do with the label, and a label that was damaged
 //! between two calls.
 use common::Random;
-use model::{fingerprint, read_tables, Answer, Call, Fingerprint, Folder, Label, Lent, Numbers};
+use model::{fingerprint, read_tables, Answer, Call, Fingerprint, Label, Lent, Numbers};
 use model::{BLOCK_SIZES, CALLS, HIT, LABEL, ROW, SAME, STATE, ZEROS};
-use service::boxes::{any_label, damage, fill, folder, folder_count, most, office, pick, sound, unopened, Contents, Shape, DAMAGES};
-use service::calls::{call, call_many};
+use service::asked::{answered, ask, Asked};
+use service::boxes::{any_label, damage, fill, folder, office, pick, pick_call, sound, unopened, Contents, Shape, DAMAGES};
+use service::calls::call;
 use service::compare::{compare, compare_many};
 use service::progress::{count, seed, Progress};
 use std::collections::HashSet;
 
 /// The place of the label in the state.
 const PLACE: usize = STATE - LABEL;
-
-/// What is asked of a box: a call with its address and the block lent to it, or a folder.
-enum Asked {
-    One(Call, u32, Vec<u8>),
-    Many(Folder),
-}
-
-/// Mostly served; an address or a length is wrong now and then.
-fn ask(random: &mut Random, shape: Shape, contents: &Contents) -> Asked {
-    let address = |random: &mut Random| if random.below(30) == 0 { shape.p } else { random.below(shape.p) } as u32;
-    if random.below(6) == 0 {
-        let some: Vec<u32> = (0..1 + random.below(6)).map(|_| address(random)).collect();
-        let count = folder_count(random);
-        return Asked::Many(folder(random, &some, shape.b, count));
-    }
-    let kind = match random.below(12) {
-        0..=3 => Call::Read,
-        4 | 5 => Call::Through,
-        6 | 7 => Call::Back,
-        8 => Call::Invalidate,
-        9 => Call::FlushSome(most(random, shape.m)),
-        10 => Call::Flush,
-        _ => Call::Look,
-    };
-    let mut block = contents.one(random).clone();
-    if random.below(40) == 0 {
-        block.pop();
-    }
-    Asked::One(kind, address(random), block)
-}
-
-/// Asks it of a box. Gives the number, the answer, and the lent block or the folder's buffer.
-fn answered(lent: &mut Lent, asked: &Asked) -> (u32, Vec<u8>, Vec<u8>) {
-    match asked {
-        Asked::One(kind, address, block) => {
-            lent.block.clone_from(block);
-            (call(*kind, *address, lent), lent.answer.clone(), lent.block.clone())
-        }
-        Asked::Many(folder) => {
-            let mut folder = folder.clone();
-            (call_many(lent, &mut folder), folder.answer, folder.buffer)
-        }
-    }
-}
 
 /// The fingerprints of the held rows and of the used block rows, in the order of the rows.
 fn fingerprints(lent: &Lent) -> Vec<Fingerprint> {
@@ -161,7 +118,7 @@ fn under(label: Label, b: usize) -> Lent {
         answer: vec![0; 24],
         label: label.to_vec(),
     };
-    assert_eq!([(Call::Open, 0), (Call::Through, 0), (Call::Read, 1), (Call::Read, 2)].map(|(kind, a)| call(kind, a, &mut lent)), [0; 4]);
+    assert_eq!([(Call::Open, 0), (Call::Through(1), 0), (Call::Read, 1), (Call::Read, 2)].map(|(kind, a)| call(kind, a, &mut lent)), [0; 4]);
     lent
 }
 
@@ -283,7 +240,7 @@ fn calls_keep_the_label() {
             let mut many = folder(&mut random, &[address], shape.b, 3);
             compare_many(&mut lent, &mut many, random.below(32), &context)
         } else {
-            let kind = CALLS[1 + random.below(7)];
+            let kind = pick_call(&mut random, &CALLS[1..]);
             compare(kind, address, &mut lent, random.below(32), &context)
         };
         assert_eq!(lent.state[PLACE..], label, "{}", context());

@@ -3,7 +3,7 @@
 use common::Random;
 use model::machines::{PlainDisk, PrintedDlru};
 use model::{fingerprint, read_tables, Answer, Call, Fingerprint, Folder, Label, Lent, ManyAnswer, CACHE, CALLS, DONE, HIT};
-use service::boxes::{bytes, folder, folder_count, most, office, pick, unopened, Contents, Shape};
+use service::boxes::{any_seat, bytes, folder, folder_count, most, office, pick, pick_call, unopened, Contents, Shape};
 use service::calls::{call, call_many};
 use service::progress::{count, seed, Progress};
 use std::collections::{HashMap, HashSet};
@@ -143,9 +143,9 @@ fn beside_plain_disk(random: &mut Random, shape: Shape, length: usize, seed: u64
         }
         let kind = match random.below(22) {
             0..=6 => Call::Read,
-            7..=9 => Call::Through,
-            10..=13 => Call::Back,
-            14 | 15 => Call::Invalidate,
+            7..=9 => Call::Through(any_seat(random)),
+            10..=13 => Call::Back(any_seat(random)),
+            14 | 15 => Call::Invalidate(any_seat(random)),
             16 => Call::Flush,
             17 | 18 => Call::FlushSome(most(random, shape.m)),
             _ => Call::Look,
@@ -276,7 +276,7 @@ fn beside_printed(random: &mut Random, shape: Shape, length: usize, seed: u64) -
             0 => Call::Look,
             1 if random.below(2) == 0 => Call::FlushSome(random.below(m + 2)),
             1 => Call::Flush,
-            2 => CALLS[1 + random.below(4)],
+            2 => pick_call(random, &CALLS[1..5]),
             _ => Call::Read,
         };
         let mut address = if random.below(3) == 0 { random.below(p) } else { random.below((m + 2).min(p)) } as u32;

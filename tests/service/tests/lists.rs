@@ -1,8 +1,8 @@
 //! Random lists of calls from fresh boxes: after each call every number and every byte is the model's.
 use common::Random;
-use model::{Answer, Cache, Call, Lent, ManyAnswer, BLOCK_SIZES, CALLS, LABEL, MANY_ANSWER};
-use service::boxes::{any_label, bytes, folder, folder_count, most, office, pick, unopened, Contents, Shape};
-use service::calls::{call, call_many};
+use model::{Answer, Cache, Call, Lent, ManyAnswer, BLOCK_SIZES, CALLS, LABEL, MANY_ANSWER, REPORTS};
+use service::boxes::{any_label, any_seat, bytes, folder, folder_count, most, office, pick, unopened, Contents, Shape};
+use service::calls::{call, call_many, call_report};
 use service::progress::{count, seed, Progress};
 
 /// What the folders were that were opened with one call each.
@@ -28,6 +28,9 @@ struct Met {
     /// Blocks copied to the disk by a read or a write back, which happens only where a dirty row or block has to go.
     written_back: u64,
     lists: usize,
+    reports: usize,
+    /// Held rows in them with a seat that is not 0.
+    seats: usize,
 }
 
 impl Met {
@@ -47,12 +50,13 @@ impl Met {
             "  {} flash writes, {} primary writes, {} of them by reads and writes back",
             self.flash_writes, self.primary_writes, self.written_back
         );
-        println!("  {} flushes in parts left a row dirty", self.left_dirty);
+        println!("  {} flushes in parts left a row dirty; {} reports, {} rows in them with a seat", self.left_dirty, self.reports, self.seats);
         let Folders { calls, reads, hits, fetches } = self.folders;
         let missed_repeats = reads - hits - fetches;
         let refused = self.refused[10];
         println!("  {calls} calls for folders: {reads} reads, {hits} hits, {fetches} fetches, {missed_repeats} repeats that miss; {refused} refused with 10");
         assert!(hits > 0 && fetches > 0 && self.refused[10] > 0, "a kind of folder never came");
+        assert!(self.reports > 0 && self.seats > self.reports, "hardly a seat in the reports");
         assert!(self.words[1..].iter().all(|count| *count > 0) && self.written_back > 0, "a kind of answer never came");
     }
 }
@@ -61,14 +65,14 @@ impl Met {
 fn choose(random: &mut Random, shape: Shape) -> (Call, u32) {
     let call = match random.below(100) {
         0..=36 => Call::Read,
-        37..=54 => Call::Through,
-        55..=76 => Call::Back,
-        77..=84 => Call::Invalidate,
+        37..=54 => Call::Through(any_seat(random)),
+        55..=76 => Call::Back(any_seat(random)),
+        77..=84 => Call::Invalidate(any_seat(random)),
         // Seldom where the tables are large: dirty rows shall come to be the oldest.
         85 if random.below(1 + shape.m / 32) == 0 => Call::Flush,
         86 | 87 if random.below(1 + shape.m / 32) == 0 => Call::FlushSome(most(random, shape.m)),
         88 => Call::FlushSome(random.below(3)),
-        85..=87 => Call::Back,
+        85..=87 => Call::Back(any_seat(random)),
         _ => Call::Look,
     };
     let near = (shape.m + 2).min(shape.p);
@@ -122,6 +126,24 @@ fn open_folder(random: &mut Random, shape: Shape, lent: &mut Lent, cache: &mut C
     assert_eq!(cache.difference(lent), None, "{}", context());
     met.folders.calls += 1;
     met.calls += 1;
+}
+
+/// One of the reports is the model's, and changes nothing else. Into bytes of another length it is refused with 2 and keeps them.
+fn report(random: &mut Random, lent: &mut Lent, cache: &Cache, met: &mut Met, context: &dyn Fn() -> String) {
+    let kind = pick(random, &REPORTS);
+    let length = cache.m * kind.row();
+    let mut given = bytes(random, length);
+    if random.below(20) == 0 {
+        given.resize(pick(random, &[0, length - 1, length + 1, length + 40]), 0x5A);
+        let kept = given.clone();
+        assert_eq!((call_report(kind, lent, &mut given), given), (2, kept), "{kind:?}, {}", context());
+        met.refused[2] += 1;
+    } else {
+        assert_eq!((call_report(kind, lent, &mut given), &given), (0, &cache.report(kind)), "{kind:?}, {}", context());
+        met.reports += 1;
+        met.seats += given.chunks_exact(kind.row()).filter(|row| row.get(5..).is_some_and(|seat| seat != [0; 2])).count();
+    }
+    assert_eq!(cache.difference(lent), None, "after the report {kind:?}, {}", context());
 }
 
 /// Lends a buffer of a wrong length: refused with 2, and nothing moves.
@@ -187,7 +209,8 @@ fn list(random: &mut Random, shape: Shape, length: usize, met: &mut Met) {
         lent.block.clone_from(&block);
         let answer = lent.answer.clone();
         let number = call(kind, address, &mut lent);
-        let context = || format!("{shape:?}, call {turn} of list {}: {kind:?} {address}", met.lists);
+        let lists = met.lists;
+        let context = || format!("{shape:?}, call {turn} of list {lists}: {kind:?} {address}");
         match cache.call(kind, address, &mut block) {
             Err(expected) => {
                 assert_eq!(number, expected, "{}", context());
@@ -202,7 +225,7 @@ fn list(random: &mut Random, shape: Shape, length: usize, met: &mut Met) {
                     met.flash_writes += expected.first;
                     met.primary_writes += expected.second;
                 }
-                if kind == Call::Read || kind == Call::Back {
+                if matches!(kind, Call::Read | Call::Back(_)) {
                     met.written_back += expected.second;
                 }
                 if matches!(kind, Call::FlushSome(_)) {
@@ -213,6 +236,9 @@ fn list(random: &mut Random, shape: Shape, length: usize, met: &mut Met) {
         assert!(lent.block == block, "lent block, {}", context());
         if let Some(name) = cache.difference(&lent) {
             panic!("{name} differs after {}", context());
+        }
+        if random.below(4) == 0 {
+            report(random, &mut lent, &cache, met, &context);
         }
         met.calls += 1;
     }

@@ -11,11 +11,14 @@ use service::progress::{count, seed, Progress};
 const B: usize = 64;
 const OFFICE: Label = [0x4F; LABEL];
 
-/// A box of held rows (address, content, dirty) and used block rows (content by the fingerprint, content of the slot), in the order of the rows; disk block k
-/// has the byte k.
+/// A box of held rows (address, content, dirty; each content has a seat of its own) and used block rows (content by the fingerprint, content of the slot), in
+/// the order of the rows; disk block k has the byte k.
 fn made(p: usize, m: usize, d: usize, held: &[(u32, u8, u8)], used: &[(u8, u8)]) -> Lent {
     let print = |content: u8| fingerprint(&OFFICE, &[content; B]);
-    let row = |(address, content, dirty): &(u32, u8, u8)| AddressRow { address: *address, fingerprint: print(*content), dirty: *dirty, padding: [0; 3] };
+    let row = |(address, content, dirty): &(u32, u8, u8)| {
+        let (seat, fingerprint) = (0x0100 + *content as u16, print(*content));
+        AddressRow { address: *address, fingerprint, dirty: *dirty, seat, padding: 0 }
+    };
     let mut addresses: Vec<u8> = held.iter().flat_map(|one| row(one).to_bytes()).collect();
     addresses.resize(m * ROW, 0);
     let free = (used.len()..d).map(|slot| BlockRow { fingerprint: [0; 32], slot: slot as u32, used: 0, padding: [0; 3] });

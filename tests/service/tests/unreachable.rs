@@ -1,8 +1,8 @@
-//! Sound boxes that no list of calls need reach, served: every byte is the model's, for a few calls from each.
+//! Sound boxes that no list of calls need reach, served: every byte is the model's, for a few calls from each, with a report after each call.
 use common::Random;
-use model::{fingerprint, read_tables, Call, Lent, CALLS};
-use service::boxes::{damage, most, pick, sound, sound_at, Damage, Shape};
-use service::compare::compare;
+use model::{fingerprint, read_tables, Call, Lent, CALLS, REPORTS};
+use service::boxes::{any_seat, bytes, damage, most, pick, pick_call, sound, sound_at, Damage, Shape};
+use service::compare::{compare, compare_report};
 use service::progress::{count, seed, Progress};
 use std::collections::HashSet;
 
@@ -46,9 +46,9 @@ fn calls_from(random: &mut Random, shape: Shape, lent: &mut Lent, length: usize,
     for turn in 0..length {
         let call = match random.below(13) {
             0..=2 => Call::Read,
-            3 | 4 => Call::Through,
-            5..=7 => Call::Back,
-            8 | 9 => Call::Invalidate,
+            3 | 4 => Call::Through(any_seat(random)),
+            5..=7 => Call::Back(any_seat(random)),
+            8 | 9 => Call::Invalidate(any_seat(random)),
             10 => Call::Flush,
             11 => Call::FlushSome(most(random, shape.m)),
             _ => Call::Look,
@@ -67,6 +67,9 @@ fn calls_from(random: &mut Random, shape: Shape, lent: &mut Lent, length: usize,
         let number = compare(call, address, lent, random.below(32), &|| format!("call {turn}, {shape:?}, seed {seed}"));
         // 9 comes once a counter has passed its largest; the box is used on with other counters.
         assert!(number == 0 || number == 9);
+        let report = pick(random, &REPORTS);
+        let mut bytes = bytes(random, shape.m * report.row());
+        assert_eq!(compare_report(report, lent, &mut bytes, random.below(32), &|| format!("after call {turn}, {shape:?}, seed {seed}")), 0);
         if number == 9 {
             lent.state[40..72].fill(0);
         }
@@ -126,7 +129,7 @@ fn every_byte_of_a_fingerprint() {
             // A dirty row whose fingerprint is nearly that of a block is refused still.
             let mut bad = lent.clone();
             if damage(&mut random, &mut bad, &mut 0, Damage::DirtyUncached) {
-                let call = CALLS[1 + random.below(7)];
+                let call = pick_call(&mut random, &CALLS[1..]);
                 assert_eq!(compare(call, 0, &mut bad, 0, &|| format!("byte {place}, turn {turn}, {shape:?}, seed {seed}")), 8);
                 refused += 1;
             }

@@ -34,9 +34,9 @@ fn line(lent: &mut Lent, text: &str) -> String {
         "R" => Call::Read,
         "L" => Call::Look,
         "F" => parts.get(1).map_or(Call::Flush, |most| Call::FlushSome(most.parse().unwrap())),
-        "T" => Call::Through,
-        "B" => Call::Back,
-        _ => Call::Invalidate,
+        "T" => Call::Through(0),
+        "B" => Call::Back(0),
+        _ => Call::Invalidate(0),
     };
     let address = parts.get(1).filter(|_| parts[0] != "F").map_or(0, |part| part.parse().unwrap());
     lent.block = vec![parts.get(2).map_or(0, |hh| u8::from_str_radix(hh, 16).unwrap()); B];
@@ -158,7 +158,7 @@ fn edges() {
     }
     for p in [1, 2, 255, 256, 65_535, 65_536] {
         let mut lent = fresh(p, 3, 2);
-        for kind in [Call::Read, Call::Through, Call::Back, Call::Invalidate, Call::Look] {
+        for kind in [Call::Read, Call::Through(1), Call::Back(2), Call::Invalidate(3), Call::Look] {
             assert_eq!(call(kind, p as u32 - 1, &mut lent), 0, "{kind:?} {}", p - 1);
             let kept = lent.clone();
             assert_eq!(call(kind, p as u32, &mut lent), 3, "{kind:?} {p}");
@@ -171,7 +171,7 @@ fn edges() {
 /// 2 to the power 63 is still counted on from; one more is refused with 9, but by look.
 #[test]
 fn largest_counters() {
-    for (counter, counts) in [(0, Call::Read), (1, Call::Read), (2, Call::Back), (3, Call::Through)] {
+    for (counter, counts) in [(0, Call::Read), (1, Call::Read), (2, Call::Back(1)), (3, Call::Through(2))] {
         let mut lent = fresh(8, 3, 2);
         assert_eq!(call(Call::Read, 1, &mut lent), 0);
         let place = (5 + counter) * 8;
@@ -180,11 +180,11 @@ fn largest_counters() {
             assert_eq!(call(kind, 1, &mut lent), 0);
         }
         assert_eq!(lent.numbers().counters[counter], 1 << 63);
-        lent.block = vec![if counts == Call::Back { 0x77 } else { 1 }; B];
+        lent.block = vec![if matches!(counts, Call::Back(_)) { 0x77 } else { 1 }; B];
         assert_eq!(call(counts, 1, &mut lent), 0);
         assert_eq!(lent.numbers().counters[counter], (1 << 63) + 1, "counter {counter}");
         let kept = lent.clone();
-        for kind in [Call::Read, Call::Through, Call::Back, Call::Invalidate, Call::Flush, Call::FlushSome(3)] {
+        for kind in [Call::Read, Call::Through(1), Call::Back(2), Call::Invalidate(3), Call::Flush, Call::FlushSome(3)] {
             assert_eq!(call(kind, 1, &mut lent), 9, "{kind:?}, counter {counter}");
         }
         assert_eq!(lent.difference(&kept), None);

@@ -1,4 +1,4 @@
-//! The proved tables as Rust calls them, a model of them made from document 01, and random tables, sound and damaged.
+//! The proved tables as Rust calls them, a model of them made from documents 01 and 02, and random tables, sound and damaged.
 pub mod model;
 pub mod probe;
 pub mod random;

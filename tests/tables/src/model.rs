@@ -1,16 +1,18 @@
-//! The two tables as document 01 describes them, on lists of records. Written from the document alone.
+//! The two tables as documents 01 and 02 describe them, on lists of records. Written from the documents alone.
 use crate::Tables;
 use std::collections::HashSet;
 
 pub type Fingerprint = [u8; 32];
 
-/// "An address row: address (4 bytes, little-endian), fingerprint (32), dirty byte, 3 zero bytes."
+/// "An address row: address (4 bytes, little-endian), fingerprint (32), dirty byte, 3 zero bytes." "The first two padding bytes of an address row become a seat
+/// number, little-endian" (document 02, U7).
 #[derive(Clone, Debug, PartialEq)]
 pub struct AddressRow {
     pub address: u32,
     pub fingerprint: Fingerprint,
     pub dirty: u8,
-    pub padding: [u8; 3],
+    pub seat: u16,
+    pub padding: u8,
 }
 
 /// "A block row: fingerprint (32), slot (4, little-endian), used byte (1 or 0), 3 zero bytes."
@@ -23,8 +25,8 @@ pub struct BlockRow {
 }
 
 impl AddressRow {
-    pub fn new(address: u32, fingerprint: Fingerprint, dirty: u8) -> AddressRow {
-        AddressRow { address, fingerprint, dirty, padding: [0; 3] }
+    pub fn new(address: u32, fingerprint: Fingerprint, dirty: u8, seat: u16) -> AddressRow {
+        AddressRow { address, fingerprint, dirty, seat, padding: 0 }
     }
 
     fn read(row: &[u8]) -> AddressRow {
@@ -32,12 +34,13 @@ impl AddressRow {
             address: u32::from_le_bytes(row[0..4].try_into().unwrap()),
             fingerprint: row[4..36].try_into().unwrap(),
             dirty: row[36],
-            padding: row[37..40].try_into().unwrap(),
+            seat: u16::from_le_bytes(row[37..39].try_into().unwrap()),
+            padding: row[39],
         }
     }
 
     fn bytes(&self) -> Vec<u8> {
-        [&self.address.to_le_bytes()[..], &self.fingerprint, &[self.dirty], &self.padding].concat()
+        [&self.address.to_le_bytes()[..], &self.fingerprint, &[self.dirty], &self.seat.to_le_bytes(), &[self.padding]].concat()
     }
 }
 
@@ -93,7 +96,8 @@ fn blocks_fit(t: &Tables) -> bool {
     t.d <= 256 && t.blocks.len() == t.d * 40
 }
 
-/// "6: address table unsound: n above m, a held address ≥ P or held twice, dirty byte above 1, nonzero padding, or a row from n on not zero."
+/// "6: address table unsound: n above m, a held address ≥ P or held twice, dirty byte above 1, nonzero padding, or a row from n on not zero." "In a held row
+/// refusal 6 now wants only the last padding byte zero." (document 02, U7)
 pub fn six(t: &Tables) -> bool {
     if !addresses_fit(t) || t.n > t.m {
         return true;
@@ -103,7 +107,7 @@ pub fn six(t: &Tables) -> bool {
     rows.iter().any(|row| row.address as usize >= t.p)
         || distinct.len() < rows.len()
         || rows.iter().any(|row| row.dirty > 1)
-        || rows.iter().any(|row| row.padding != [0; 3])
+        || rows.iter().any(|row| row.padding != 0)
         || t.addresses[t.n * 40..].iter().any(|byte| *byte != 0)
 }
 

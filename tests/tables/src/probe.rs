@@ -22,7 +22,7 @@ mod foreign {
         pub fn tables_probe_is_dirty(t: P, len: usize, n: usize, i: usize) -> bool;
         pub fn tables_probe_is_used(t: P, len: usize, n: usize, i: usize) -> bool;
         pub fn tables_probe_remove_row(t: M, len: usize, n: usize, i: usize);
-        pub fn tables_probe_push_address(t: M, len: usize, n: usize, a: u32, g: P, glen: usize, dirty: u8);
+        pub fn tables_probe_push_address(t: M, len: usize, n: usize, a: u32, g: P, glen: usize, dirty: u8, seat: u16);
         pub fn tables_probe_set_clean(t: M, len: usize, n: usize, i: usize);
         pub fn tables_probe_to_newest(t: M, len: usize, d: usize, i: usize);
         pub fn tables_probe_to_front(t: M, len: usize, d: usize, i: usize);
@@ -83,8 +83,8 @@ changing!(to_front, tables_probe_to_front(d: usize, i: usize));
 changing!(fresh_addresses, tables_probe_fresh_addresses(m: usize));
 changing!(fresh_blocks, tables_probe_fresh_blocks(d: usize));
 
-pub fn push_address(t: &mut [u8], n: usize, a: u32, g: &[u8], dirty: u8) {
-    unsafe { foreign::tables_probe_push_address(t.as_mut_ptr(), t.len(), n, a, g.as_ptr(), g.len(), dirty) }
+pub fn push_address(t: &mut [u8], n: usize, a: u32, g: &[u8], dirty: u8, seat: u16) {
+    unsafe { foreign::tables_probe_push_address(t.as_mut_ptr(), t.len(), n, a, g.as_ptr(), g.len(), dirty, seat) }
 }
 
 pub fn put_block(t: &mut [u8], d: usize, i: usize, g: &[u8]) {

@@ -72,7 +72,8 @@ pub fn sound(random: &mut Random, most_m: usize, most_d: usize) -> Tables {
     for address in addresses {
         let choice = random.below(fingerprints.len());
         let cached = choice < used;
-        held.push(AddressRow::new(address as u32, fingerprints[choice], (cached && random.below(2) == 0) as u8));
+        let seat = [0, 1, 255, 256, 65_535, random.below(65_536)][random.below(6)] as u16;
+        held.push(AddressRow::new(address as u32, fingerprints[choice], (cached && random.below(2) == 0) as u8, seat));
     }
     shuffle(random, &mut held);
     Tables { p, m, n, d, addresses: write_addresses(&held, m), blocks: write_blocks(&blocks) }
@@ -93,6 +94,7 @@ pub enum Damage {
     DirtyAboveOne,
     AddressPadding,
     TailNotZero,
+    SeatBehind,
     FreeAfterUsed,
     UsedAboveOne,
     BlockPadding,
@@ -103,13 +105,14 @@ pub enum Damage {
     DirtyUncached,
 }
 
-pub const DAMAGES: [(Damage, u32); 14] = [
+pub const DAMAGES: [(Damage, u32); 15] = [
     (Damage::TooManyHeld, 6),
     (Damage::AddressTooLarge, 6),
     (Damage::AddressTwice, 6),
     (Damage::DirtyAboveOne, 6),
     (Damage::AddressPadding, 6),
     (Damage::TailNotZero, 6),
+    (Damage::SeatBehind, 6),
     (Damage::FreeAfterUsed, 7),
     (Damage::UsedAboveOne, 7),
     (Damage::BlockPadding, 7),
@@ -151,11 +154,13 @@ pub fn damage(random: &mut Random, t: &mut Tables, kind: Damage) -> bool {
             t.addresses.copy_within(one * 40..one * 40 + 4, two * 40);
         }
         Damage::DirtyAboveOne if n > 0 => t.addresses[row + 36] = 2 + random.below(254) as u8,
-        Damage::AddressPadding if n > 0 => t.addresses[row + 37 + random.below(3)] = 1 + random.below(255) as u8,
+        Damage::AddressPadding if n > 0 => t.addresses[row + 39] = 1 + random.below(255) as u8,
         Damage::TailNotZero if n < t.m => {
             let place = n * 40 + random.below((t.m - n) * 40);
             t.addresses[place] = 1 + random.below(255) as u8;
         }
+        // A seat in a row that is not held.
+        Damage::SeatBehind if n < t.m => t.addresses[(n + random.below(t.m - n)) * 40 + 37 + random.below(2)] = 1 + random.below(255) as u8,
         Damage::FreeAfterUsed if !used.is_empty() && !free.is_empty() => {
             let one = free[random.below(free.len())];
             let two = used[random.below(used.len())];

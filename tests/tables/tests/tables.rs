@@ -62,7 +62,7 @@ fn compare_moves(t: &Tables, random: &mut Random, context: &str) {
     let rest = &t.addresses[n * 40..];
     let with_rest = |rows: &[AddressRow], rest: &[u8]| [&write_addresses(rows, rows.len())[..], rest].concat();
     let g: [u8; 32] = random.bytes(32).try_into().unwrap();
-    let (a, dirty) = (random.number() as u32, random.number() as u8);
+    let (a, dirty, seat) = (random.number() as u32, random.number() as u8, random.number() as u16);
 
     let i = random.below(n + 1);
     let mut bytes = t.addresses.clone();
@@ -78,17 +78,17 @@ fn compare_moves(t: &Tables, random: &mut Random, context: &str) {
     assert_eq!(bytes, expected, "remove_row {i}: {context}");
 
     let mut bytes = t.addresses.clone();
-    probe::push_address(&mut bytes, n, a, &g, dirty);
+    probe::push_address(&mut bytes, n, a, &g, dirty, seat);
     let mut rows = held.clone();
     let expected = match n < t.m {
         true => {
-            rows.push(AddressRow::new(a, g, dirty));
+            rows.push(AddressRow::new(a, g, dirty, seat));
             with_rest(&rows, &rest[40..])
         }
         false => t.addresses.clone(),
     };
     assert_eq!(bytes, expected, "push_address: {context}");
-    probe::push_address(&mut bytes, n, a, &g[..31], dirty);
+    probe::push_address(&mut bytes, n, a, &g[..31], dirty, seat);
     assert_eq!(bytes, expected, "push_address with 31 bytes: {context}");
 
     let mut bytes = t.addresses.clone();
@@ -157,7 +157,7 @@ fn sound_tables() {
         }
         let a = random.below(t.p) as u32;
         if after.n < t.m && probe::find_address(&after.addresses, after.n, a) == NONE {
-            probe::push_address(&mut after.addresses, after.n, a, &g, random.below(2) as u8);
+            probe::push_address(&mut after.addresses, after.n, a, &g, random.below(2) as u8, random.number() as u16);
             after.n += 1;
         }
         assert!(!model::six(&after) && !model::seven(&after), "no longer sound: {context}");
@@ -258,7 +258,7 @@ fn large_tables() {
 /// The edges of document 01: address P − 1 is held, P gives 6; slot d − 1 is right, d gives 7; a used fingerprint of zeros passes; twice it gives 7.
 #[test]
 fn edges() {
-    let rows = |last: u32| vec![AddressRow::new(0, [0; 32], 0), AddressRow::new(last, [7; 32], 0)];
+    let rows = |last: u32| vec![AddressRow::new(0, [0; 32], 0, 65_535), AddressRow::new(last, [7; 32], 0, 256)];
     let table = |p: usize, last: u32, slots: [u32; 2], second: u8| Tables {
         p,
         m: 2,

@@ -7,6 +7,7 @@ use Rattle.paper.specs.Cache.{cached, dirtied, rowOf, sameBlock, newBlock, step
 use Rattle.parts.specs.Rep.{numbersOf, engine}
 use Rattle.paper.specs.Engine.{Fixed}
 use native.Mathlib.Nat.{zero-add}
+use Rattle.tables.specs.Records.{bytes2}
 use Rattle.step.specs.Steps.{asks}
 use Rattle.serve.specs.ServeLaws.{yes-is, answer-is, back-is}
 use borrow.Author.Needs.{needs}
@@ -47,9 +48,9 @@ returns c =
           let f = engine (a .b) .hash x in
           let ef = at-hash .fingerprint-of .ensures x ex in
           let v = dirtied (engine (a .b)) f (rowOf (a .a .0) (s .rows)) in
-          answer-is (a .b) (a .block .now) (cond (cached (engine (a .b)) f (s .used)) sameBlock newBlock) none 0 (step (engine (a .b)) (a .b .rows) s (asks (a .a .0) f x v)) _ (w .result .held) (w .result .flashed) (w .result .primary) (w .result .primary) _ _ _ _ (a .block .now)
+          answer-is (a .b) (a .block .now) (cond (cached (engine (a .b)) f (s .used)) sameBlock newBlock) none 0 (step (engine (a .b)) (a .b .rows) s (asks (a .a .0) f x v (bytes2 (a .seat)))) _ (w .result .held) (w .result .flashed) (w .result .primary) (w .result .primary) _ _ _ _ (a .block .now)
           (w .ensures .1 s f x v h sd ef ex (at-value .dirty-value .ensures (numbersOf (a .b)) (s .rows) f (h .rows-are) ef)) (yes-is (numbersOf (a .b)) (a .b .slots) (a .blocks .now) (s .free) (s .used) (h .blocks-are) f (p .result) (p .ensures .1 (s .free) (s .used) f (h .blocks-are) ef)) (sym (zero-add (w .result .primary))) refl
-          ∙ back-is (a .b) (a .block .now) s (a .a .0) x,
+          ∙ back-is (a .b) (a .block .now) s (a .a .0) x (bytes2 (a .seat)),
     )
 
 pub serve-back-spec : {M : Type 1} → statement M

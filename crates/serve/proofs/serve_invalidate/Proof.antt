@@ -54,10 +54,10 @@ returns c =
     let a = s .args in
     let p = s .pre .0 in (
       (omega arith, omega arith),
-      λ flash t x h sd ex.
+      λ flash z t x h sd ex.
           let f = engine (a .b) .hash x in
           let ef = g .fingerprint-of .ensures x ex in
-          invalidate-is (a .b) (a .block .now) (a .disk .now) flash (a .addrs .now) (a .blocks .now) t h (a .a .0) (p .1 .3) x _ (w .drop-row .result) _ _ _
+          invalidate-is (a .b) (a .block .now) (a .disk .now) flash (a .addrs .now) (a .blocks .now) t h (a .a .0) (p .1 .3) x z _ (w .drop-row .result) _ _ _
           (yes-is (numbersOf (a .b)) (a .b .slots) (a .blocks .now) (t .free) (t .used) (h .blocks-are) f (j .place-of .result) (j .place-of .ensures .1 (t .free) (t .used) f (h .blocks-are) ef))
           (k .put-address .ensures ∙ ap (λ (y : List ℕ). splice (a .a .0 * a .b .size) y (a .disk .now)) (sym ex))
           (w .drop-row .ensures (numbersOf (a .b)) (a .a .0) (t .rows) (t .free) (t .used) (h .rows-are) (h .blocks-are) (sd .addresses) (sd .fingerprints) (i .row-of .ensures .1 (a .b .blocks) (a .b .rows) (t .rows) (h .rows-are))),

@@ -10,6 +10,7 @@ use Rattle.paper.specs.Cache.{onDisk, cached, sameBlock, newBlock, step}
 use Rattle.paper.specs.Engine.{Fixed}
 use Rattle.block.specs.Blocks.{splice}
 use Rattle.paper.specs.Sound.{sound-onDisk}
+use Rattle.tables.specs.Records.{bytes2}
 use Rattle.step.specs.Steps.{asks}
 use Rattle.parts.specs.CopyLaws.{block-ends}
 use Rattle.serve.specs.ServeLaws.{yes-is, answer-is, through-is, rep-onDisk}
@@ -43,8 +44,8 @@ step-requires c κs =
       ((onDisk (engine (a .b)) (q .0) (a .a .0) x, false, rep-onDisk (a .b) (a .disk .now) (a .flash .now) (a .addrs .now) (a .blocks .now) (q .0) (q .1) (a .a .0) (p .1 .3) x _ (at-put-address .put-address .ensures), sound-onDisk (engine (a .b)) (numbersOf (a .b)) (q .0) (a .a .0) x (q .2), refl), start .pre .1 .1),
     )
 
-add-t31 : tie.Need-add-t31
-add-t31 c =
+add-t32 : tie.Need-add-t32
+add-t32 c =
     let at-step = c .before .before .before .before .before .before .before .before .before .before in
     let start = at-step .before .before .before .before .before .before .before .before .before .before .before .before .before .before .before .before .before .before .before .before in
     omega (arith, at-step .step .ensures .0 .1, start .pre .0 .1 .4)
@@ -64,13 +65,13 @@ returns c =
           let f = engine (a .b) .hash x in
           let ef = at-hash .fingerprint-of .ensures x ex in
           let t = onDisk (engine (a .b)) s (a .a .0) x in
-          answer-is (a .b) (a .block .now) (cond (cached (engine (a .b)) f (s .used)) sameBlock newBlock) none 1 (step (engine (a .b)) (a .b .rows) t (asks (a .a .0) f x false)) _ (w .result .held) (w .result .flashed) (w .result .primary) (1 + w .result .primary) _ _ _ _ (a .block .now)
+          answer-is (a .b) (a .block .now) (cond (cached (engine (a .b)) f (s .used)) sameBlock newBlock) none 1 (step (engine (a .b)) (a .b .rows) t (asks (a .a .0) f x false (bytes2 (a .seat)))) _ (w .result .held) (w .result .flashed) (w .result .primary) (1 + w .result .primary) _ _ _ _ (a .block .now)
           (w .ensures .1 t f x false (rep-onDisk (a .b) (a .disk .now) (a .flash .now) (a .addrs .now) (a .blocks .now) s h (a .a .0) (start .pre .0 .1 .3) x _ (at-put-address .put-address .ensures ∙ ap (λ (y : List ℕ). splice (a .a .0 * a .b .size) y (a .disk .now)) (sym ex))) (sound-onDisk (engine (a .b)) (numbersOf (a .b)) s (a .a .0) x sd) ef ex refl)
           (yes-is (numbersOf (a .b)) (a .b .slots) (a .blocks .now) (s .free) (s .used) (h .blocks-are) f (p .result) (p .ensures .1 (s .free) (s .used) f (h .blocks-are) ef)) refl refl
-          ∙ through-is (a .b) (a .block .now) s (a .a .0) x,
+          ∙ through-is (a .b) (a .block .now) s (a .a .0) x (bytes2 (a .seat)),
     )
 
 pub serve-through-spec : {M : Type 1} → statement M
 serve-through-spec =
     tie.close
-    (tie.spec fingerprint-of-requires (λ c. search needs) (λ c κs. search needs) put-address-requires (λ c. search needs) step-requires add-t31 (λ c. search needs) (λ c. search needs) (λ c. search needs) (λ c. search needs) returns)
+    (tie.spec fingerprint-of-requires (λ c. search needs) (λ c κs. search needs) put-address-requires (λ c. search needs) step-requires add-t32 (λ c. search needs) (λ c. search needs) (λ c. search needs) (λ c. search needs) returns)

@@ -1,4 +1,5 @@
 -- By the kind of the write. Assumes nothing.
+use Rattle.tables.specs.Records.{bytes2}
 use borrow.Author.Needs.{needs}
 use Rattle.serve.proofs.serve_write.Statement.{statement}
 use Rattle.serve.proofs.serve_write.Tie as tie
@@ -21,7 +22,7 @@ returns-3 c =
     let w = c .before .before .before .before .before .before in
     let e = w .serve-invalidate .ensures in
     let k = w .before .before .before .before in
-    rw (k .enum-told3 .given .1) (e .0, e .1 (k .before .before .before .before .before .before .before .before .args .flash .now))
+    rw (k .enum-told3 .given .1) (e .0, e .1 (k .before .before .before .before .before .before .before .before .args .flash .now) (bytes2 (k .before .before .before .before .before .before .before .before .args .seat)))
 
 pub serve-write-spec : {M : Type 1} → statement M
 serve-write-spec =

@@ -19,7 +19,7 @@ fits c = sym (c .before .fit .ensures) ∙ not-false _ (c .if1 .left)
 returns : tie.Need-returns
 returns c =
     let a = start (c .before) .args in
-    unchanged (askOf (a .kind) (a .address) (a .block .now)) (a .state .now) (a .disk .now) (a .flash .now) (a .addresses .now) (a .blocks .now) (a .answer .now) (sym (c .before .fit .ensures) ∙ not-true _ (c .if1 .taken)) _ (sym (asks-write (a .kind) 0 (a .address) (a .block .now) .block))
+    unchanged (askOf (a .kind) (a .address) (a .block .now) (a .seat)) (a .state .now) (a .disk .now) (a .flash .now) (a .addresses .now) (a .blocks .now) (a .answer .now) (sym (c .before .fit .ensures) ∙ not-true _ (c .if1 .taken)) _ (sym (asks-write (a .kind) 0 (a .address) (a .seat) (a .block .now) .block))
 
 record-in-requires : tie.Need-record-in-requires
 record-in-requires c κs = lengths _ _ _ (fits (c .before)) .0
@@ -45,7 +45,7 @@ returns-2 c =
     let b = k .before .before in
     let e = b .before .before in
     let a = start (e .before) .args in
-    changed (askOf (a .kind) (a .address) (a .block .now)) (a .state .now) (a .disk .now) (a .flash .now) (a .addresses .now) (a .blocks .now) (a .answer .now) (fits e)
+    changed (askOf (a .kind) (a .address) (a .block .now) (a .seat)) (a .state .now) (a .disk .now) (a .flash .now) (a .addresses .now) (a .blocks .now) (a .answer .now) (fits e)
     (b .record-in .result) (k .counters-in .result) (b .record-in .ensures) (k .counters-in .ensures) (r .write .result) _ _ _ _ _ (r .write .ensures) _ _ _ (w .write-outcome .ensures)
 
 pub write-spec : {M : Type 1} → statement M

@@ -8,7 +8,7 @@ use Rattle.checks.proofs.sound.address_ok.Tie as tie
 returns : tie.Need-returns
 returns c =
     let t = c .before in
-    rw (sym (t .before .before .address-at .ensures), lt-ltb _ _ (t .if1 .taken)) (c .tail-ok .ensures)
+    rw (sym (t .before .before .address-at .ensures), lt-ltb _ _ (t .if1 .taken)) (c .seated-tail-ok .ensures)
 
 returns-2 : tie.Need-returns-2
 returns-2 c = rw (sym (c .before .before .address-at .ensures), le-ltb _ _ (c .if1 .left))

@@ -20,17 +20,17 @@ of-access-requires : tie.Need-of-access-requires
 of-access-requires c κs = (length-replicate {A = ℕ} 4353 0, filled-with 4353 0)
 
 -- the refusal is 0
-zero : (c : tie.Else1) → (let a = c .before .before .before .before .before .before .before .before .before .before .before .before .before .args in refusal (numbersOf (a .b)) (lent (a .b) (a .disk .now) (a .flash .now) (a .addresses .now) (a .blocks .now) (countersOf (a .c))) (calling (askOf (a .kind) (a .a .0) (a .block .now))) ≡ 0)
+zero : (c : tie.Else1) → (let a = c .before .before .before .before .before .before .before .before .before .before .before .before .before .args in refusal (numbersOf (a .b)) (lent (a .b) (a .disk .now) (a .flash .now) (a .addresses .now) (a .blocks .now) (countersOf (a .c))) (calling (askOf (a .kind) (a .a .0) (a .block .now) (a .seat))) ≡ 0)
 zero c =
     let a = c .before .before .before .before .before .before .before .before .before .before .before .before .before .args in
-    sym (asks-write (a .kind) (a .b .size) (a .a .0) (a .block .now) .refusal-is _ _) ∙ sym (c .before .before .of-access .ensures .0) ∙ c .if1 .left
+    sym (asks-write (a .kind) (a .b .size) (a .a .0) (a .seat) (a .block .now) .refusal-is _ _) ∙ sym (c .before .before .of-access .ensures .0) ∙ c .if1 .left
 
 returns : tie.Need-returns
 returns c =
     let x = c .before .before .before in
     let a = x .before .before .before .before .before .before .before .before .before .before .before .args in
     ap (λ r. told r (a .disk .now) (a .flash .now) (a .addresses .now) (a .blocks .now) (some (a .block .now))) (c .refused .ensures)
-    ∙ keep (a .b) (a .disk .now) (a .flash .now) (a .addresses .now) (a .blocks .now) (a .c) (askOf (a .kind) (a .a .0) (a .block .now)) (x .of-access .result) (x .of-access .ensures .0 ∙ asks-write (a .kind) (a .b .size) (a .a .0) (a .block .now) .refusal-is _ _) (c .before .if1 .taken) _ (sym (asks-write (a .kind) (a .b .size) (a .a .0) (a .block .now) .block))
+    ∙ keep (a .b) (a .disk .now) (a .flash .now) (a .addresses .now) (a .blocks .now) (a .c) (askOf (a .kind) (a .a .0) (a .block .now) (a .seat)) (x .of-access .result) (x .of-access .ensures .0 ∙ asks-write (a .kind) (a .b .size) (a .a .0) (a .seat) (a .block .now) .refusal-is _ _) (c .before .if1 .taken) _ (sym (asks-write (a .kind) (a .b .size) (a .a .0) (a .seat) (a .block .now) .block))
 
 serve-write-requires : tie.Need-serve-write-requires
 serve-write-requires c κs =
@@ -41,9 +41,9 @@ serve-write-requires c κs =
     let z = zero e in
     let x = all-bytes (a .addresses .now) (λ i. omega (arith, s .before .slice-known3 .given i)) in
     let y = all-bytes (a .blocks .now) (λ i. omega (arith, s .slice-known4 .given i)) in
-    let q = askOf (a .kind) (a .a .0) (a .block .now) in
+    let q = askOf (a .kind) (a .a .0) (a .block .now) (a .seat) in
     let k = countersOf (a .c) in
-    let f = asks-write (a .kind) (a .b .size) (a .a .0) (a .block .now) in
+    let f = asks-write (a .kind) (a .b .size) (a .a .0) (a .seat) (a .block .now) in
     ((disk-fits (a .b) (a .disk .now) (a .flash .now) (a .addresses .now) (a .blocks .now) k q z, access (a .b) (a .disk .now) (a .flash .now) (a .addresses .now) (a .blocks .now) k q z x y (a .a .0) (a .block .now) (f .address) (f .block)), (sound (a .b) (a .disk .now) (a .flash .now) (a .addresses .now) (a .blocks .now) k q z x y, w .of-access .ensures .1 (e .if1 .left)))
 
 answered-requires : tie.Need-answered-requires
@@ -51,8 +51,8 @@ answered-requires c κs =
     let r = c .before .before .before .before .before .before .before .before .before in
     let e = r .before .before .before .before .before .before in
     let a = e .before .before .before .before .before .before .before .before .before .before .before .before .before .args in
-    let o = served-finds (numbersOf (a .b)) (lent (a .b) (a .disk .now) (a .flash .now) (a .addresses .now) (a .blocks .now) (countersOf (a .c))) (askOf (a .kind) (a .a .0) (a .block .now)) (zero e) in
-    fitting (a .c) (a .b .rows) 0 0 (r .serve-write .result .flashed) (r .serve-write .result .primary) (asks-write (a .kind) (a .b .size) (a .a .0) (a .block .now) .counted _ ∙ o .counters) (o .fits .m-most) (omega arith) (omega arith) (r .serve-write .ensures .0 .0) (r .serve-write .ensures .0 .1)
+    let o = served-finds (numbersOf (a .b)) (lent (a .b) (a .disk .now) (a .flash .now) (a .addresses .now) (a .blocks .now) (countersOf (a .c))) (askOf (a .kind) (a .a .0) (a .block .now) (a .seat)) (zero e) in
+    fitting (a .c) (a .b .rows) 0 0 (r .serve-write .result .flashed) (r .serve-write .result .primary) (asks-write (a .kind) (a .b .size) (a .a .0) (a .seat) (a .block .now) .counted _ ∙ o .counters) (o .fits .m-most) (omega arith) (omega arith) (r .serve-write .ensures .0 .0) (r .serve-write .ensures .0 .1)
 
 returns-2 : tie.Need-returns-2
 returns-2 c =
@@ -64,14 +64,14 @@ returns-2 c =
     let x = all-bytes (a .addresses .now) (λ i. omega (arith, s .before .slice-known3 .given i)) in
     let y = all-bytes (a .blocks .now) (λ i. omega (arith, s .slice-known4 .given i)) in
     let l = a .block .now in
-    let q = askOf (a .kind) (a .a .0) (a .block .now) in
+    let q = askOf (a .kind) (a .a .0) (a .block .now) (a .seat) in
     let k = countersOf (a .c) in
-    let f = asks-write (a .kind) (a .b .size) (a .a .0) l in
+    let f = asks-write (a .kind) (a .b .size) (a .a .0) (a .seat) l in
     let on = sound (a .b) (a .disk .now) (a .flash .now) (a .addresses .now) (a .blocks .now) k q z x y in
     let fits = access (a .b) (a .disk .now) (a .flash .now) (a .addresses .now) (a .blocks .now) k q z x y (a .a .0) l (f .address) (f .block) .2 in
     let left = r .serve-write .ensures .1 (on .0) (fit (a .b .size) l) (on .1) (on .2) (fit-is (a .b .size) l fits) in
     rw (c .answered .ensures)
-    (written (a .b) (a .disk .now) (a .flash .now) (a .addresses .now) (a .blocks .now) (a .c) (a .kind) (a .a .0) l z (c .before .write-word .result) (r .serve-write .result) _ _ _ _ left (c .before .write-word .ensures))
+    (written (a .b) (a .disk .now) (a .flash .now) (a .addresses .now) (a .blocks .now) (a .c) (a .kind) (a .a .0) l (a .seat) z (c .before .write-word .result) (r .serve-write .result) _ _ _ _ left (c .before .write-word .ensures))
 
 pub write-spec : {M : Type 1} → statement M
 write-spec =

@@ -2,7 +2,7 @@
 use mathlib.Core.Path.{ap, _∙_}
 use Prim.Native.Nat.{_-_}
 use native.Mathlib.Omega.{arith}
-use Rattle.tables.specs.Records.{addressRow, addressBytes}
+use Rattle.tables.specs.Records.{addressRow, addressBytes, bytes2}
 use Rattle.tables.specs.Operations.{rowAdded}
 use borrow.Author.Needs.{needs}
 use Rattle.step.proofs.steps.renew.Statement.{statement}
@@ -20,7 +20,7 @@ returns c =
     let u = n .before .before .before .before in
     let r = u .before .before .before .before in
     let a = r .before .before .before .before .before .before .args in
-    (u .push-address .ensures ∙ ap (rowAdded (a .b .held - 1) (addressBytes (addressRow (a .a .0) (a .g .now) (a .dirty)))) (r .remove-row .ensures), n .to-newest .ensures)
+    (u .push-address .ensures ∙ ap (rowAdded (a .b .held - 1) (addressBytes (addressRow (a .a .0) (a .g .now) (a .dirty) (bytes2 (a .seat))))) (r .remove-row .ensures), n .to-newest .ensures)
 
 pub renew-spec : {M : Type 1} → statement M
 renew-spec =

@@ -3,7 +3,7 @@ use mathlib.Core.Path.{refl, sym, ap₂, _∙_}
 use mathlib.Core.List.{List, [], _∷_, _++_}
 use Prim.Native.Nat.{ℕ}
 use native.Mathlib.Omega.{arith}
-use Rattle.tables.specs.Records.{addressRow, addressBytes}
+use Rattle.tables.specs.Records.{addressRow, addressBytes, bytes2}
 use Rattle.tables.specs.Operations.{rowAdded}
 use Rattle.paper.specs.Cache.{step1, newest}
 use Rattle.parts.specs.Rep.{numbersOf, engine}
@@ -62,20 +62,20 @@ step4-requires c κs =
     let s3-left = rw eh at s3-leaves in
     let n = st .result .held in
     let e1 = st .ensures .1 (q .0) (q .2) ((q .3) .addresses) in
-    let e2 = pu .ensures ∙ ap₂ {C = List ℕ} (λ y d. rowAdded n (addressBytes (addressRow (a .a .0) y d)) (st .last .1 .1 .1 .1 .0)) refl (q .4) in
-    let X = addrs₂-are (a .b) (a .disk .now) (a .flash .now) (a .addrs .now) (a .blocks .now) (q .0) (q .2) (q .3) (p .0) (p .1) (a .a .0) (p .4) f (q .1) n (st .result .place) (st .result .primary) _ _ e1 _ e2 in
-    let Y = place-is (a .b) (a .disk .now) (a .flash .now) (a .addrs .now) (a .blocks .now) (q .0) (q .2) (q .3) (p .0) (p .1) (a .a .0) (p .4) f (q .1) n (st .result .place) (st .result .primary) _ _ e1 _ e2 in
-    let e3 = s3-left (numbersOf (a .b)) (step1 (engine (a .b)) (a .b .rows) (q .0) (a .a .0) .rows ++ (newest (a .a .0) f (q .1) ∷ [])) ((q .0) .free) ((q .0) .used) (step1 (engine (a .b)) (a .b .rows) (q .0) (a .a .0) .gone) X ((q .2) .blocks-are) ((q .3) .fingerprints) Y in
+    let e2 = pu .ensures ∙ ap₂ {C = List ℕ} (λ y d. rowAdded n (addressBytes (addressRow (a .a .0) y d (bytes2 (a .seat)))) (st .last .1 .1 .1 .1 .0)) refl (q .4) in
+    let X = addrs₂-are (a .b) (a .disk .now) (a .flash .now) (a .addrs .now) (a .blocks .now) (q .0) (q .2) (q .3) (p .0) (p .1) (a .a .0) (p .4) f (q .1) (bytes2 (a .seat)) n (st .result .place) (st .result .primary) _ _ e1 _ e2 in
+    let Y = place-is (a .b) (a .disk .now) (a .flash .now) (a .addrs .now) (a .blocks .now) (q .0) (q .2) (q .3) (p .0) (p .1) (a .a .0) (p .4) f (q .1) (bytes2 (a .seat)) n (st .result .place) (st .result .primary) _ _ e1 _ e2 in
+    let e3 = s3-left (numbersOf (a .b)) (step1 (engine (a .b)) (a .b .rows) (q .0) (a .a .0) .rows ++ (newest (a .a .0) f (q .1) (bytes2 (a .seat)) ∷ [])) ((q .0) .free) ((q .0) .used) (step1 (engine (a .b)) (a .b .rows) (q .0) (a .a .0) .gone) X ((q .2) .blocks-are) ((q .3) .fingerprints) Y in
     rw eh (
       (p .1, p .2, p .3, q .2 .blocks-are .small, (omega (arith, st .ensures .0 .0), pu .kept .0 ∙ st .kept .1 .1 .1 .1 .0 ∙ p .6 .1, s3 .kept .1 .1 .1 .0 ∙ p .6 .2)),
       (
-        (s₃ (a .b) (a .disk .now) (a .flash .now) (a .addrs .now) (a .blocks .now) (q .0) (q .2) (q .3) (p .0) (p .1) (a .a .0) (p .4) f (q .1) n (st .result .place) (st .result .primary) _ _ e1 _ e2 _ e3, rep₃ (a .b) (a .disk .now) (a .flash .now) (a .addrs .now) (a .blocks .now) (q .0) (q .2) (q .3) (p .0) (p .1) (a .a .0) (p .4) f (q .1) n (st .result .place) (st .result .primary) _ _ e1 _ e2 _ e3, distinct₃ (a .b) (a .disk .now) (a .flash .now) (a .addrs .now) (a .blocks .now) (q .0) (q .2) (q .3) (p .0) (p .1) (a .a .0) (p .4) f (q .1) n (st .result .place) (st .result .primary) _ _ e1 _ e2 _ e3),
+        (s₃ (a .b) (a .disk .now) (a .flash .now) (a .addrs .now) (a .blocks .now) (q .0) (q .2) (q .3) (p .0) (p .1) (a .a .0) (p .4) f (q .1) (bytes2 (a .seat)) n (st .result .place) (st .result .primary) _ _ e1 _ e2 _ e3, rep₃ (a .b) (a .disk .now) (a .flash .now) (a .addrs .now) (a .blocks .now) (q .0) (q .2) (q .3) (p .0) (p .1) (a .a .0) (p .4) f (q .1) (bytes2 (a .seat)) n (st .result .place) (st .result .primary) _ _ e1 _ e2 _ e3, distinct₃ (a .b) (a .disk .now) (a .flash .now) (a .addrs .now) (a .blocks .now) (q .0) (q .2) (q .3) (p .0) (p .1) (a .a .0) (p .4) f (q .1) (bytes2 (a .seat)) n (st .result .place) (st .result .primary) _ _ e1 _ e2 _ e3),
         λ y. rw (s3 .ensures .1 y) (start .pre .1 .1),
       ),
     )
 
-add-t38 : tie.Need-add-t38
-add-t38 c =
+add-t39 : tie.Need-add-t39
+add-t39 c =
     let at-step4 = c .before .before .before .before .before .before .before .before .before .before in
     let at-step1 = at-step4 .before .before .before .before .before .before .before .before .before .before .before .before .before .before .before .before .before .before .before .before in
     let eh = at-step4 .before .before .before .before .before .before .before .before .before .before .with-held .ensures in
@@ -126,12 +126,12 @@ returns c =
       (s4-left .0 .0, omega (arith, s4-left .0 .1, st .ensures .0 .0, st .ensures .0 .1)),
       λ s f x w h sd ef ex ed.
           let e1 = st .ensures .1 s h (sd .addresses) in
-          let e2 = pu .ensures ∙ ap₂ {C = List ℕ} (λ y d. rowAdded n (addressBytes (addressRow (a .a .0) y d)) (st .last .1 .1 .1 .1 .0)) (sym ef) ed in
-          let X = addrs₂-are (a .b) (a .disk .now) (a .flash .now) (a .addrs .now) (a .blocks .now) s h sd (p .0) (p .1) (a .a .0) (p .4) f w n (st .result .place) (st .result .primary) _ _ e1 _ e2 in
-          let Y = place-is (a .b) (a .disk .now) (a .flash .now) (a .addrs .now) (a .blocks .now) s h sd (p .0) (p .1) (a .a .0) (p .4) f w n (st .result .place) (st .result .primary) _ _ e1 _ e2 in
-          let e3 = s3-left (numbersOf (a .b)) (step1 (engine (a .b)) (a .b .rows) s (a .a .0) .rows ++ (newest (a .a .0) f w ∷ [])) (s .free) (s .used) (step1 (engine (a .b)) (a .b .rows) s (a .a .0) .gone) X (h .blocks-are) (sd .fingerprints) Y in
-          step-is (a .b) (a .disk .now) (a .flash .now) (a .addrs .now) (a .blocks .now) s h sd (p .0) (p .1) (a .a .0) (p .4) f w n (st .result .place) (st .result .primary) _ _ e1 _ e2 _ e3 x (s4 .result .flashed) (s4 .result .primary) _ _ _ _
-          (s4-left .1 (s₃ (a .b) (a .disk .now) (a .flash .now) (a .addrs .now) (a .blocks .now) s h sd (p .0) (p .1) (a .a .0) (p .4) f w n (st .result .place) (st .result .primary) _ _ e1 _ e2 _ e3) f x (rep₃ (a .b) (a .disk .now) (a .flash .now) (a .addrs .now) (a .blocks .now) s h sd (p .0) (p .1) (a .a .0) (p .4) f w n (st .result .place) (st .result .primary) _ _ e1 _ e2 _ e3) (distinct₃ (a .b) (a .disk .now) (a .flash .now) (a .addrs .now) (a .blocks .now) s h sd (p .0) (p .1) (a .a .0) (p .4) f w n (st .result .place) (st .result .primary) _ _ e1 _ e2 _ e3) ef ex),
+          let e2 = pu .ensures ∙ ap₂ {C = List ℕ} (λ y d. rowAdded n (addressBytes (addressRow (a .a .0) y d (bytes2 (a .seat)))) (st .last .1 .1 .1 .1 .0)) (sym ef) ed in
+          let X = addrs₂-are (a .b) (a .disk .now) (a .flash .now) (a .addrs .now) (a .blocks .now) s h sd (p .0) (p .1) (a .a .0) (p .4) f w (bytes2 (a .seat)) n (st .result .place) (st .result .primary) _ _ e1 _ e2 in
+          let Y = place-is (a .b) (a .disk .now) (a .flash .now) (a .addrs .now) (a .blocks .now) s h sd (p .0) (p .1) (a .a .0) (p .4) f w (bytes2 (a .seat)) n (st .result .place) (st .result .primary) _ _ e1 _ e2 in
+          let e3 = s3-left (numbersOf (a .b)) (step1 (engine (a .b)) (a .b .rows) s (a .a .0) .rows ++ (newest (a .a .0) f w (bytes2 (a .seat)) ∷ [])) (s .free) (s .used) (step1 (engine (a .b)) (a .b .rows) s (a .a .0) .gone) X (h .blocks-are) (sd .fingerprints) Y in
+          step-is (a .b) (a .disk .now) (a .flash .now) (a .addrs .now) (a .blocks .now) s h sd (p .0) (p .1) (a .a .0) (p .4) f w (bytes2 (a .seat)) n (st .result .place) (st .result .primary) _ _ e1 _ e2 _ e3 x (s4 .result .flashed) (s4 .result .primary) _ _ _ _
+          (s4-left .1 (s₃ (a .b) (a .disk .now) (a .flash .now) (a .addrs .now) (a .blocks .now) s h sd (p .0) (p .1) (a .a .0) (p .4) f w (bytes2 (a .seat)) n (st .result .place) (st .result .primary) _ _ e1 _ e2 _ e3) f x (rep₃ (a .b) (a .disk .now) (a .flash .now) (a .addrs .now) (a .blocks .now) s h sd (p .0) (p .1) (a .a .0) (p .4) f w (bytes2 (a .seat)) n (st .result .place) (st .result .primary) _ _ e1 _ e2 _ e3) (distinct₃ (a .b) (a .disk .now) (a .flash .now) (a .addrs .now) (a .blocks .now) s h sd (p .0) (p .1) (a .a .0) (p .4) f w (bytes2 (a .seat)) n (st .result .place) (st .result .primary) _ _ e1 _ e2 _ e3) ef ex),
     )
 
 pub step-spec : {M : Type 1} → statement M
@@ -144,7 +144,7 @@ step-spec =
     (λ c κs. search needs)
     step3-requires
     step4-requires
-    add-t38
+    add-t39
     same-length
     (λ c. search needs)
     same-length-3

@@ -1,0 +1,2 @@
+-- inputs beside their whole outputs, by computation on the definition
+pub mod Examples

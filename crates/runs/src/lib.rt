@@ -1,0 +1,1 @@
+// Replays computed from the definition: inputs beside their whole outputs; no code.
