@@ -100,6 +100,13 @@ b2Out l = record { T1 = l .T1; T2 = l .T2; B1 = l .B1; B2 = drop 1 (l .B2); B3 =
 abbrev pub b3Out : Lists → Lists
 b3Out l = record { T1 = l .T1; T2 = l .T2; B1 = l .B1; B2 = l .B2; B3 = drop 1 (l .B3); p = l .p }
 
+-- ".. and joins one last": the newest of T1, or of T2
+abbrev pub joinT1 : ℕ → Lists → Lists
+joinT1 a l = record { T1 = l .T1 ++ (a ∷ []); T2 = l .T2; B1 = l .B1; B2 = l .B2; B3 = l .B3; p = l .p }
+
+abbrev pub joinT2 : ℕ → Lists → Lists
+joinT2 a l = record { T1 = l .T1; T2 = l .T2 ++ (a ∷ []); B1 = l .B1; B2 = l .B2; B3 = l .B3; p = l .p }
+
 abbrev pub withP : ℕ → Lists → Lists
 withP n l = record { T1 = l .T1; T2 = l .T2; B1 = l .B1; B2 = l .B2; B3 = l .B3; p = n }
 
@@ -283,12 +290,6 @@ module _ {F X : Type 0} (H : Hashing F X) where
   toT2 inB2 = true
   toT2 inB3 = false
   toT2 unheld = false
-
-  abbrev pub joinT1 : ℕ → Lists → Lists
-  joinT1 a l = record { T1 = l .T1 ++ (a ∷ []); T2 = l .T2; B1 = l .B1; B2 = l .B2; B3 = l .B3; p = l .p }
-
-  abbrev pub joinT2 : ℕ → Lists → Lists
-  joinT2 a l = record { T1 = l .T1; T2 = l .T2 ++ (a ∷ []); B1 = l .B1; B2 = l .B2; B3 = l .B3; p = l .p }
 
   unfoldable pub joined : ℕ → F → Bool → Seat → Was → Ran F X Lists → Ran F X Lists
   joined a g d z w t =

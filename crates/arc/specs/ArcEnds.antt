@@ -8,7 +8,7 @@ use lib.ListN.{length, take, drop, getD}
 use lib.Seq.{take-append-seam, drop-append-seam}
 use Rattle.tables.specs.Rows.{removeAt}
 use Rattle.paper.specs.KeyedLaws.{without-append}
-use Rattle.arc.specs.Arc.{Lists, out, left, t1b1, t2b2, t1b3, b1b3, b2b3, b1Out, b2Out}
+use Rattle.arc.specs.Arc.{Lists, out, left, joinT1, joinT2, t1b1, t2b2, t1b3, b1b3, b2b3, b1Out, b2Out, b3Out}
 use Rattle.arc.specs.ArcLent.{endToEnd}
 
 abbrev pub insertAt : ℕ → ℕ → List ℕ → List ℕ
@@ -108,13 +108,20 @@ module _ (l : Lists) (x : ℕ) (more : List ℕ) where
       rw e (sym (ap (λ w. removeAt w (length pre)) (sym (three (l .T1) (l .T2) (l .B1) (x ∷ post))) ∙ remove-seam pre post x
       ∙ three (l .T1) (l .T2) (l .B1) post))
 
+  pub end-b3Out : l .B3 ≡ x ∷ more → endToEnd (b3Out l) ≡ removeAt (endToEnd l) (length (l .T1 ++ (l .T2 ++ (l .B1 ++ l .B2))))
+  end-b3Out e =
+      let pre = l .T1 ++ (l .T2 ++ (l .B1 ++ l .B2)) in
+      let four : (z : List ℕ) → pre ++ z ≡ l .T1 ++ (l .T2 ++ (l .B1 ++ (l .B2 ++ z)))
+      = λ z. append-assoc (l .T1) (l .T2 ++ (l .B1 ++ l .B2)) z ∙ ap (λ w. l .T1 ++ w) (three (l .T2) (l .B1) (l .B2) z) in
+      rw e (sym (ap (λ w. removeAt w (length pre)) (sym (four (x ∷ more))) ∙ remove-seam pre more x ∙ four more))
+
 -- joining
-pub end-joinT1 : (a : ℕ) (l : Lists) → (l .T1 ++ (a ∷ [])) ++ (l .T2 ++ (l .B1 ++ (l .B2 ++ l .B3))) ≡ insertAt (length (l .T1)) a (endToEnd l)
+pub end-joinT1 : (a : ℕ) (l : Lists) → endToEnd (joinT1 a l) ≡ insertAt (length (l .T1)) a (endToEnd l)
 end-joinT1 a l =
     let post = l .T2 ++ (l .B1 ++ (l .B2 ++ l .B3)) in
     append-assoc (l .T1) (a ∷ []) post ∙ sym (insert-seam (l .T1) post a)
 
-pub end-joinT2 : (a : ℕ) (l : Lists) → l .T1 ++ ((l .T2 ++ (a ∷ [])) ++ (l .B1 ++ (l .B2 ++ l .B3))) ≡ insertAt (length (l .T1 ++ l .T2)) a (endToEnd l)
+pub end-joinT2 : (a : ℕ) (l : Lists) → endToEnd (joinT2 a l) ≡ insertAt (length (l .T1 ++ l .T2)) a (endToEnd l)
 end-joinT2 a l =
     let post = l .B1 ++ (l .B2 ++ l .B3) in
     sym (ap (insertAt (length (l .T1 ++ l .T2)) a) (sym (append-assoc (l .T1) (l .T2) post)) ∙ insert-seam (l .T1 ++ l .T2) post a

@@ -152,13 +152,13 @@ module _ {F X : Type 0} (H : Hashing F X) (Z : Sizes) where
   unfolding joined
   mid-joined t a g dy seat w m c room few ap =
       by-test (toT2 H w)
-      (λ e. rw e (go (joinT2 H a (t .kept)) (λ x. let f = tally-append (λ x. x) x (t .kept .T2) (a ∷ []) in omega (arith, f))
+      (λ e. rw e (go (joinT2 a (t .kept)) (λ x. let f = tally-append (λ x. x) x (t .kept .T2) (a ∷ []) in omega (arith, f))
       (let f = length-append (t .kept .T2) (a ∷ []) in omega (arith, f))
       (λ x h. either (or-cases (isIn x (t .kept .T1)) (isIn x (t .kept .T2 ++ (a ∷ []))) h)
       (λ y. inl (or-left (isIn x (t .kept .T1)) (isIn x (t .kept .T2)) y))
       (λ y. either (in-joined x a (t .kept .T2) y) (λ z. inl (or-right (isIn x (t .kept .T1)) (isIn x (t .kept .T2)) z)) (λ z. inr z)))
       (let f = length-append (t .kept .T2) (a ∷ []) in omega (arith, f)) few (m .pLow)))
-      (λ e. rw e (go (joinT1 H a (t .kept)) (λ x. let f = tally-append (λ x. x) x (t .kept .T1) (a ∷ []) in omega (arith, f))
+      (λ e. rw e (go (joinT1 a (t .kept)) (λ x. let f = tally-append (λ x. x) x (t .kept .T1) (a ∷ []) in omega (arith, f))
       (let f = length-append (t .kept .T1) (a ∷ []) in omega (arith, f))
       (λ x h. either (or-cases (isIn x (t .kept .T1 ++ (a ∷ []))) (isIn x (t .kept .T2)) h)
       (λ y. either (in-joined x a (t .kept .T1) y) (λ z. inl (or-left (isIn x (t .kept .T1)) (isIn x (t .kept .T2)) z)) (λ z. inr z))

@@ -142,7 +142,7 @@ module _ {F X : Type 0} (H : Hashing F X) where
   joined-bare a g d z w t =
       let e = append-bare (t .stepped .box .rows) (newest a g d z ∷ []) in
       λ i. record {
-        kept = cond (toT2 H w) (joinT2 H a (t .kept)) (joinT1 H a (t .kept));
+        kept = cond (toT2 H w) (joinT2 a (t .kept)) (joinT1 a (t .kept));
         stepped = record {
           box = record {
             rows = e i;

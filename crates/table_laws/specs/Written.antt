@@ -112,11 +112,11 @@ module _ (r : BlockRow) (l : length (r .fingerprint) ≡ 32) where
 
 -- ---- an address table
 
-zeros-add : (a b : ℕ) → zeros a ++ zeros b ≡ zeros (a + b)
+pub zeros-add : (a b : ℕ) → zeros a ++ zeros b ≡ zeros (a + b)
 unfolding zeros
 zeros-add a b = replicate-append-replicate a b 0
 
-drop-zeros : (a b : ℕ) → drop a (zeros (a + b)) ≡ zeros b
+pub drop-zeros : (a b : ℕ) → drop a (zeros (a + b)) ≡ zeros b
 drop-zeros a b = ap (drop a) (sym (zeros-add a b)) ∙ drop-at (zeros a) (zeros b) a (length-zeros a)
 
 -- a row made clean

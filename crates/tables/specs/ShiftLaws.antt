@@ -4,7 +4,7 @@ use Prim.Native.Nat.{ℕ, _+_, _-_, _*_, _≤_, _<_}
 use mathlib.Core.List.{List, [], _∷_, _++_, append-assoc, append-nil}
 use native.Mathlib.Omega.{arith}
 use lib.ListN.{length, getD, set, take, drop, length-append, length-drop, length-replicate, drop-of-length-le}
-use lib.Seq.{paste, take-paste, drop-paste, drop-drop, take-all, take-append-add, drop-at, drop-cons, length-take-le, set-at}
+use lib.Seq.{paste, take-paste, drop-paste, drop-drop, take-all, take-append-add, take-append-le, take-take, drop-at, drop-cons, length-take-le, set-at}
 use Rattle.tables.specs.Rows.{rows, flat, zeros, removeAt, rowAt}
 use Rattle.tables.specs.RowLaws.{flat-rows, flat-append, flat-removeAt, rows-at, length-part}
 use Rattle.tables.specs.Operations.{rowAdded, rowFreed, freedRow, filled}
@@ -13,28 +13,31 @@ pub length-zeros : (n : ℕ) → length (zeros n) ≡ n
 unfolding zeros
 length-zeros n = length-replicate n 0
 
--- a run moved down by 40 to `at`, and x in the place that it leaves at the end
-module _ (t x : List ℕ) (at last : ℕ) (h : at ≤ last) (g : last + 40 ≤ length t) where
-  pub moved-down : paste (paste t at (drop (at + 40) t) (last - at)) last x 40
-      ≡ (take at t ++ take (last - at) (drop (at + 40) t)) ++ (take 40 x ++ drop (last + 40) t)
+-- a run moved down by w to `at`, and x in the place that it leaves at the end
+module _ (t x : List ℕ) (at w last : ℕ) (h : at ≤ last) (g : last + w ≤ length t) where
+  pub moved-down : paste (paste t at (drop (at + w) t) (last - at)) last x w
+      ≡ (take at t ++ take (last - at) (drop (at + w) t)) ++ (take w x ++ drop (last + w) t)
   moved-down =
-      let s : List ℕ = drop (at + 40) t in
+      let s : List ℕ = drop (at + w) t in
       let p : List ℕ = paste t at s (last - at) in
       let e : at + (last - at) ≡ last = omega arith in
       let hs : last - at ≤ length s = simp length-drop (omega arith) in
       let a : take last p ≡ take at t ++ take (last - at) s = ap (λ (k : ℕ). take k p) (sym e) ∙ take-paste t at s (last - at) (omega arith) hs in
       let b : drop last p ≡ drop last t = ap (λ (k : ℕ). drop k p) (sym e) ∙ drop-paste t at s (last - at) (omega arith) hs ∙ ap (λ (k : ℕ). drop k t) e in
-      let d : drop (last + 40) p ≡ drop (last + 40) t = sym (drop-drop 40 last p) ∙ ap (drop 40) b ∙ drop-drop 40 last t in
-      append-assoc (take last p) (take 40 x) (drop (last + 40) p) ∙ rw (a, d)
+      let d : drop (last + w) p ≡ drop (last + w) t = sym (drop-drop w last p) ∙ ap (drop w) b ∙ drop-drop w last t in
+      append-assoc (take last p) (take w x) (drop (last + w) p) ∙ rw (a, d)
 
--- the first `at` bytes moved up by 40, and x in front
-pub moved-up : (t x : List ℕ) (at : ℕ) → at + 40 ≤ length t → paste (paste t 40 (drop 0 t) at) 0 x 40 ≡ take 40 x ++ (take at t ++ drop (at + 40) t)
-moved-up t x at g =
-    let p : List ℕ = paste t 40 t at in
-    let e : 40 + at ≡ at + 40 = omega arith in
-    let b : drop 40 p ≡ take at t ++ drop (40 + at) t = ap (drop 40) (append-assoc (take 40 t) (take at t) (drop (40 + at) t))
-    ∙ drop-at (take 40 t) (take at t ++ drop (40 + at) t) 40 (length-part t 0 40 (omega arith)) in
-    ap (λ (l : List ℕ). take 40 x ++ l) (b ∙ rw e)
+-- a run of n moved up by w from `at`, and x in the place that it leaves
+pub moved-up : (t x : List ℕ) (at w n : ℕ) → at + w + n ≤ length t
+    → paste (paste t (at + w) (drop at t) n) at x w ≡ take at t ++ (take w x ++ (take n (drop at t) ++ drop (at + w + n) t))
+moved-up t x at w n g =
+    let p : List ℕ = paste t (at + w) (drop at t) n in
+    let y : List ℕ = take n (drop at t) ++ drop (at + w + n) t in
+    let l : length (take (at + w) t) ≡ at + w = length-take-le (at + w) t (omega arith) in
+    let q : p ≡ take (at + w) t ++ y = append-assoc (take (at + w) t) (take n (drop at t)) (drop (at + w + n) t) in
+    let a : take at p ≡ take at t = ap (take at) q ∙ take-append-le at (take (at + w) t) y (omega arith) ∙ take-take at (at + w) t (omega arith) in
+    let b : drop (at + w) p ≡ y = ap (drop (at + w)) q ∙ drop-at (take (at + w) t) y (at + w) l in
+    append-assoc (take at p) (take w x) (drop (at + w) p) ∙ rw (a, b)
 
 -- push_row
 pub pushed : (t x : List ℕ) (n : ℕ) → length x ≡ 40 → paste t (n * 40) x (length x) ≡ rowAdded n x t
@@ -46,7 +49,7 @@ pub replaced : (t x : List ℕ) (n i : ℕ) → i < n → n * 40 ≤ length t �
     → paste (paste t (i * 40) (drop (i * 40 + 40) t) (n * 40 - 40 - i * 40)) (n * 40 - 40) x 40 ≡ flat (removeAt (rows n t) i) ++ (x ++ drop (n * 40) t)
 replaced t x n i h g z =
     let e : n * 40 - 40 + 40 ≡ n * 40 = omega arith in
-    moved-down t x (i * 40) (n * 40 - 40) (omega arith) (omega arith) ∙ rw (flat-removeAt n t i h, take-all 40 x (omega arith), e)
+    moved-down t x (i * 40) 40 (n * 40 - 40) (omega arith) (omega arith) ∙ rw (flat-removeAt n t i h, take-all 40 x (omega arith), e)
 
 -- the same in a table of d rows
 pub replaced-all : (t x : List ℕ) (d i : ℕ) → length t ≡ d * 40
@@ -90,8 +93,9 @@ fronted t d i h g =
     let r : length (rowAt t i) ≡ 40 = length-part t (i * 40) 40 (omega arith) in
     let k : length (freedRow (rowAt t i)) ≤ 40 = omega (arith, length-freed (rowAt t i) r) in
     let m : length (drop (i * 40 + 40) t) ≤ d * 40 - 40 - i * 40 = simp length-drop (omega arith) in
-    moved-up t (freedRow (rowAt t i)) (i * 40) (omega arith)
-    ∙ rw (flat-removeAt d t i h, rows-at d t i h, take-all 40 (freedRow (rowAt t i)) k, take-all (d * 40 - 40 - i * 40) (drop (i * 40 + 40) t) m)
+    let e : 40 + i * 40 ≡ i * 40 + 40 = omega arith in
+    moved-up t (freedRow (rowAt t i)) 0 40 (i * 40) (omega arith)
+    ∙ rw (e, flat-removeAt d t i h, rows-at d t i h, take-all 40 (freedRow (rowAt t i)) k, take-all (d * 40 - 40 - i * 40) (drop (i * 40 + 40) t) m)
 
 -- address_row: the address in front, then the fingerprint, then the dirty byte
 pub addr-made : (row w g : List ℕ) (x : ℕ) → length row ≡ 40 → length g ≡ 32 → take 4 row ≡ w → drop 37 row ≡ 0 ∷ 0 ∷ 0 ∷ []

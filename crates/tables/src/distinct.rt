@@ -12,7 +12,7 @@ ghost use Rattle.tables.specs.Bits.{bitAt};
 ghost use Rattle.tables.specs.Sound.{distinct, numberIn, rowAddress, rowSlot};
 
 // Sets the bit of `x` in `seen`, where eight numbers have a byte. Whether it was clear.
-pub(crate) fn set_bit(seen: &mut [u8], x: usize) -> bool
+pub fn set_bit(seen: &mut [u8], x: usize) -> bool
     requires { ⌜ x < length (now seen) * 8 ⌝ }
     ensures { λ r. ⌜ r ≡ eqb (bitAt (now (seen .entry)) x) 0 ⌝ }
     ensures { λ r. ⌜ (r ≡ true → (y : ℕ) → bitAt (now (seen .exit)) y ≡ cond (eqb y x) 1 (bitAt (now (seen .entry)) y)) ⌝ }

@@ -54,7 +54,7 @@ pub fn byte_at(t: &[u8], at: usize) -> u32
 }
 
 // The four bytes from index `at` on, little-endian.
-pub(crate) fn word_at(t: &[u8], at: usize) -> u32
+pub fn word_at(t: &[u8], at: usize) -> u32
     requires { ⌜ at + 4 ≤ length (now t) ⌝ }
     ensures { λ r. ⌜ r ≡ le4 (now (t .entry)) at ⌝ }
 {
