@@ -12,3 +12,4 @@ pub mod LeaveLaws
 pub mod NameLaws
 pub mod UnsoundLaws
 pub mod ReplaceLaws
+pub mod AdaptLaws
