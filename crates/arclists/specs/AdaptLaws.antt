@@ -5,7 +5,6 @@ use native.Mathlib.Nat.{div-zero}
 use native.Mathlib.Omega.{arith}
 use lib.Dec.{ltb}
 use borrow.Author.Tests.{ltb-false, le-ltb}
-use lib.ListN.{length}
 use Rattle.arc.specs.Arc.{Lists, larger, smaller, newP, inB1, inB2}
 use Rattle.paper.specs.KeyedLaws.{by-test}
 use Rattle.arclists.specs.declared.ListSizes.{ListSizes}

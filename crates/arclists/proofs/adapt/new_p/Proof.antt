@@ -1,5 +1,4 @@
 -- By the list that the address was in. Assumes nothing.
-use mathlib.Core.Path.{sym}
 use borrow.Author.Needs.{needs}
 use Rattle.arc.specs.Arc.{newP}
 use Rattle.arclists.specs.AdaptLaws.{up, down, as-told}
