@@ -66,7 +66,7 @@ pub record State : Type 0 where
 
 -- "box 64 8 m d"
 abbrev pub boxOf : (m d : ℕ) → Numbers
-boxOf m d = record { B = 64; P = 8; m = m; d = d; label = replicate 64 0 }
+boxOf m d = record { B = 64; P = 8; m = m; d = d; label = replicate 64 0; t = m }
 
 -- An example: the numbers of the box, and the state that is expected
 pub record Example : Type 0 where
