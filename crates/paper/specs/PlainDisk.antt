@@ -209,7 +209,7 @@ module _ {F X : Type 0} (H : Hashing F X) (In : X → Type 0) (only : (b c : X) 
       (all-both (RowTrue H In plain) (λ r. r .address < N .P) (s .rows) (f .rowsTrue) (h .below)) (h .dirtyCached))))
       (by-test (dirtyAt any x (take i (s .rows))) (λ z. inr z) (λ z. inl (f .current x (dirty-behind H x i (s .rows) z y))))
 
-  faithful-cleanTo : (N : Numbers) (plain : List X) (s : Box F X) (i : ℕ) → Sound H N s → Faithful H In (N .P) plain s
+  pub faithful-cleanTo : (N : Numbers) (plain : List X) (s : Box F X) (i : ℕ) → Sound H N s → Faithful H In (N .P) plain s
       → Faithful H In (N .P) plain (cleanTo H i s)
   faithful-cleanTo N plain s i h f =
       record {
