@@ -86,7 +86,7 @@ rows-blocks : (d : ℕ) (free : List ℕ) (used : List (BlockRow (Fixed 32))) �
 rows-blocks d free used e = block-rows (tableRows free used) (table-wide free used) d (table-length free used ∙ e)
 
 -- what the tables that are written hold
-held-read : (m : ℕ) (rs : List (AddressRow (Fixed 32))) → All (λ r. r .address < 2 ^ 32) rs
+pub held-read : (m : ℕ) (rs : List (AddressRow (Fixed 32))) → All (λ r. r .address < 2 ^ 32) rs
     → map asHeld (heldRows (length rs) (addressTable m (map heldRow rs))) ≡ rs
 unfolding heldRows
 held-read m rs q = ap (λ l. map asHeld (map readAddress l)) (rows-held m rs) ∙ back rs q
