@@ -81,7 +81,7 @@ fn seat_of(b: BoxRecord, a: SourceAddress, addrs: &[u8]) -> u16
     0
 }
 
-// Write back.
+// Write back: the step, and then the oldest dirty row goes to the disk if more are dirty than the limit.
 fn serve_back(
     b: BoxRecord,
     a: SourceAddress,
@@ -104,11 +104,13 @@ fn serve_back(
     let j = rows::place_of(blocks, b.slots, &g);
     let w = dirty_value(b, a, addrs, &g);
     let d = steps::step(b, a, w, seat, disk, flash, addrs, blocks, &g, block, heads);
+    let c = parts::with_held(b, d.held);
+    let more = copy::limit_rows(c, disk, flash, addrs, blocks);
     Served {
         yes: j < b.slots,
         held: d.held,
         flashed: d.flashed,
-        primary: d.primary,
+        primary: d.primary + more,
     }
 }
 
