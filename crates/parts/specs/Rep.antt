@@ -27,6 +27,10 @@ Sized b addrs blocks = (b .held ≤ b .rows) × (length addrs ≡ tableBytes (b 
 abbrev pub withHeld : BoxRecord → ℕ → BoxRecord
 withHeld b n = record { size = b .size; blocks = b .blocks; rows = b .rows; slots = b .slots; held = n; label = b .label; limit = b .limit }
 
+-- a box record with another label
+abbrev pub relabelled : BoxRecord → List ℕ → BoxRecord
+relabelled b l = record { size = b .size; blocks = b .blocks; rows = b .rows; slots = b .slots; held = b .held; label = l; limit = b .limit }
+
 -- the record of a box that holds none
 abbrev pub emptyBox : (size blocks rows slots limit : ℕ) → (label : List ℕ) → BoxRecord
 emptyBox size blocks rows slots limit label =
