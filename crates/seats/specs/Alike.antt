@@ -14,7 +14,7 @@ use Rattle.paper.specs.Cache.{Numbers, Hashing, AddressRow, Box, Outcome, Count
 use Rattle.paper.specs.KeyedLaws.{by-test}
 use Rattle.paper.specs.Engine.{Fixed, labelled}
 use Rattle.paper.specs.Lent.{Ask, refused, answered, callOf, aboutAsk, addressOf, lentBlock, counts, join, blockAfter, partAfter}
-use Rattle.paper.specs.Lent.{Test, test, first, otherLength, wrongBlock, outside, over}
+use Rattle.paper.specs.Lent.{Test, test, first, limitOutside, otherLength, wrongBlock, outside, over}
 use Rattle.paper.specs.Reports.{desk, width, reportRow, reportOf}
 use Rattle.paper.specs.Batch.{Batched, start, blocksIn}
 use Rattle.paper.specs.BatchLent.{Asking, one, many, report, badCount, anyOutside, BatchAnswer, batched}
@@ -79,30 +79,32 @@ module _ {F : Type 0} {B : ℕ} where
   abbrev pub batchTold : Batched F (Fixed B) → Told
   batchTold r = folder (batched (r .hits) (r .flashWrites) (r .primaryWrites) (r .fetches)) (join (blocksIn (r .filled)))
 
--- what the tests of lent memory say: those for 6, 7 and 8, and for 2 of all that passes from call to call
+-- what the tests of lent memory say: those for 6, 7, 8 and 13, and for 2 of all that passes from call to call
 pub record Tests : Type 0 where
   pub buffers : Bool
   pub six : Bool
   pub seven : Bool
   pub eight : Bool
+  pub thirteen : Bool
 
 abbrev tableTests : Tests → List Test → List Test
-tableTests b rest = test (b .six) 6 ∷ test (b .seven) 7 ∷ test (b .eight) 8 ∷ rest
+tableTests b rest = test (b .six) 6 ∷ test (b .seven) 7 ∷ test (b .eight) 8 ∷ test (b .thirteen) 13 ∷ rest
 
--- the number that a call gets, 0 where it is served: by the test for 1 or 11, by these and by the counters
+-- the number that a call gets, 0 where it is served: by the test for 1 or 11, by the limit, by these and by the counters
 abbrev pub numberBy : Numbers → Test → Tests → Counters → Asking → ℕ
 numberBy N x b k (one q) =
-    first (x ∷ test (b .buffers || wrongBlock (N .B) (lentBlock q)) 2 ∷ test (outside (N .P) (addressOf q)) 3 ∷ tableTests b (test (counts q && over k) 9 ∷ []))
+    first (x ∷ test (limitOutside N) 12 ∷ test (b .buffers || wrongBlock (N .B) (lentBlock q)) 2 ∷ test (outside (N .P) (addressOf q)) 3
+    ∷ tableTests b (test (counts q && over k) 9 ∷ []))
 numberBy N x b k (many l buffer) =
-    first (x ∷ test (b .buffers || otherLength buffer (length l * N .B)) 2 ∷ test (badCount l) 10 ∷ test (anyOutside (N .P) l) 3
+    first (x ∷ test (limitOutside N) 12 ∷ test (b .buffers || otherLength buffer (length l * N .B)) 2 ∷ test (badCount l) 10 ∷ test (anyOutside (N .P) l) 3
     ∷ tableTests b (test (over k) 9 ∷ []))
-numberBy N x b k (report w lent) = first (x ∷ test (b .buffers || otherLength lent (N .m * width w)) 2 ∷ tableTests b [])
+numberBy N x b k (report w lent) = first (x ∷ test (limitOutside N) 12 ∷ test (b .buffers || otherLength lent (N .m * width w)) 2 ∷ tableTests b [])
 
 number-bare : (N : Numbers) (x : Test) (b : Tests) (k : Counters) (q : Asking) → numberBy N x b k (bareAsking q) ≡ numberBy N x b k q
 number-bare N x b k (one q) =
     let l = ask-bare q .lent in
     let a = ask-bare q .about in
-    λ i. first (x ∷ test (b .buffers || wrongBlock (N .B) (l i)) 2 ∷ test (outside (N .P) (a i .address)) 3
+    λ i. first (x ∷ test (limitOutside N) 12 ∷ test (b .buffers || wrongBlock (N .B) (l i)) 2 ∷ test (outside (N .P) (a i .address)) 3
     ∷ tableTests b (test (a i .counts && over k) 9 ∷ []))
 number-bare N x b k (many l buffer) = refl
 number-bare N x b k (report w lent) = refl
