@@ -2,3 +2,4 @@
 pub mod AsWithout
 -- lemmas
 pub mod Bare
+pub mod Sees
