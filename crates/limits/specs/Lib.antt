@@ -3,3 +3,4 @@ pub mod AsWithout
 -- lemmas
 pub mod Bare
 pub mod Sees
+pub mod Beside

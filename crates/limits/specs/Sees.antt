@@ -24,6 +24,13 @@ use Rattle.paper.specs.Partly.{all-partly, all-take}
 use Rattle.paper.specs.PlainDisk.{dirty-behind}
 use Rattle.arc.specs.PlainRows.{and-false-cases, dirty-snoc}
 
+-- every address, and all but a
+abbrev pub Everywhere : ℕ → Type 0
+Everywhere x = Unit {0}
+
+abbrev pub But : ℕ → ℕ → Type 0
+But a x = eqb a x ≡ false
+
 module _ {F X : Type 0} (H : Hashing F X) where
   -- slots of cached fingerprints where another row leaves, or one joins
   pub slot-without : (v f : F) (used : List (BlockRow F)) → H .same v f ≡ false → slotOf H f (withoutBlock H v used) ≡ slotOf H f used
@@ -85,12 +92,6 @@ module _ {F X : Type 0} (H : Hashing F X) where
   pub record Sees (Q : ℕ → Type 0) (P : ℕ) (shown : List X) (s : Box F X) : Type 0 where
     pub blocks : All (CopyTrue H any P (s .used) (s .flash) shown) (s .rows)
     pub current : (x : ℕ) → Q x → dirtyAt any x (s .rows) ≡ false → at H (s .disk) x ≡ at H shown x
-
-  abbrev pub Everywhere : ℕ → Type 0
-  Everywhere x = Unit {0}
-
-  abbrev pub But : ℕ → ℕ → Type 0
-  But a x = eqb a x ≡ false
 
   -- nothing is said of address a, nor of its row
   pub record SeesBut (a P : ℕ) (shown : List X) (s : Box F X) : Type 0 where
