@@ -21,7 +21,7 @@ use Rattle.arc.specs.PlainRows.{row-clean, miss-clean}
 use Rattle.arc.specs.Policy.{Ran, Policy, Served, answeredBy, readBy, throughBy, backBy, serveBy}
 use Rattle.arc.specs.Promise.{Promise, inv-onDisk, inv-read, inv-serve}
 use Rattle.arc.specs.Folder.{FolderBy, nextRead, folderRead, folder}
-use Rattle.limits.specs.Bare.{noSeat, bare, bareBox, bareRequest, bareOutcome, bareRan, bareServed, Blind, row-bare, without-bare, partly-bare}
+use Rattle.limits.specs.Bare.{noSeat, bare, bares, bareBox, bareRequest, bareOutcome, bareRan, bareServed, Blind, row-bare, without-bare, partly-bare}
 use Rattle.limits.specs.Bare.{row-with-block-bare, dropped-bare}
 use Rattle.limits.specs.Sees.{slot-without, Everywhere, But, ownBlock, Sees, SeesBut, sees-cleanTo}
 
@@ -221,3 +221,287 @@ module _ {F X S : Type 0} (H : Hashing F X) (N : Numbers) (pol : Policy F X S) (
               (λ n. let n′ = eqb-swap a x n in
               at-set-other H (s .disk) a x b n′ ∙ f .current x tt (dirty-without H a x (s .rows) n dy) ∙ sym (at-set-other H shown a x b n′));
         }
+
+-- ---- two boxes that are the same but for what the limit changes
+
+-- counters and folder reads but for primary writes
+abbrev pub bareCounters : Counters → Counters
+bareCounters k = record { reads = k .reads; hits = k .hits; flashWrites = k .flashWrites; primaryWrites = 0 }
+
+abbrev pub bareBatched : {F X : Type 0} → Batched F X → Batched F X
+bareBatched t =
+    record {
+      box = bareBox (t .box);
+      filled = t .filled;
+      counters = bareCounters (t .counters);
+      hits = t .hits;
+      misses = t .misses;
+      flashWrites = t .flashWrites;
+      primaryWrites = 0;
+      fetches = t .fetches;
+    }
+
+abbrev pub bareFolder : {F X S : Type 0} → FolderBy F X S → FolderBy F X S
+bareFolder t = record { kept = t .kept; batched = bareBatched (t .batched) }
+
+module _ {F X : Type 0} (H : Hashing F X) where
+  -- what only cleans rows
+  clean-bare : (i : ℕ) (s : Box F X) → bareBox (cleanTo H i s) ≡ bareBox s
+  clean-bare i s = let r = partly-bare H i (s .rows) in λ j. record { rows = r j; free = s .free; used = s .used; flash = s .flash; disk = [] }
+
+  limited-bare : (n : ℕ) (o : Outcome F X) → bareOutcome (limited H n o) ≡ bareOutcome o
+  unfolding flushed
+  limited-bare n o =
+      let e = clean-bare (reach H (excess H n (o .box .rows)) (o .box .rows)) (o .box) in
+      λ j. record { box = e j; word = o .word; block = o .block; flashWrites = o .flashWrites; primaryWrites = 0 }
+
+  flushed-bare : (n : ℕ) (s : Box F X) → bareOutcome (flushed H n s) ≡ record { box = bareBox s; word = done; block = none; flashWrites = 0; primaryWrites = 0 }
+  unfolding flushed
+  flushed-bare n s =
+      let e = clean-bare (reach H n (s .rows)) s in
+      λ j. record { box = e j; word = done; block = none; flashWrites = 0; primaryWrites = 0 }
+
+  bare-twice : (rows : List (AddressRow F)) → bares (bares rows) ≡ bares rows
+  bare-twice [] = refl
+  bare-twice (r ∷ rs) = ap {B = List (AddressRow F)} (λ l. bare r ∷ l) (bare-twice rs)
+
+  invalidate-bare : (s : Box F X) (a : ℕ) (b : X) → bareOutcome (writeInvalidate H (bareBox s) a b) ≡ bareOutcome (writeInvalidate H s a b)
+  unfolding writeInvalidate
+  invalidate-bare s a b =
+      let bs : BlockRows F = record { free = s .free; used = s .used } in
+      let rows = withoutAddress a (s .rows) in
+      let w = without-bare a (s .rows) in
+      let d = ap₂ (λ x o. dropped H x bs o) w (row-bare a (s .rows)) ∙ dropped-bare H rows bs (rowOf a (s .rows)) in
+      let v = ap bares w ∙ bare-twice rows in
+      λ j. record {
+        box = record { rows = v j; free = d j .free; used = d j .used; flash = s .flash; disk = [] };
+        word = sameOrNew H s b;
+        block = none;
+        flashWrites = 0;
+        primaryWrites = 0;
+      }
+
+module _ {F X S : Type 0} (H : Hashing F X) (pol : Policy F X S) (bl : Blind pol) (n : ℕ) where
+  -- steps for requests that are the same but for dirty value and seat
+  runs-same : (k l : S) (s u : Box F X) (q r : Request F X) → k ≡ l → bareBox s ≡ bareBox u → bareRequest q ≡ bareRequest r
+      → bareRan (pol .run k s q) ≡ bareRan (pol .run l u r)
+  runs-same k l s u q r e b f = sym (bl .runs k s q) ∙ (λ j. pol .run (e j) (b j) (f j)) ∙ bl .runs l u r
+
+  answered-same : (w v : Word) (x y : Option X) (more : ℕ) (k l : S) (s u : Box F X) (q r : Request F X) → w ≡ v → x ≡ y → k ≡ l → bareBox s ≡ bareBox u
+      → bareRequest q ≡ bareRequest r
+      → bareServed (answeredBy H pol w x more (pol .run k s q)) ≡ bareServed (answeredBy H (capped n pol) v y more (pol .run l u r))
+  unfolding answeredBy answer
+  answered-same w v x y more k l s u q r ew ex e b f =
+      let t = runs-same k l s u q r e b f in
+      λ j. record {
+        kept = t j .kept;
+        outcome = record { box = t j .stepped .box; word = ew j; block = ex j; flashWrites = t j .stepped .flashWrites; primaryWrites = 0 };
+      }
+
+  module _ (k l : S) (s u : Box F X) (e : k ≡ l) (b : bareBox s ≡ bareBox u) where
+    row-found : (a : ℕ) → Option·map bare (rowWithBlock H s a) ≡ Option·map bare (rowWithBlock H u a)
+    row-found a = sym (row-with-block-bare H s a) ∙ ap (λ x. rowWithBlock H x a) b ∙ row-with-block-bare H u a
+
+    -- the cached blocks of fingerprints that are the same
+    same-block : (q r : AddressRow F) → _≡_ {A = Option (AddressRow F)} (some (bare q)) (some (bare r))
+        → (q .fingerprint ≡ r .fingerprint) × (blockOf H (q .fingerprint) (s .used) (s .flash) ≡ blockOf H (r .fingerprint) (u .used) (u .flash))
+    same-block q r f =
+        let g : q .fingerprint ≡ r .fingerprint = ap (λ (x : AddressRow F). x .fingerprint) (Option·some-injective (bare q) (bare r) f) in
+        (g, λ j. blockOf H (g j) (b j .used) (b j .flash))
+
+    -- a read where a miss of both takes the same block
+    read-same : (a : ℕ) (x y : X) (o p : Option (AddressRow F)) → Option·map bare o ≡ Option·map bare p → (o ≡ none → p ≡ none → x ≡ y)
+        → bareServed (readBy H pol k s a x o) ≡ bareServed (readBy H (capped n pol) l u a y p)
+    unfolding readBy
+    read-same a x y none none f d =
+        let v = d refl refl in
+        answered-same miss miss (some x) (some y) 0 k l s u
+        (record { address = a; fingerprint = H .hash x; block = x; dirty = false; seat = seatIn (rowOf a (s .rows)) })
+        (record { address = a; fingerprint = H .hash y; block = y; dirty = false; seat = seatIn (rowOf a (u .rows)) })
+        refl (ap {B = Option X} some v) e b (λ j. record { address = a; fingerprint = H .hash (v j); block = v j; dirty = false; seat = noSeat })
+    read-same a x y none (some r) f d = absurd (Option·none-ne-some (bare r) f)
+    read-same a x y (some q) none f d = absurd (Option·some-ne-none (bare q) f)
+    read-same a x y (some q) (some r) f d =
+        let z = same-block q r f in
+        let g = z .0 in
+        let v = z .1 in
+        answered-same hit hit (some (blockOf H (q .fingerprint) (s .used) (s .flash))) (some (blockOf H (r .fingerprint) (u .used) (u .flash))) 0 k l s u
+        (record {
+          address = a;
+          fingerprint = q .fingerprint;
+          block = blockOf H (q .fingerprint) (s .used) (s .flash);
+          dirty = q .dirty;
+          seat = q .seat;
+        })
+        (record {
+          address = a;
+          fingerprint = r .fingerprint;
+          block = blockOf H (r .fingerprint) (u .used) (u .flash);
+          dirty = r .dirty;
+          seat = r .seat;
+        })
+        refl (ap {B = Option X} some v) e b (λ j. record { address = a; fingerprint = g j; block = v j; dirty = false; seat = noSeat })
+
+    look-same : (a : ℕ) (o p : Option (AddressRow F)) → Option·map bare o ≡ Option·map bare p → (o ≡ none → p ≡ none → at H (s .disk) a ≡ at H (u .disk) a)
+        → bareOutcome (lookAs H s a o) ≡ bareOutcome (lookAs H u a p)
+    unfolding lookAs
+    look-same a none none f d =
+        let v = d refl refl in
+        λ j. record { box = b j; word = fromDisk; block = some (v j); flashWrites = 0; primaryWrites = 0 }
+    look-same a none (some r) f d = absurd (Option·none-ne-some (bare r) f)
+    look-same a (some q) none f d = absurd (Option·some-ne-none (bare q) f)
+    look-same a (some q) (some r) f d =
+        let v = (same-block q r f) .1 in
+        λ j. record { box = b j; word = fromCache; block = some (v j); flashWrites = 0; primaryWrites = 0 }
+
+    word-same : (x : X) → sameOrNew H s x ≡ sameOrNew H u x
+    word-same x = ap (λ t. sameOrNew H t x) b
+
+    -- every call, where the disks are the same at what both miss
+    serve-same : (c : Call X) → ((a : ℕ) → rowWithBlock H s a ≡ none → rowWithBlock H u a ≡ none → at H (s .disk) a ≡ at H (u .disk) a)
+        → bareServed (serveBy H pol k s c) ≡ bareServed (serveBy H (capped n pol) l u c)
+    unfolding serveBy throughBy backBy
+    serve-same (read a) d = read-same a (at H (s .disk) a) (at H (u .disk) a) (rowWithBlock H s a) (rowWithBlock H u a) (row-found a) (d a)
+    serve-same (through a x z) d =
+        let q : Request F X = record { address = a; fingerprint = H .hash x; block = x; dirty = false; seat = z } in
+        answered-same (sameOrNew H s x) (sameOrNew H u x) none none 1 k l (onDisk H s a x) (onDisk H u a x) q q (word-same x) refl e b refl
+    serve-same (back a x z) d =
+        let q = backRequest H s a x z in
+        let r = backRequest H u a x z in
+        let o = answeredBy H pol (sameOrNew H s x) none 0 (pol .run k s q) in
+        let p = answeredBy H (capped n pol) (sameOrNew H u x) none 0 (pol .run l u r) in
+        let v = limited-bare H (pol .limit) (o .outcome) in
+        let w = limited-bare H n (p .outcome) in
+        (λ j. record { kept = o .kept; outcome = v j })
+        ∙ answered-same (sameOrNew H s x) (sameOrNew H u x) none none 0 k l s u q r (word-same x) refl e b refl
+        ∙ sym (λ j. record { kept = p .kept; outcome = w j })
+    serve-same (invalidate a x z) d =
+        let v = sym (invalidate-bare H s a x) ∙ ap (λ t. bareOutcome (writeInvalidate H t a x)) b ∙ invalidate-bare H u a x in
+        λ j. record { kept = pol .leave a (e j); outcome = v j }
+    serve-same (look a) d =
+        let v = look-same a (rowWithBlock H s a) (rowWithBlock H u a) (row-found a) (d a) in
+        λ j. record { kept = e j; outcome = v j }
+    serve-same (flush i) d =
+        let v : bareOutcome (flushed H i s) ≡ bareOutcome (flushed H i u) = flushed-bare H i s
+        ∙ ap {B = Outcome F X} (λ t. record { box = t; word = done; block = none; flashWrites = 0; primaryWrites = 0 }) b
+        ∙ sym (flushed-bare H i u) in
+        λ j. record { kept = e j; outcome = v j }
+
+-- ---- a box and its policy's state beside another's
+
+module _ {F X S : Type 0} (H : Hashing F X) (N : Numbers) (pol : Policy F X S) (Inv : S → Box F X → Type 0) (pr : Promise H N pol Inv)
+    (pa : Parallel H N pol Inv) (n : ℕ) where
+  -- the same but for what the limit changes, and both show the same blocks
+  pub record Beside (k l : S) (s u : Box F X) : Type 0 where
+    pub kept : k ≡ l
+    pub boxes : bareBox s ≡ bareBox u
+    pub inv : Inv k s
+    pub inv′ : Inv l u
+    pub shown : List X
+    pub size : length shown ≡ N .P
+    pub sees : Sees H Everywhere (N .P) shown s
+    pub sees′ : Sees H Everywhere (N .P) shown u
+
+  abbrev other : Policy F X S
+  other = capped n pol
+
+  promised : Promise H N other Inv
+  promised = capped-promise H N pol Inv n pr
+
+  paralleled : Parallel H N other Inv
+  paralleled = capped-parallel H N pol Inv n pa
+
+  -- what two calls answer is the same, and they leave boxes beside each other
+  pub record AsOne (o p : Served F X S) : Type 0 where
+    pub same : bareServed o ≡ bareServed p
+    pub beside : Beside (o .kept) (p .kept) (o .outcome .box) (p .outcome .box)
+
+  module _ (k l : S) (s u : Box F X) (y : Beside k l s u) where
+    -- at what both miss, the disks have what is shown
+    disk-same : (a : ℕ) → rowWithBlock H s a ≡ none → rowWithBlock H u a ≡ none → at H (s .disk) a ≡ at H (u .disk) a
+    disk-same a e f =
+        y .sees .current a tt (miss-clean H N s a (pr .sound k s (y .inv)) e)
+        ∙ sym (y .sees′ .current a tt (miss-clean H N u a (pr .sound l u (y .inv′)) f))
+
+    read-beside : (a : ℕ) (v w : X) → a < N .P → (rowWithBlock H s a ≡ none → rowWithBlock H u a ≡ none → v ≡ w)
+        → AsOne (readBy H pol k s a v (rowWithBlock H s a)) (readBy H other l u a w (rowWithBlock H u a))
+    read-beside a v w p d =
+        let t = read-same H pol (pa .blind) n k l s u (y .kept) (y .boxes) a v w (rowWithBlock H s a) (rowWithBlock H u a)
+        (row-found H pol (pa .blind) n k l s u (y .kept) (y .boxes) a) d in
+        record {
+          same = t;
+          beside = record {
+            kept = ap (λ (x : Served F X S). x .kept) t;
+            boxes = ap (λ (x : Served F X S). x .outcome .box) t;
+            inv = inv-read H N pol Inv pr k s a v (rowWithBlock H s a) (y .inv) p;
+            inv′ = inv-read H N other Inv promised l u a w (rowWithBlock H u a) (y .inv′) p;
+            shown = y .shown;
+            size = y .size;
+            sees = sees-read H N pol Inv pr pa (y .shown) (y .size) k s (y .inv) (y .sees) a v (rowWithBlock H s a) refl p;
+            sees′ = sees-read H N other Inv promised paralleled (y .shown) (y .size) l u (y .inv′) (y .sees′) a w (rowWithBlock H u a) refl p;
+          };
+        }
+
+    -- every call
+    pub serve-beside : (c : Call X) → Within (N .P) c → AsOne (serveBy H pol k s c) (serveBy H other l u c)
+    serve-beside c w =
+        let t = serve-same H pol (pa .blind) n k l s u (y .kept) (y .boxes) c disk-same in
+        record {
+          same = t;
+          beside = record {
+            kept = ap (λ (x : Served F X S). x .kept) t;
+            boxes = ap (λ (x : Served F X S). x .outcome .box) t;
+            inv = inv-serve H N pol Inv pr k s c (y .inv) w;
+            inv′ = inv-serve H N other Inv promised l u c (y .inv′) w;
+            shown = shownNext H (y .shown) s c;
+            size = next-size H (N .P) (y .shown) s c (y .size);
+            sees = sees-serve H N pol Inv pr pa (y .shown) (y .size) k s (y .inv) (y .sees) c w;
+            sees′ = subst (λ x. Sees H Everywhere (N .P) x ((serveBy H other l u c) .outcome .box)) (sym (shown-same H (y .shown) s u c (y .boxes)))
+                (sees-serve H N other Inv promised paralleled (y .shown) (y .size) l u (y .inv′) (y .sees′) c w);
+          };
+        }
+
+  -- ---- folder reads
+
+  pub record FolderBeside (t v : FolderBy F X S) : Type 0 where
+    pub same : bareFolder t ≡ bareFolder v
+    pub beside : Beside (t .kept) (v .kept) (t .batched .box) (v .batched .box)
+
+  source-same : (s u : Box F X) (a : ℕ) (o : Option X) → at H (s .disk) a ≡ at H (u .disk) a → source H s a o ≡ source H u a o
+  source-same s u a none e = e
+  source-same s u a (some b) e = refl
+
+  next-beside : (t v : FolderBy F X S) (a : ℕ) → FolderBeside t v → a < N .P → FolderBeside (folderRead H pol t a) (folderRead H other v a)
+  unfolding folderRead counted
+  next-beside t v a y w =
+      let s = t .batched .box in
+      let u = v .batched .box in
+      let d = disk-same (t .kept) (v .kept) s u (y .beside) a in
+      let f = ap (λ (x : FolderBy F X S). firstRead a (x .batched .filled)) (y .same) in
+      let o = read-beside (t .kept) (v .kept) s u (y .beside) a (source H s a (firstRead a (t .batched .filled)))
+      (source H u a (firstRead a (v .batched .filled))) w
+      (λ e g. source-same s u a (firstRead a (t .batched .filled)) (d e g) ∙ ap (source H u a) f) in
+      let x = y .same in
+      let z = o .same in
+      record {
+        same = λ j. let r = added H (x j .batched) a (not (seen a (x j .batched .filled))) (z j .outcome) in
+            record {
+              kept = z j .kept;
+              batched = record {
+                box = z j .outcome .box;
+                filled = r .filled;
+                counters = bareCounters (r .counters);
+                hits = r .hits;
+                misses = r .misses;
+                flashWrites = r .flashWrites;
+                primaryWrites = 0;
+                fetches = r .fetches;
+              };
+            };
+        beside = o .beside;
+      }
+
+  pub folder-beside : (t v : FolderBy F X S) (l : List ℕ) → FolderBeside t v → All (λ a. a < N .P) l → FolderBeside (folder H pol t l) (folder H other v l)
+  unfolding folder
+  folder-beside t v [] y w = y
+  folder-beside t v (a ∷ l) y w = folder-beside (folderRead H pol t a) (folderRead H other v a) l (next-beside t v a y (w .0)) (w .1)
