@@ -10,7 +10,7 @@ use lib.ListN.{length, set, length-set}
 use Rattle.paper.specs.Cache.{Numbers, Seat, Hashing, AddressRow, BlockRow, Box, BlockRows, Request, Word, hit, miss, fromCache, fromDisk, done, Outcome, rowOf}
 use Rattle.paper.specs.Cache.{seatIn, withoutAddress, known, cached, blockOf, reach, cleanTo, freed, Call, read, through, back, invalidate, look, flush, Within}
 use Rattle.paper.specs.Cache.{rowWithBlock, answer, sameOrNew, onDisk, dirtied, backRequest, dropped, writeInvalidate, lookAs, flushed, excess, limited}
-use Rattle.paper.specs.Cache.{Counters, counted}
+use Rattle.paper.specs.Cache.{noCounts}
 use Rattle.paper.specs.KeyedLaws.{by-test, clash, or-false-left, or-false-right, eqb→≡, eqb-swap, All, all-map, all-both, find-some}
 use Rattle.paper.specs.Sound.{DirtyCached, all-known, sound-onDisk}
 use Rattle.paper.specs.Orphans.{apart}
@@ -224,16 +224,13 @@ module _ {F X S : Type 0} (H : Hashing F X) (N : Numbers) (pol : Policy F X S) (
 
 -- ---- two boxes that are the same but for what the limit changes
 
--- counters and folder reads but for primary writes
-abbrev pub bareCounters : Counters → Counters
-bareCounters k = record { reads = k .reads; hits = k .hits; flashWrites = k .flashWrites; primaryWrites = 0 }
-
+-- folder reads but for primary writes and for the counters, which have them too
 abbrev pub bareBatched : {F X : Type 0} → Batched F X → Batched F X
 bareBatched t =
     record {
       box = bareBox (t .box);
       filled = t .filled;
-      counters = bareCounters (t .counters);
+      counters = noCounts;
       hits = t .hits;
       misses = t .misses;
       flashWrites = t .flashWrites;
@@ -402,6 +399,13 @@ module _ {F X S : Type 0} (H : Hashing F X) (N : Numbers) (pol : Policy F X S) (
     pub sees : Sees H Everywhere (N .P) shown s
     pub sees′ : Sees H Everywhere (N .P) shown u
 
+  -- a box without rows beside itself
+  pub beside-itself : (k : S) (s : Box F X) → Inv k s → s .rows ≡ [] → Beside k k s s
+  beside-itself k s i e =
+      let f : Sees H Everywhere (N .P) (s .disk) s
+      = record { blocks = subst (All (CopyTrue H any (N .P) (s .used) (s .flash) (s .disk))) (sym e) tt; current = λ x q y. refl } in
+      record { kept = refl; boxes = refl; inv = i; inv′ = i; shown = s .disk; size = (pr .sound k s i) .diskLength; sees = f; sees′ = f }
+
   abbrev other : Policy F X S
   other = capped n pol
 
@@ -472,7 +476,7 @@ module _ {F X S : Type 0} (H : Hashing F X) (N : Numbers) (pol : Policy F X S) (
   source-same s u a (some b) e = refl
 
   next-beside : (t v : FolderBy F X S) (a : ℕ) → FolderBeside t v → a < N .P → FolderBeside (folderRead H pol t a) (folderRead H other v a)
-  unfolding folderRead counted
+  unfolding folderRead
   next-beside t v a y w =
       let s = t .batched .box in
       let u = v .batched .box in
@@ -490,7 +494,7 @@ module _ {F X S : Type 0} (H : Hashing F X) (N : Numbers) (pol : Policy F X S) (
               batched = record {
                 box = z j .outcome .box;
                 filled = r .filled;
-                counters = bareCounters (r .counters);
+                counters = noCounts;
                 hits = r .hits;
                 misses = r .misses;
                 flashWrites = r .flashWrites;

@@ -4,3 +4,4 @@ pub mod AsWithout
 pub mod Bare
 pub mod Sees
 pub mod Beside
+pub mod Until
