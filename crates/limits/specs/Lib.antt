@@ -1,5 +1,7 @@
 -- What a reader must believe: what is compared of a limited run and one without a limit
 pub mod AsWithout
+-- the theorems
+pub mod AsWithoutLaws
 -- lemmas
 pub mod Bare
 pub mod Sees
