@@ -7,3 +7,4 @@ pub mod Bare
 pub mod Sees
 pub mod Beside
 pub mod Until
+pub mod ArcBlind

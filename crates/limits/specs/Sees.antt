@@ -252,6 +252,13 @@ module _ {F X : Type 0} (H : Hashing F X) where
         here = refl;
       })
 
+  -- a row of x that isn't dirty there is clean
+  pub not-dirty : (x : ℕ) (r : AddressRow F) → eqb x (r .address) ≡ true → (eqb x (r .address) && (r .dirty && true)) ≡ false → r .dirty ≡ false
+  not-dirty x r y n =
+      either (and-false-cases (eqb x (r .address)) (r .dirty && true) n)
+      (λ z. clash y z)
+      (λ z. either (and-false-cases (r .dirty) true z) (λ k. k) (λ k. absurd (true≢false k)))
+
   -- the row of a request joins: where it is clean the disk has what is shown
   pub joins-current : (shown : List X) (a : ℕ) (rows : List (AddressRow F)) (new : AddressRow F) (disk : List X) → new .address ≡ a
       → ((x : ℕ) → But a x → dirtyAt any x rows ≡ false → at H disk x ≡ at H shown x) → (new .dirty ≡ false → at H disk a ≡ at H shown a)
@@ -261,9 +268,7 @@ module _ {F X : Type 0} (H : Hashing F X) where
       by-test (eqb a x)
       (λ y. let e = eqb→≡ a x y in
       subst (λ z. at H disk z ≡ at H shown z) e
-      (cl (either (and-false-cases (eqb x (new .address)) (new .dirty && true) (n .1))
-      (λ z. clash (rw (own, e) (eqb-self x)) z)
-      (λ z. either (and-false-cases (new .dirty) true z) (λ k. k) (λ k. absurd (true≢false k))))))
+      (cl (not-dirty x new (rw (own, e) (eqb-self x)) (n .1))))
       (λ y. cu x y (n .0))
 
   pub sees-step : (N : Numbers) (shown : List X) (s : Box F X) (q : Request F X) → Sound H N s → SeesBut (q .address) (N .P) shown s → 1 ≤ N .m → 1 ≤ N .d
