@@ -127,7 +127,7 @@ module _ (N : Numbers) (x : Fitting N) where
 
 -- ---- the numbers of a box without a limit
 
-label-right : (N : Numbers) (t : Lent) → wrongBuffers N t ≡ false → length (N .label) ≡ 64
+pub label-right : (N : Numbers) (t : Lent) → wrongBuffers N t ≡ false → length (N .label) ≡ 64
 unfolding wrongBuffers
 label-right N t h =
     let others = otherLength (t .disk) (N .P * N .B)

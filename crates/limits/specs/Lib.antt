@@ -2,9 +2,11 @@
 pub mod AsWithout
 -- the theorems
 pub mod AsWithoutLaws
+pub mod ArcAsWithout
 -- lemmas
 pub mod Bare
 pub mod Sees
 pub mod Beside
 pub mod Until
 pub mod ArcBlind
+pub mod ArcSees
