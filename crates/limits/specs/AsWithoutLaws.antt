@@ -1,5 +1,4 @@
--- "From fresh, and until a 9, each read's block and its hit or miss are as without the limit.", proved for boxes that run D-LRU; and that a limit of m, which
--- stands for none, changes nothing.
+-- "From fresh, and until a 9, each read's block and its hit or miss are as without the limit.", proved for boxes that run D-LRU.
 use mathlib.Core.Path.{_≡_, refl, sym, ap, _∙_, subst}
 use mathlib.Core.Bool.{Bool, true, false, not, _&&_, _||_}
 use mathlib.Core.List.{List, []}
@@ -33,6 +32,7 @@ use Rattle.limits.specs.AsWithout.{Shown, single, folder, number, hitsSa
 use Rattle.limits.specs.Bare.{lru-blind}
 use Rattle.limits.specs.Sees.{sees-step}
 use Rattle.limits.specs.Beside.{Parallel, Beside, beside-itself}
+use Rattle.limits.specs.Unlimited.{unlimited-unfit, unlimited-limit, unlimited-buffers, label-right, unlimited-box, unlimited-fresh, fresh-rows}
 use Rattle.limits.specs.Until.{State, refusedShown, outcomeShown, batchShown, numberBy, Inside, servedShown, servedState, Serves, Near, Like, until-nine}
 
 -- D-LRU promises what two boxes beside each other need
@@ -125,36 +125,7 @@ module _ (N : Numbers) (x : Fitting N) where
         stays = kept-next N;
       }
 
--- ---- the numbers of a box without a limit
-
-pub label-right : (N : Numbers) (t : Lent) → wrongBuffers N t ≡ false → length (N .label) ≡ 64
-unfolding wrongBuffers
-label-right N t h =
-    let others = otherLength (t .disk) (N .P * N .B)
-    || otherLength (t .flash) (N .d * N .B)
-    || otherLength (t .addresses) (tableBytes (N .m))
-    || otherLength (t .blocks) (tableBytes (N .d)) in
-    eqb-true (length (N .label)) 64 (not-false (eqb (length (N .label)) 64) (or-false-right others (otherLength (N .label) 64) h))
-
-unlimited-unfit : (N : Numbers) → unfit (unlimited N) ≡ unfit N
-unfolding unfit
-unlimited-unfit N = refl
-
-unlimited-buffers : (N : Numbers) (t : Lent) → wrongBuffers (unlimited N) t ≡ wrongBuffers N t
-unfolding wrongBuffers
-unlimited-buffers N t = refl
-
-unlimited-fresh : (N : Numbers) (t : Lent) → fresh (unlimited N) t ≡ fresh N t
-unfolding fresh
-unlimited-fresh N t = refl
-
-unlimited-box : (N : Numbers) (t : Lent) → boxIn (unlimited N) t ≡ boxIn N t
-unfolding boxIn
-unlimited-box N t = refl
-
-fresh-rows : (N : Numbers) (t : Lent) → (boxIn N (fresh N t)) .rows ≡ []
-unfolding boxIn fresh heldRows rows
-fresh-rows N t = refl
+-- ---- from fresh, under both limits
 
 module _ (N : Numbers) (t : Lent) (o : refusal N t opening ≡ 0) where
   fitting : Fitting N
@@ -164,10 +135,9 @@ module _ (N : Numbers) (t : Lent) (o : refusal N t opening ≡ 0) where
 
   unlimited-fitting : Fitting (unlimited N)
   unlimited-fitting =
-      let m1 = (fits N (fitting .numbers)) .m-least in
       record {
         numbers = unlimited-unfit N ∙ fitting .numbers;
-        limit = rw (le-leb 1 (N .m) m1, le-leb (N .m) (N .m) (omega arith)) refl;
+        limit = unlimited-limit N ((fits N (fitting .numbers)) .m-least);
         label = fitting .label;
       }
 

@@ -33,35 +33,7 @@ use Rattle.limits.specs.AsWithout.{single, folder, number, hitsSaid, arc
 use Rattle.limits.specs.Beside.{capped, Beside, beside-itself}
 use Rattle.limits.specs.Until.{State, refusedShown, numberBy, Inside, servedShown, servedState, Serves, until-nine}
 use Rattle.limits.specs.ArcSees.{arc-parallel}
-use Rattle.limits.specs.AsWithoutLaws.{label-right}
-
--- ---- the policy without a limit is the policy under the limit m
-
-module _ {F X : Type 0} (H : Hashing F X) (Z : Sizes) where
-  check-same : (b2 : Bool) (t : Ran F X Lists) → check H (arcUnlimited Z) b2 t ≡ check H Z b2 t
-  unfolding check
-  check-same b2 t = refl
-
-  checked-same : (w : Was) (t : Ran F X Lists) → checked H (arcUnlimited Z) w t ≡ checked H Z w t
-  unfolding checked
-  checked-same inT1 t = refl
-  checked-same inT2 t = refl
-  checked-same inB1 t = check-same false t
-  checked-same inB2 t = check-same true t
-  checked-same inB3 t = refl
-  checked-same unheld t = check-same false t
-
-  pub arc-capped : arc H (arcUnlimited Z) ≡ capped (mOf Z) (arc H Z)
-  unfolding arcStep arcStepAs
-  arc-capped = λ j. record {
-    run = λ l s q.
-        let a = q .address in
-        let g = q .fingerprint in
-        let w = listOf a l in
-        joined H a g (q .dirty) (q .seat) w (checked-same w (inserted H (Z .C) (wasB2 w) g (q .block) (parted H (Z .C) l s a w)) j);
-    leave = left;
-    limit = mOf Z;
-  }
+use Rattle.limits.specs.Unlimited.{unlimited-unfit-arc, unlimited-limit, unlimited-buffers, label-right, unlimited-box, fresh-rows, arc-capped}
 
 -- ---- the calls of a D-ARC box in lent bytes are those over its policy
 
@@ -142,19 +114,7 @@ module _ (Z : Sizes) (x : Fitting Z) where
         stays = passes-next Z;
       }
 
--- ---- the sizes of a box without a limit
-
-unlimited-unfit : (Z : Sizes) → unfitArc (arcUnlimited Z) ≡ unfitArc Z
-unfolding unfitArc
-unlimited-unfit Z = refl
-
-unlimited-buffers : (Z : Sizes) (t : ArcLent) → wrongArcBuffers (arcUnlimited Z) t ≡ wrongArcBuffers Z t
-unfolding wrongBuffers
-unlimited-buffers Z t = refl
-
-unlimited-box : (Z : Sizes) (t : ArcLent) → boxOf (arcUnlimited Z) t ≡ boxOf Z t
-unfolding boxIn
-unlimited-box Z t = refl
+-- ---- from fresh, under both limits
 
 module _ (Z : Sizes) (t : ArcLent) (o : arcRefusal Z t opening ≡ 0) where
   fitting : Fitting Z
@@ -163,23 +123,25 @@ module _ (Z : Sizes) (t : ArcLent) (o : arcRefusal Z t opening ≡ 0) where
       record {
         numbers = y .0;
         limit = y .1 .0;
-        label = label-right (baseNumbers Z) (t .base) (or-false-left (wrongBuffers (baseNumbers Z) (t .base)) (otherLength (t .lists) (mOf Z * 4)) (y .1 .1 .0));
+        label = label-right (baseNumbers Z) (t .base)
+            (or-false-left (wrongBuffers (baseNumbers Z) (t .base)) (otherLength (t .lists) (mOf Z * 4)) (y .1 .1 .0));
       }
 
   unlimited-fitting : Fitting (arcUnlimited Z)
   unlimited-fitting =
       let c1 = (arc-fits Z (fitting .numbers)) .C-least in
       record {
-        numbers = unlimited-unfit Z ∙ fitting .numbers;
-        limit = rw (le-leb 1 (mOf Z) (omega (arith, c1)), le-leb (mOf Z) (mOf Z) (omega arith)) refl;
+        numbers = unlimited-unfit-arc Z ∙ fitting .numbers;
+        limit = unlimited-limit (baseNumbers Z) (omega (arith, c1));
         label = fitting .label;
       }
 
   unlimited-opens : arcRefusal (arcUnlimited Z) t opening ≡ 0
   unlimited-opens =
       let y = arc-exactly-opening Z t .gives-0 .0 o in
+      let buffers = ap (λ w. w || otherLength (t .lists) (mOf Z * 4)) (unlimited-buffers (baseNumbers Z) (t .base)) in
       arc-exactly-opening (arcUnlimited Z) t .gives-0 .1
-      (unlimited-fitting .numbers, (unlimited-fitting .limit, (unlimited-buffers Z t ∙ y .1 .1 .0, tt)))
+      (unlimited-fitting .numbers, (unlimited-fitting .limit, (buffers ∙ y .1 .1 .0, tt)))
 
   -- one fresh box under both
   abbrev freshArc : ArcLent
@@ -196,10 +158,6 @@ module _ (Z : Sizes) (t : ArcLent) (o : arcRefusal Z t opening ≡ 0) where
   same-fresh : arcOpened (arcUnlimited Z) t ≡ arcOpened Z t
   same-fresh = unlimited-opened ∙ sym opened-is
 
-  fresh-rows : (boxOf Z freshArc) .rows ≡ []
-  unfolding boxIn fresh heldRows rows
-  fresh-rows = refl
-
   arc-as-without-from : (qs : List Asking) → ArcAsWithout Z t qs
   arc-as-without-from qs =
       let M = baseNumbers Z in
@@ -213,14 +171,14 @@ module _ (Z : Sizes) (t : ArcLent) (o : arcRefusal Z t opening ≡ 0) where
       let l = listsOf (arcOpened Z t) in
       let b = boxOf Z (arcOpened Z t) in
       let near = beside-itself G M pol (ArcSound G Z) pr pa (mOf Z) l b (passes-right Z (arcOpened Z t) good)
-      (ap (λ x. (boxOf Z x) .rows) opened-is ∙ fresh-rows) in
+      (ap (λ x. (boxOf Z x) .rows) opened-is ∙ fresh-rows (baseNumbers Z) (t .base)) in
       until-nine M pol (ArcSound G Z) pr pa (mOf Z) (arcKind Z) (arcKind (arcUnlimited Z)) (arc-kind Z fitting pol refl)
       (arc-kind (arcUnlimited Z) unlimited-fitting (capped (mOf Z) pol) (arc-capped G Z)) (arcOpened Z t) u qs
       (record {
         good = good;
         good′ = fresh-passes (arcUnlimited Z) t unlimited-opens;
         near = subst₂ (λ k s. Beside G M pol (ArcSound G Z) pr pa (mOf Z) l k b s) (sym (ap listsOf same-fresh))
-            (sym (unlimited-box Z u ∙ ap (boxOf Z) same-fresh)) near;
+            (sym (unlimited-box (baseNumbers Z) (u .base) ∙ ap (boxOf Z) same-fresh)) near;
       })
 
 -- The theorem: every list of calls, from a fresh D-ARC box over any disk and flash bytes, wherever the opening is not refused
