@@ -1,25 +1,22 @@
 -- "From fresh, and until a 9, each read's block and its hit or miss are as without the limit.", proved for boxes that run D-ARC.
 use mathlib.Core.Path.{_≡_, refl, sym, ap, _∙_, subst, subst₂}
-use mathlib.Core.Bool.{Bool, true, false, _||_}
-use mathlib.Core.List.{List, []}
+use mathlib.Core.Bool.{false, _||_}
+use mathlib.Core.List.{List}
 use mathlib.Core.Logic.{_≢_}
-use Prim.Native.Nat.{ℕ, _*_, _≤_}
+use Prim.Native.Nat.{_*_}
 use native.Mathlib.Omega.{arith}
-use lib.Dec.{leb}
 use lib.ListN.{length}
-use borrow.Author.Tests.{le-leb}
-use Rattle.tables.specs.Rows.{rows, zeros}
-use Rattle.tables.specs.Records.{heldRows}
-use Rattle.paper.specs.Cache.{Numbers, Hashing, Box}
+use Rattle.tables.specs.Rows.{zeros}
+use Rattle.paper.specs.Cache.{Hashing}
 use Rattle.paper.specs.KeyedLaws.{or-both, or-false-left}
 use Rattle.paper.specs.Engine.{Fixed, labelled}
-use Rattle.paper.specs.Lent.{opening, otherLength, limitOutside, wrongBuffers, over, boxIn, fresh}
+use Rattle.paper.specs.Lent.{opening, otherLength, limitOutside, wrongBuffers, over, fresh}
 use Rattle.paper.specs.BatchLent.{Asking, one, many, report}
 use Rattle.paper.specs.BatchLentLaws.{right-buffers}
 use Rattle.paper.specs.Demand3.{saidWord}
-use Rattle.arc.specs.Policy.{Ran, Policy}
-use Rattle.arc.specs.Arc.{Sizes, baseNumbers, mOf, Lists, Was, inT1, inT2, inB1, inB2, inB3, unheld, listOf, wasB2, left, check, checked, inserted, parted}
-use Rattle.arc.specs.Arc.{joined, arcStepAs, arcStep, arc}
+use Rattle.arc.specs.Policy.{Policy}
+use Rattle.arc.specs.Arc.{Sizes, baseNumbers, mOf, Lists}
+use Rattle.arc.specs.Arc.{arc}
 use Rattle.arc.specs.ArcStep.{ArcSound}
 use Rattle.arc.specs.ArcLaws.{arc-promises}
 use Rattle.arc.specs.ArcLent.{ArcLent, unfitArc, wrongArcBuffers, noSizes, arcRefusal, arcServed, arcOpened}

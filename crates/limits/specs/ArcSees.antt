@@ -1,15 +1,15 @@
 -- A step of D-ARC and what a box shows: it promises what two boxes beside each other need.
-use mathlib.Core.Path.{_≡_, refl, sym, ap, _∙_, subst}
-use mathlib.Core.Bool.{Bool, true, false, _&&_, cond}
+use mathlib.Core.Path.{_≡_, refl, ap, _∙_, subst}
+use mathlib.Core.Bool.{Bool, true, false, _&&_}
 use mathlib.Core.List.{List, [], _∷_, _++_, map, List·Permᴰ, List·Permᴰ·trans, Permᴰ·symm}
 use mathlib.Core.Logic.{inl, inr}
 use mathlib.Core.Option.{none, some}
 use Prim.Native.Nat.{ℕ, _≤_, _<_}
 use lib.Dec.{eqb}
 use Rattle.tables.specs.Records.{slotsFrom}
-use Rattle.paper.specs.Cache.{Hashing, Seat, AddressRow, BlockRow, Box, Stepped, Request, newest, withoutAddress, cached, withoutBlock, slotOf}
+use Rattle.paper.specs.Cache.{Hashing, Seat, Box, Stepped, Request, newest, withoutAddress, cached, withoutBlock, slotOf}
 use Rattle.paper.specs.Cache.{blockOf, isLost, stored}
-use Rattle.paper.specs.KeyedLaws.{by-test, clash, or-left, or-both, and-left, eqb→≡, All, all-append, all-without, has-without-other, find-some}
+use Rattle.paper.specs.KeyedLaws.{by-test, clash, or-left, or-both, and-left, eqb→≡, all-append, all-without, has-without-other, find-some}
 use Rattle.paper.specs.Sound.{unknown-slot, perm-take}
 use Rattle.paper.specs.Orphans.{cached-self}
 use Rattle.paper.specs.Faithful.{at, any, dirtyAt, dirty-without, CopyTrue, copied-good, all-without-strict, slot-taken}

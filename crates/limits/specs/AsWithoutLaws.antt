@@ -1,19 +1,13 @@
 -- "From fresh, and until a 9, each read's block and its hit or miss are as without the limit.", proved for boxes that run D-LRU.
 use mathlib.Core.Path.{_≡_, refl, sym, ap, _∙_, subst}
-use mathlib.Core.Bool.{Bool, true, false, not, _&&_, _||_}
+use mathlib.Core.Bool.{false}
 use mathlib.Core.List.{List, []}
 use mathlib.Core.Logic.{_≢_}
-use Prim.Native.Nat.{ℕ, _*_, _≤_}
-use native.Mathlib.Omega.{arith}
-use lib.Dec.{eqb, leb}
+use Prim.Native.Nat.{_≤_}
 use lib.ListN.{length}
-use borrow.Author.Tests.{eqb-true, le-leb, not-false}
-use Rattle.tables.specs.Rows.{tableBytes, rows}
-use Rattle.tables.specs.Records.{heldRows}
 use Rattle.paper.specs.Cache.{Numbers, Hashing, Box, counted}
-use Rattle.paper.specs.KeyedLaws.{or-false-right}
 use Rattle.paper.specs.Engine.{Fixed, labelled}
-use Rattle.paper.specs.Lent.{Lent, opening, callOf, otherLength, unfit, limitOutside, wrongBuffers, over, refusal, served, kept, boxIn, lentOf, fresh, opened}
+use Rattle.paper.specs.Lent.{Lent, opening, callOf, unfit, limitOutside, over, refusal, served, kept, boxIn, lentOf, opened}
 use Rattle.paper.specs.Sound.{Sound}
 use Rattle.paper.specs.LentLaws.{passes-sound}
 use Rattle.paper.specs.RefusalLaws.{exactly-opening, served-is, refused-keeps, keeps, opened-is}
@@ -25,15 +19,15 @@ use Rattle.paper.specs.BatchLentLaws.{batch-finds, batch-served, batch-keeps, b
 use Rattle.paper.specs.Demand3.{numberOf, next, returned, saidWord}
 use Rattle.paper.specs.Demand3Laws.{Kept, kept-next, no-13, fresh-kept}
 use Rattle.arc.specs.Policy.{lru}
-use Rattle.arc.specs.Promise.{Promise, lru-promises}
+use Rattle.arc.specs.Promise.{lru-promises}
 use Rattle.arc.specs.LruServes.{lru-serves}
 use Rattle.arc.specs.FolderLaws.{lru-folder}
-use Rattle.limits.specs.AsWithout.{Shown, single, folder, number, hitsSaid, Kind, lruShows, lruKind, unlimited, AsWithout}
+use Rattle.limits.specs.AsWithout.{single, folder, number, hitsSaid, lruShows, lruKind, unlimited, AsWithout}
 use Rattle.limits.specs.Bare.{lru-blind}
 use Rattle.limits.specs.Sees.{sees-step}
 use Rattle.limits.specs.Beside.{Parallel, Beside, beside-itself}
 use Rattle.limits.specs.Unlimited.{unlimited-unfit, unlimited-limit, unlimited-buffers, label-right, unlimited-box, unlimited-fresh, fresh-rows}
-use Rattle.limits.specs.Until.{State, refusedShown, outcomeShown, batchShown, numberBy, Inside, servedShown, servedState, Serves, Near, Like, until-nine}
+use Rattle.limits.specs.Until.{State, refusedShown, outcomeShown, batchShown, numberBy, Inside, servedShown, servedState, Serves, until-nine}
 
 -- D-LRU promises what two boxes beside each other need
 pub lru-parallel : {F X : Type 0} (H : Hashing F X) (N : Numbers) → 1 ≤ N .m → 1 ≤ N .d → Parallel H N (lru H N) (λ k s. Sound H N s)

@@ -1,7 +1,7 @@
 -- Boxes, requests and steps but for what the limit changes: which rows are dirty, the disk and the primary writes; and but for the seats. What a policy must
 -- promise to be blind to these, and that D-LRU is.
 -- Assumes nothing.
-use mathlib.Core.Path.{_≡_, refl, sym, ap, ap₂, _∙_}
+use mathlib.Core.Path.{_≡_, refl, ap, ap₂, _∙_}
 use mathlib.Core.Bool.{Bool, true, false, not, _&&_, _||_, cond}
 use mathlib.Core.List.{List, [], _∷_, _++_, map}
 use mathlib.Core.Option.{Option, none, some, Option·map}

@@ -1,8 +1,8 @@
 -- A box under a limit beside one under another: what a policy must promise, and that then every call of the two answers the same and they stay beside each
 -- other. The two show the same blocks, with no premise on fingerprints, and are the same but for dirty rows, the disk and seats.
 use mathlib.Core.Path.{_≡_, refl, sym, ap, ap₂, _∙_, subst}
-use mathlib.Core.Bool.{Bool, true, false, not, _&&_, _||_, cond, true≢false}
-use mathlib.Core.List.{List, [], _∷_, _++_}
+use mathlib.Core.Bool.{Bool, true, false, not, _||_, cond, true≢false}
+use mathlib.Core.List.{List, [], _∷_}
 use mathlib.Core.Option.{Option, none, some, Option·map, Option·none-ne-some, Option·some-ne-none, Option·some-injective}
 use Prim.Native.Nat.{ℕ, _<_}
 use lib.Dec.{eqb}
@@ -12,15 +12,15 @@ use Rattle.paper.specs.Cache.{seatIn, withoutAddress, known, cached, blockOf, r
 use Rattle.paper.specs.Cache.{rowWithBlock, answer, sameOrNew, onDisk, dirtied, backRequest, dropped, writeInvalidate, lookAs, flushed, excess, limited}
 use Rattle.paper.specs.Cache.{noCounts}
 use Rattle.paper.specs.KeyedLaws.{by-test, clash, or-false-left, or-false-right, eqb→≡, eqb-swap, All, all-map, all-both, find-some}
-use Rattle.paper.specs.Sound.{DirtyCached, all-known, sound-onDisk}
+use Rattle.paper.specs.Sound.{DirtyCached, all-known}
 use Rattle.paper.specs.Orphans.{apart}
-use Rattle.paper.specs.Faithful.{at, at-set-same, at-set-other, any, dirtyAt, dirty-without, CopyTrue, all-without-strict}
+use Rattle.paper.specs.Faithful.{at, at-set-same, at-set-other, any, dirty-without, CopyTrue, all-without-strict}
 use Rattle.paper.specs.PlainDisk.{ifCached-some}
 use Rattle.paper.specs.Batch.{Batched, seen, firstRead, source, added}
 use Rattle.arc.specs.PlainRows.{row-clean, miss-clean}
-use Rattle.arc.specs.Policy.{Ran, Policy, Served, answeredBy, readBy, throughBy, backBy, serveBy}
+use Rattle.arc.specs.Policy.{Policy, Served, answeredBy, readBy, throughBy, backBy, serveBy}
 use Rattle.arc.specs.Promise.{Promise, inv-onDisk, inv-read, inv-serve}
-use Rattle.arc.specs.Folder.{FolderBy, nextRead, folderRead, folder}
+use Rattle.arc.specs.Folder.{FolderBy, folderRead, folder}
 use Rattle.limits.specs.Bare.{noSeat, bare, bares, bareBox, bareRequest, bareOutcome, bareRan, bareServed, Blind, row-bare, without-bare, partly-bare}
 use Rattle.limits.specs.Bare.{row-with-block-bare, dropped-bare}
 use Rattle.limits.specs.Sees.{slot-without, Everywhere, But, ownBlock, Sees, SeesBut, sees-cleanTo}

@@ -1,11 +1,10 @@
 -- A limit of m changes nothing: it is a box without one. Assumes nothing.
 use mathlib.Core.Path.{_≡_, refl, ap, _∙_}
-use mathlib.Core.Bool.{Bool, false, cond}
+use mathlib.Core.Bool.{cond}
 use mathlib.Core.List.{List, [], _∷_}
 use mathlib.Core.Option.{none}
 use Prim.Native.Nat.{ℕ, _+_, _≤_, _<_}
 use native.Mathlib.Omega.{arith}
-use lib.Dec.{ltb}
 use lib.ListN.{take}
 use borrow.Author.Tests.{le-ltb}
 use Rattle.paper.specs.Cache.{Numbers, Seat, Hashing, AddressRow, Box, Outcome, dirtyRows, reach, cleanTo, answer, sameOrNew, backRequest, writeBack, flushed}
@@ -14,7 +13,6 @@ use Rattle.paper.specs.Sound.{Sound}
 use Rattle.paper.specs.Partly.{dirty-few}
 use Rattle.arc.specs.Policy.{Policy, Served, answeredBy, backBy, serveBy, lru}
 use Rattle.arc.specs.Promise.{Promise, lru-promises}
-use Rattle.arc.specs.LruServes.{lru-serves}
 use Rattle.arc.specs.Arc.{Sizes, baseNumbers, Lists, arc}
 use Rattle.arc.specs.ArcStep.{ArcSound}
 use Rattle.arc.specs.ArcLaws.{arc-promises}

@@ -1,7 +1,7 @@
 -- What a box shows at each address, with no premise on fingerprints: the disk's block, or where a row is dirty the cached block of its fingerprint.
 -- A list of blocks `shown` is what it shows; a step of D-LRU leaves a box that shows it, where its request says so of its own address.
 use mathlib.Core.Path.{_≡_, refl, sym, ap, _∙_, subst}
-use mathlib.Core.Bool.{Bool, true, false, not, _&&_, _||_, cond, true≢false, false≢true}
+use mathlib.Core.Bool.{true, false, not, _&&_, cond, true≢false, false≢true}
 use mathlib.Core.List.{List, [], _∷_, _++_, map, List·Permᴰ, List·Permᴰ·trans, Permᴰ·symm}
 use mathlib.Core.Logic.{_⊎_, inl, inr, _≢_}
 use mathlib.Core.Option.{Option, none, some}
@@ -12,7 +12,7 @@ use lib.Seq.{getD-set-other}
 use borrow.Author.Tests.{not-true}
 use Rattle.tables.specs.Records.{slotsFrom}
 use Rattle.paper.specs.Cache.{Numbers, Hashing, AddressRow, BlockRow, Box, RowOut, BlockRows, Request, newest, blockRow, withoutAddress, known, cached}
-use Rattle.paper.specs.Cache.{withoutBlock, slotOf, blockOf, isLost, cleanTo, step, step1, step3, step4, freed, stored}
+use Rattle.paper.specs.Cache.{withoutBlock, slotOf, blockOf, isLost, cleanTo, step, step1, step3, freed, stored}
 use Rattle.paper.specs.KeyedLaws.{by-test, either, clash, and-left, and-right, or-left, or-both, eqb→≡, eqb-self, All, Distinct, all-append, all-map, all-both}
 use Rattle.paper.specs.KeyedLaws.{all-of-map, all-right, same-sym-false, has-without, has-without-self, has-snoc-self}
 use Rattle.paper.specs.Cases.{takenFree, takenRow, by-step1, by-step3, by-step4}

@@ -1,10 +1,10 @@
 -- Two runs of boxes that run a policy under two limits: what is one for every policy. A kind of box says by `Serves` that its calls on lent memory are those
 -- over its policy; then each call of two runs shows the same until a 9.
 use mathlib.Core.Path.{_≡_, refl, sym, ap, _∙_, subst₂}
-use mathlib.Core.Bool.{Bool, true, false, _&&_, cond}
+use mathlib.Core.Bool.{Bool, _&&_, cond}
 use mathlib.Core.List.{List, [], _∷_}
 use mathlib.Core.Logic.{_≢_}
-use mathlib.Core.Option.{Option, none, some}
+use mathlib.Core.Option.{none, some}
 use Prim.Native.Nat.{ℕ, _<_, _*_}
 use lib.Dec.{eqb}
 use lib.ListN.{length}
@@ -22,7 +22,7 @@ use Rattle.arc.specs.Promise.{Promise}
 use Rattle.arc.specs.Folder as Folder
 use Rattle.arc.specs.Folder.{FolderBy}
 use Rattle.limits.specs.AsWithout.{Shown, single, folder, number, Kind, UntilNine}
-use Rattle.limits.specs.Beside.{Parallel, capped, Beside, AsOne, FolderBeside, serve-beside, folder-beside}
+use Rattle.limits.specs.Beside.{Parallel, capped, Beside, serve-beside, folder-beside}
 
 -- what passes from call to call: the policy's state, the box and the counters
 pub record State (F X S : Type 0) : Type 0 where
