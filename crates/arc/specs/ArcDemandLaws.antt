@@ -435,7 +435,7 @@ module _ (Z : Sizes) where
 
   -- ---- what each call keeps with no premise
 
-  passes-next : (t : ArcLent) (q : Asking) → ArcPasses t → ArcPasses (arcNext Z t q)
+  pub passes-next : (t : ArcLent) (q : Asking) → ArcPasses t → ArcPasses (arcNext Z t q)
   passes-next t (one q) p =
       by-test (eqb (arcRefusal Z t (calling q)) 0)
       (λ y. served-passes t q (eqb-true (arcRefusal Z t (calling q)) 0 y))
@@ -465,17 +465,17 @@ module _ (Z : Sizes) where
   passing-throughout Q f t plain (q ∷ qs) p = (f t p, passing-throughout Q f (arcNext Z t q) (arcPlain Z t plain q) qs (passes-next t q p))
 
   -- the tests of the tables and the lists
-  no-6 : (t : ArcLent) → ArcPasses t
+  pub no-6 : (t : ArcLent) → ArcPasses t
       → (addressesUnsound (Z .P) (mOf Z) (t .base .n) (t .base .addresses) || listsUnsound Z ((boxOf Z t) .rows) (t .sizes) (t .lists)) ≡ false
   no-6 t p = or-both (addressesUnsound (Z .P) (mOf Z) (t .base .n) (t .base .addresses)) (listsUnsound Z ((boxOf Z t) .rows) (t .sizes) (t .lists))
       (p .base .addresses) (p .six)
 
-  no-8 : (t : ArcLent) → ArcPasses t
+  pub no-8 : (t : ArcLent) → ArcPasses t
       → (dirtyUncached (t .base .n) (Z .C) (t .base .addresses) (t .base .blocks) || topUncached H (boxOf Z t) (topsIn (t .sizes) (t .lists))) ≡ false
   no-8 t p = or-both (dirtyUncached (t .base .n) (Z .C) (t .base .addresses) (t .base .blocks))
       (topUncached H (boxOf Z t) (topsIn (t .sizes) (t .lists))) (p .base .dirty) (p .eight)
 
-  no-13 : (t : ArcLent) → ArcPasses t → overLimit M (t .base) ≡ false
+  pub no-13 : (t : ArcLent) → ArcPasses t → overLimit M (t .base) ≡ false
   no-13 t p = le-ltb (Z .t) (dirtyRows H ((boxOf Z t) .rows)) (p .few)
 
   in-list : (t : ArcLent) (q : Asking) → unfitArc Z ≡ false → limitOutside M ≡ false → ArcPasses t → ArcInList (arcNumber Z t q)
@@ -684,7 +684,7 @@ module _ (Z : Sizes) where
     fresh-box : boxOf Z (arcOpened Z t) ≡ Paper.fresh (Z .C) flash disk
     fresh-box = ap (boxOf Z) fresh-lent ∙ box-back noLists (Paper.fresh (Z .C) flash disk) fresh-right noCounts (arc-fits Z fits-numbers)
 
-    fresh-passes : ArcPasses (arcOpened Z t)
+    pub fresh-passes : ArcPasses (arcOpened Z t)
     fresh-passes = subst ArcPasses (sym fresh-lent) (right-passes noLists (Paper.fresh (Z .C) flash disk) fresh-right noCounts (arc-fits Z fits-numbers)
         (omega arith))
 

@@ -246,7 +246,7 @@ module _ (N : Numbers) (f : Fits N) where
   passes-in-turn t [] p few w = (p, few)
   passes-in-turn t (a ∷ l) p few w = passes-in-turn ((served N t (Ask.read a [])) .lent) l (read-passes t a p (w .0)) (read-few t a p (w .0) few) (w .1)
 
-right-buffers : (N : Numbers) (t : Lent) → length (N .label) ≡ 64 → Passes N t → wrongBuffers N t ≡ false
+pub right-buffers : (N : Numbers) (t : Lent) → length (N .label) ≡ 64 → Passes N t → wrongBuffers N t ≡ false
 unfolding wrongBuffers
 right-buffers N t l p =
     let x = p .lengths in

@@ -69,7 +69,7 @@ module _ (N : Numbers) where
     pub few : FewDirty N (boxIn N t)
     pub noWaste : NoWaste H ((boxIn N t) .rows) ((boxIn N t) .used)
 
-  kept-next : (t : Lent) (q : Asking) → Kept t → Kept (next N t q)
+  pub kept-next : (t : Lent) (q : Asking) → Kept t → Kept (next N t q)
   kept-next t (one q) k =
       by-test (eqb (refusal N t (calling q)) 0)
       (λ y. let e = eqb-true (refusal N t (calling q)) 0 y in
@@ -120,7 +120,7 @@ module _ (N : Numbers) where
   within-each t plain (q ∷ qs) k = (orphans-within t plain q k, within-each (next N t q) (plainStep N t plain q) qs (kept-next t q k))
 
   -- the numbers
-  no-13 : (t : Lent) → Kept t → overLimit N t ≡ false
+  pub no-13 : (t : Lent) → Kept t → overLimit N t ≡ false
   no-13 t k = le-ltb (N .t) (dirtyRows H ((boxIn N t) .rows)) (k .few)
 
   in-list : (t : Lent) (q : Asking) → unfit N ≡ false → limitOutside N ≡ false → Kept t → InList (numberOf N t q)
@@ -355,7 +355,7 @@ module _ (N : Numbers) where
     unfolding fresh disk
     fresh-disk = ap (λ x. split (N .B) (N .P) (x .disk)) (opened-is N t opens)
 
-    fresh-kept : Kept (opened N t)
+    pub fresh-kept : Kept (opened N t)
     fresh-kept =
         record {
           passes = fresh-passes;

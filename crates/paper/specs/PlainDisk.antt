@@ -60,7 +60,7 @@ module _ {F X : Type 0} (H : Hashing F X) where
       (λ c. rw c (λ e. inr (x, refl, c)))
 
   -- an address that is not dirty in the first i rows, and not when these are clean
-  dirty-behind : (x i : ℕ) (rows : List (AddressRow F)) → dirtyAt any x (take i rows) ≡ false → dirtyAt any x (partly H i rows) ≡ false
+  pub dirty-behind : (x i : ℕ) (rows : List (AddressRow F)) → dirtyAt any x (take i rows) ≡ false → dirtyAt any x (partly H i rows) ≡ false
       → dirtyAt any x rows ≡ false
   dirty-behind x zero rows y z = z
   dirty-behind x (suc i) [] y z = refl
