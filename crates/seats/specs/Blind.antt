@@ -5,14 +5,14 @@ use mathlib.Core.Bool.{Bool, true, false, not, _&&_, _||_, cond}
 use mathlib.Core.List.{List, [], _∷_, _++_, map}
 use mathlib.Core.Option.{Option, none, some, Option·map}
 use Prim.Native.Nat.{ℕ, zero, suc, _+_}
-use lib.Dec.{eqb}
+use lib.Dec.{eqb, ltb}
 use lib.ListN.{length, getD, set, take, length-map}
 use Rattle.paper.specs.KeyedLaws.{by-test}
 use Rattle.paper.specs.Cache.{Numbers, Seat, Hashing, AddressRow, BlockRow, Box, Request, RowOut, BlockRows, Taken, Stepped, newest, blockRow, held, rowOf}
 use Rattle.paper.specs.Cache.{seatIn, withoutAddress, known, cached, blockOf, copied, copies, cleaned, dirtyRows, reach, partly, cleanTo, oldestOut, step1}
 use Rattle.paper.specs.Cache.{someUncached, freed, step3, oldestUnknown, victim, takenUsed, taken, isLost, stored, step4, step, Call, read, through, back}
 use Rattle.paper.specs.Cache.{invalidate, look, flush, Word, hit, miss, done, Outcome, ifCached, rowWithBlock, answer, sameOrNew, onDisk, dirtied}
-use Rattle.paper.specs.Cache.{backRequest, dropped, writeInvalidate, lookAs, flushed, Counters, counted}
+use Rattle.paper.specs.Cache.{backRequest, dropped, writeInvalidate, lookAs, flushed, excess, limited, Counters, counted}
 use Rattle.paper.specs.Batch.{Batched, seen, firstRead, source, added}
 use Rattle.arc.specs.Policy.{Ran, Policy, Served, answeredBy, readBy, throughBy, backBy, serveBy, lru}
 use Rattle.arc.specs.Folder.{FolderBy, nextRead, folderRead, folder}
@@ -290,6 +290,18 @@ module _ {F X : Type 0} (H : Hashing F X) where
         primaryWrites = n j;
       })
 
+  limited-bare : (t : ℕ) (o : Outcome F X) → limited H t (bareOutcome o) ≡ bareOutcome (limited H t o)
+  limited-bare t o =
+      let and-flushed : Outcome F X → Outcome F X = λ f. record {
+        box = f .box;
+        word = o .word;
+        block = o .block;
+        flashWrites = o .flashWrites;
+        primaryWrites = o .primaryWrites + f .primaryWrites;
+      } in
+      ap (λ n. and-flushed (flushed H (cond (ltb t n) 1 0) (bareBox (o .box)))) (copies-bare (λ f. true) (o .box .rows))
+      ∙ ap and-flushed (flushed-bare (excess H t (o .box .rows)) (o .box))
+
   -- what a call counts
   pub counted-bare : (k : Counters) (c : Call X) (o : Outcome F X) → counted k (bareCall c) (bareOutcome o) ≡ counted k c o
   unfolding counted
@@ -342,10 +354,13 @@ module _ {F X S : Type 0} (H : Hashing F X) (pol : Policy F X S) (bl : Blind pol
   serve-bare k s (through a b z) =
       answered-bare (sameOrNew H s b) none 1 k (onDisk H s a b) (record { address = a; fingerprint = H .hash b; block = b; dirty = false; seat = z })
   serve-bare k s (back a b z) =
-      ap (λ y. answeredBy H pol (sameOrNew H s b) none 0
+      let o = answeredBy H pol (sameOrNew H s b) none 0 (pol .run k s (backRequest H s a b z)) in
+      ap {B = Served F X S} (λ (x : Served F X S). record { kept = x .kept; outcome = limited H (pol .limit) (x .outcome) })
+      (ap (λ y. answeredBy H pol (sameOrNew H s b) none 0
       (pol .run k (bareBox s) (record { address = a; fingerprint = H .hash b; block = b; dirty = y; seat = noSeat })))
       (ap (dirtied H (H .hash b)) (row-bare a (s .rows)) ∙ dirtied-bare H (H .hash b) (rowOf a (s .rows)))
-      ∙ answered-bare (sameOrNew H s b) none 0 k s (backRequest H s a b z)
+      ∙ answered-bare (sameOrNew H s b) none 0 k s (backRequest H s a b z))
+      ∙ ap {B = Served F X S} (λ x. record { kept = o .kept; outcome = x }) (limited-bare H (pol .limit) (o .outcome))
   serve-bare k s (invalidate a b z) =
       ap {B = Served F X S} (λ o. record { kept = pol .leave a k; outcome = o }) (invalidate-bare H s a b)
   serve-bare k s (look a) =
