@@ -63,7 +63,7 @@ pub fn put8(s: &mut [u8], at: usize, v: u64)
 }
 
 // The bytes of the state.
-pub const STATE: usize = 136;
+pub const STATE: usize = 144;
 
 // Whether the state has its bytes and the answer `n`.
 pub fn fit(n: usize, state: &[u8], answer: &[u8]) -> bool
@@ -98,6 +98,7 @@ pub fn record_in(state: &[u8]) -> BoxRecord
         slots: get8(state, 24) as usize,
         held: get8(state, 32) as usize,
         label: label,
+        limit: get8(state, 136) as usize,
     }
 }
 
