@@ -2,7 +2,8 @@
 use common::Random;
 use engines::persistent::Persistent;
 use engines::{array, maps};
-use model::{carry_out, carry_out_many, carry_out_report, Call, Folder, Label, Lent, ManyAnswer, Numbers, Report, CALLS, LABEL, REPORTS, ROW, STATE, STATE_LABEL, STATE_LIMIT};
+use model::{carry_out, carry_out_many, carry_out_report, Call, Folder, Label, Lent, ManyAnswer, Numbers, Report};
+use model::{CALLS, LABEL, REPORTS, ROW, STATE, STATE_LABEL, STATE_LIMIT};
 
 /// A call by the functions of an engine's module.
 macro_rules! by {

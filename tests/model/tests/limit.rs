@@ -79,7 +79,8 @@ fn a_shared_content() {
 /// A box in bytes, m = 3, d = 1, with so many dirty rows of one block.
 fn lent(dirty: usize, t: u64) -> Lent {
     let g = fingerprint(&OFFICE, &[9; B]);
-    let mut addresses: Vec<u8> = (0..dirty as u32).flat_map(|address| AddressRow { address, fingerprint: g, dirty: 1, seat: 5, padding: 0 }.to_bytes()).collect();
+    let row = |address| AddressRow { address, fingerprint: g, dirty: 1, seat: 5, padding: 0 };
+    let mut addresses: Vec<u8> = (0..dirty as u32).flat_map(|address| row(address).to_bytes()).collect();
     addresses.resize(3 * ROW, 0);
     Lent {
         state: Numbers { b: B as u64, p: 8, m: 3, d: 1, n: dirty as u64, counters: [0; 4], label: OFFICE, t }.to_bytes(),

@@ -148,7 +148,8 @@ fn after_refused(before: &Lent) -> Lent {
     expected
 }
 
-/// Every length of a label up to 200, alone and with numbers that are refused with 1 or 12 before it; each other length that is not right; a number outside its set.
+/// Every length of a label up to 200, alone and with numbers that are refused with 1 or 12 before it; each other length that is not right; a number outside its
+/// set.
 #[test]
 fn refused_openings() {
     let seed = seed(603);
