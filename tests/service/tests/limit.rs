@@ -250,7 +250,7 @@ fn one_copy_more() {
     assert!(copies > total / 50);
 }
 
-/// A box of m = 4 with so many dirty rows of one block behind a clean one.
+/// A box of m = 4 with so many dirty rows of one block behind a clean one, for which there is no room beside four.
 fn with_dirty(dirty: usize, t: u64) -> Lent {
     let g = fingerprint(&OFFICE, &[9; B]);
     let row = |address: u32| AddressRow { address, fingerprint: g, dirty: (address > 0) as u8, seat: 5, padding: 0 }.to_bytes();
@@ -300,15 +300,15 @@ fn every_limit_and_every_count() {
     println!("{calls} calls over limits and numbers of dirty rows");
 }
 
-/// Each byte of the limit is looked at: with a bit set in one of the upper seven the limit is too large.
+/// Each bit of the limit is looked at: of 2 the lowest makes 3, the next 0, and every other a limit that is too large.
 #[test]
 fn every_bit_of_a_limit() {
     let mut calls = 0;
     for bit in 0..64 {
-        let mut lent = with_dirty(1, 4);
+        let mut lent = with_dirty(1, 2);
         lent.state[STATE_LIMIT][bit / 8] ^= 1 << (bit % 8);
-        let number = if bit == 2 || lent.numbers().t > 4 { 12 } else { 0 };
-        calls += all_calls(&lent, number, number, &|| format!("bit {bit} of a limit of 4"));
+        let number = if bit == 0 { 0 } else { 12 };
+        calls += all_calls(&lent, number, number, &|| format!("bit {bit} of a limit of 2"));
     }
     println!("{calls} calls with one bit of the limit changed");
 }
