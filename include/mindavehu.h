@@ -6,7 +6,7 @@
  * The box: B bytes a block (64, 128, 256, 512, 1024, 2048 or 4096), P disk blocks (1 to 65536), at most m addresses held (1 to 1024),
  * d cached blocks (1 to 256), at most t addresses dirty after a call (1 to m): the limit. n is the number of addresses held now. An address is dirty while
  * what was written back to it is only in the flash. Where a write back leaves more than t dirty, the oldest of them is copied to the disk and is clean then;
- * a limit of m copies nothing for its sake. What is read, and whether it is a hit, is as without a limit.
+ * a limit of m copies nothing for its sake. From an opening on, and until a 9, what is read, and whether it is a hit, is as without a limit.
  *
  * The buffers. Each is given as a pointer and a length in bytes:
  *   state      144            B, P, m, d, n, reads, hits, flash writes, primary writes: 8 bytes each, little-endian; then the label; then t, as the others
