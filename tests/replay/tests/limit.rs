@@ -5,7 +5,7 @@ use replay::programs::{fences, root, Build, Program, Writing, PLAIN, SANITIZED};
 use replay::states::{limited, states, without_states};
 use replay::{list, replay};
 
-const LISTS: usize = 400;
+const LISTS: usize = 250;
 
 fn run(build: &'static Build, limit: u32, input: &[u8]) -> String {
     String::from_utf8(Program::states(build, &["--limit", &limit.to_string()]).run(input, Writing::Whole)).unwrap()
