@@ -19,7 +19,8 @@ use Rattle.paper.specs.Cache.{Numbers, Word, hit, miss, sameBlock, newBlock, fr
 use Rattle.paper.specs.Lent.{Lent, Ask, calling, Answer, refused, answered, refusal, unfit, fresh}
 use Rattle.paper.specs.LentLaws.{Lengths}
 use Rattle.paper.specs.RefusalLaws.{keeps}
-use Rattle.paper.specs.CallLaws.{fits, served-passes}
+use Rattle.paper.specs.CallLaws as Calls
+use Rattle.paper.specs.CallLaws.{served-passes}
 use Rattle.refusals.specs.Sizes.{most}
 use Rattle.lines.specs.Lines.{parsed}
 use Rattle.lines.specs.declared.Command.{Command}
@@ -111,7 +112,7 @@ opened-fits (Box B P m d) e =
     let v = (none-holds (ltb 256 P || ltb 16384 (P * B) || ltb 16384 (d * B)) 5 0 (omega arith) (u .1)) .0 in
     let w = or-false-left (ltb 256 P || ltb 16384 (P * B)) (ltb 16384 (d * B)) v in
     let n = most (recordOf N 0) (u .0) in (
-      (u .0, rw (le-leb 1 m (fits N (u .0) .m-least), le-leb m m (omega arith)) refl),
+      (u .0, rw (le-leb 1 m (Calls.fits N (u .0) .m-least), le-leb m m (omega arith)) refl),
       (
         n .size,
         ltb-false 256 P (or-false-left (ltb 256 P) (ltb 16384 (P * B)) w),
