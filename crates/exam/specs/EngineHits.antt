@@ -105,9 +105,11 @@ module _ (N : Numbers) (block : List ℕ) (fit : unfit N ≡ false) (limit : lim
       = only-9-between N u [] a block fit limit label p d tt (b .0) whole ∙ rw (not-full c (u .counters) (omega arith) w) refl in
       let g = adds-few N u (Ask.read a block) e in
       let more : AtMost (c + 1025) ((call N u (Ask.read a block)) .lent .counters)
-      = (omega (arith, w .0, g .reads .1), omega (arith, w .1, g .hits .1), omega (arith, w .2, g .flashWrites .1), omega (arith, w .3, g .primaryWrites .1)) in
-      (e, none-refused l ((call N u (Ask.read a block)) .lent) (c + 1025) (next-written N u (one (Ask.read a block)) r)
-      (subst (FewDirty N) (sym (served-box N u (Ask.read a block) e)) (outcome-few N u (Ask.read a block) e)) more (b .1) (omega arith))
+      = (omega (arith, w .0, g .reads .1), omega (arith, w .1, g .hits .1), omega (arith, w .2, g .flashWrites .1), omega (arith, w .3, g .primaryWrites .1)) in (
+        e,
+        none-refused l ((call N u (Ask.read a block)) .lent) (c + 1025) (next-written N u (one (Ask.read a block)) r)
+            (subst (FewDirty N) (sym (served-box N u (Ask.read a block) e)) (outcome-few N u (Ask.read a block) e)) more (b .1) (omega arith),
+      )
 
 -- no read of a list that is counted is refused: from a fresh box over the question's disk, over any flash and tables of their lengths, each read lent any
 -- block of B bytes

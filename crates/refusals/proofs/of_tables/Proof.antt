@@ -24,9 +24,10 @@ sound-is c =
 returns : tie.Need-returns
 returns c =
     let r = c .before .before .before in
-    let a = start r .args in
-    (sound-is r ∙ tables-sound (a .b) (a .addresses .now) (a .blocks .now) (λ z. c .if1 .taken (sound-is r ∙ z)),
-    (λ z. absurd (c .if1 .taken z), r .tables-refused .ensures .1 .1))
+    let a = start r .args in (
+      sound-is r ∙ tables-sound (a .b) (a .addresses .now) (a .blocks .now) (λ z. c .if1 .taken (sound-is r ∙ z)),
+      (λ z. absurd (c .if1 .taken z), r .tables-refused .ensures .1 .1),
+    )
 
 excess-row-requires : tie.Need-excess-row-requires
 excess-row-requires c κs =
@@ -43,9 +44,10 @@ returns-2 c =
     let e = x .before in
     let r = e .before .before .before in
     let a = start r .args in
-    let y = sym (excess-is (a .b) (a .addresses .now)) ∙ lt-ltb _ (a .b .held) (omega (arith, x .excess-row .ensures, c .if2 .taken)) in
-    (ap (λ (v : Bool). cond v 13 0) (sym y) ∙ tables-limit (a .b) (a .addresses .now) (a .blocks .now) (sym (sound-is r) ∙ e .if1 .left),
-    (λ z. absurd (omega (arith, z)), r .tables-refused .ensures .1 .1))
+    let y = sym (excess-is (a .b) (a .addresses .now)) ∙ lt-ltb _ (a .b .held) (omega (arith, x .excess-row .ensures, c .if2 .taken)) in (
+      ap (λ (v : Bool). cond v 13 0) (sym y) ∙ tables-limit (a .b) (a .addresses .now) (a .blocks .now) (sym (sound-is r) ∙ e .if1 .left),
+      (λ z. absurd (omega (arith, z)), r .tables-refused .ensures .1 .1),
+    )
 
 returns-3 : tie.Need-returns-3
 returns-3 c =
@@ -53,9 +55,10 @@ returns-3 c =
     let e = x .before in
     let r = e .before .before .before in
     let a = start r .args in
-    let y = sym (excess-is (a .b) (a .addresses .now)) ∙ le-ltb _ (a .b .held) (omega (arith, x .excess-row .ensures, c .if2 .left)) in
-    (ap (λ (v : Bool). cond v 13 0) (sym y) ∙ tables-limit (a .b) (a .addresses .now) (a .blocks .now) (sym (sound-is r) ∙ e .if1 .left),
-    (λ z. r .tables-refused .ensures .1 .0 (e .if1 .left), r .tables-refused .ensures .1 .1))
+    let y = sym (excess-is (a .b) (a .addresses .now)) ∙ le-ltb _ (a .b .held) (omega (arith, x .excess-row .ensures, c .if2 .left)) in (
+      ap (λ (v : Bool). cond v 13 0) (sym y) ∙ tables-limit (a .b) (a .addresses .now) (a .blocks .now) (sym (sound-is r) ∙ e .if1 .left),
+      (λ z. r .tables-refused .ensures .1 .0 (e .if1 .left), r .tables-refused .ensures .1 .1),
+    )
 
 pub of-tables-spec : {M : Type 1} → statement M
 of-tables-spec =
