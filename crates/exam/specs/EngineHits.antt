@@ -93,7 +93,8 @@ addresses-back block (a ∷ l) = ap (λ r. a ∷ r) (addresses-back block l)
 
 module _ (N : Numbers) (block : List ℕ) (fit : unfit N ≡ false) (limit : limitOutside N ≡ false)
     (label : length (N .label) ≡ 64) (whole : length block ≡ N .B) where
-  none-refused : (l : List ℕ) (u : Lent) (c : ℕ) → Written N u → FewDirty N (boxIn N u) → AtMost c (u .counters) → All (λ a. a < N .P) l → c + length l * 1025 ≤ 2 ^ 63
+  none-refused : (l : List ℕ) (u : Lent) (c : ℕ) → Written N u → FewDirty N (boxIn N u) → AtMost c (u .counters) → All (λ a. a < N .P) l
+      → c + length l * 1025 ≤ 2 ^ 63
       → NoneRefused N u (readsOf block l)
   unfolding refusals servedInTurn
   none-refused [] u c r d w b h = tt
@@ -105,7 +106,12 @@ module _ (N : Numbers) (block : List ℕ) (fit : unfit N ≡ false) (limit : lim
       = only-9-between N u [] a block fit limit label p d tt (b .0) whole ∙ rw (not-full c (u .counters) (omega arith) w) refl in
       let g = adds-few N u (Ask.read a block) e in
       let more : AtMost (c + 1025) ((call N u (Ask.read a block)) .lent .counters)
-      = (omega (arith, w .0, g .reads .1), omega (arith, w .1, g .hits .1), omega (arith, w .2, g .flashWrites .1), omega (arith, w .3, g .primaryWrites .1)) in (
+      = (
+        omega (arith, w .0, g .reads .1),
+        omega (arith, w .1, g .hits .1),
+        omega (arith, w .2, g .flashWrites .1),
+        omega (arith, w .3, g .primaryWrites .1),
+      ) in (
         e,
         none-refused l ((call N u (Ask.read a block)) .lent) (c + 1025) (next-written N u (one (Ask.read a block)) r)
             (subst (FewDirty N) (sym (served-box N u (Ask.read a block) e)) (outcome-few N u (Ask.read a block) e)) more (b .1) (omega arith),

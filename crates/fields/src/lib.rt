@@ -19,7 +19,8 @@ ghost use Rattle.policy.specs.Contract.{wordOf, answerOf, manyAnswerOf};
 ghost use Rattle.open.specs.Contract.{openingNumber};
 ghost use Rattle.block.specs.Blocks.{part, splice};
 ghost use Rattle.tables.specs.Rows.{le8};
-ghost use Rattle.fields.specs.Fields.{lowBytes, stateBytes, recordIn, countersIn, put8, putState, putLabel, putAnswer, putMany, countsAfter, wordNumber, fitting};
+ghost use Rattle.fields.specs.Fields.{lowBytes, stateBytes, recordIn, countersIn, put8, putState, putLabel, putAnswer, putMany, countsAfter};
+ghost use Rattle.fields.specs.Fields.{wordNumber, fitting};
 ghost use Rattle.fields.specs.Noted.{noted, notedMany, stateOpened, startOf, notedPlace};
 
 // A byte, widened.

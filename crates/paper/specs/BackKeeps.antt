@@ -46,7 +46,8 @@ module _ {F X : Type 0} (H : Hashing F X) (a : ℕ) where
       (inl (or-false-left (eqb a (r .address)) (held a rs) h), others-spare c rs (or-false-right (eqb a (r .address)) (held a rs) h))
 
   -- the row of a, newest, and the others
-  all-spare : (c : F → Bool) (rows : List (AddressRow F)) (g : F) (w : Bool) (z : Seat) → held a rows ≡ false → c g ≡ false → All (Spares c) (rows ++ (newest a g w z ∷ []))
+  all-spare : (c : F → Bool) (rows : List (AddressRow F)) (g : F) (w : Bool) (z : Seat) → held a rows ≡ false → c g ≡ false
+      → All (Spares c) (rows ++ (newest a g w z ∷ []))
   all-spare c rows g w z h n = all-append (Spares c) rows (newest a g w z ∷ []) (others-spare c rows h) (inr n, tt)
 
   -- step 4 takes a row of another fingerprint than g

@@ -265,7 +265,8 @@ right-buffers N t l p =
 
 -- "with 9 checked only before the first": between the reads done in turn a single read would get 9 where a counter is over, and no other number
 pub only-9-between : (N : Numbers) (t : Lent) (l : List ℕ) (a : ℕ) (x : List ℕ) → unfit N ≡ false → limitOutside N ≡ false → length (N .label) ≡ 64
-    → Passes N t → FewDirty N (boxIn N t) → All (λ b. b < N .P) l → a < N .P → length x ≡ N .B → let u = servedInTurn N t l in refusal N u (calling (Ask.read a x)) ≡ cond (over (u .counters)) 9 0
+    → Passes N t → FewDirty N (boxIn N t) → All (λ b. b < N .P) l → a < N .P → length x ≡ N .B
+    → let u = servedInTurn N t l in refusal N u (calling (Ask.read a x)) ≡ cond (over (u .counters)) 9 0
 unfolding refusal
 only-9-between N t l a x nu lu nl p few w wa lx =
     let u = servedInTurn N t l in

@@ -175,7 +175,7 @@ table =
     ∷ []
 
 pub folders-refused-with : map (λ c. batchRefusal (c .numbers) (c .lent) (c .asked) (replicate (c .length) 5)) table ≡ map (λ c. c .number) table
-unfolding batchRefusal Lent.unfit Lent.wrongBuffers Lent.over Lent.boxIn Records.heldRows Rows.rows Rows.flat Rows.zeros Records.addressBytes Records.blockBytes Records.readAddress
-    Records.readBlock addressTable Records.blockTable Find.any Find.all Find.same Unsound.elem Unsound.twice Unsound.count Unsound.addressesUnsound
-    Unsound.freeAfterUsed Unsound.eachOnce Unsound.usedTwice Unsound.blocksUnsound Unsound.dirtyUncached
+unfolding batchRefusal Lent.unfit Lent.wrongBuffers Lent.over Lent.boxIn Records.heldRows Rows.rows Rows.flat Rows.zeros Records.addressBytes Records.blockBytes
+    Records.readAddress Records.readBlock addressTable Records.blockTable Find.any Find.all Find.same Unsound.elem Unsound.twice Unsound.count
+    Unsound.addressesUnsound Unsound.freeAfterUsed Unsound.eachOnce Unsound.usedTwice Unsound.blocksUnsound Unsound.dirtyUncached
 folders-refused-with = refl

@@ -15,7 +15,8 @@ use Rattle.paper.specs.Cache.{Numbers, About, about, Below, Outcome, Wit
 use Rattle.paper.specs.Cache.{flushed, dirtyRows, done}
 use Rattle.paper.specs.KeyedLaws.{All, clash, by-test, or-false-left, or-false-right, and-left, and-right}
 use Rattle.paper.specs.Engine.{Fixed, fit, labelled}
-use Rattle.paper.specs.Lent.{Lent, Ask, calling, callOf, aboutAsk, addressOf, lentBlock, between, unfit, limitOutside, wrongBuffers, wrongBlock, outside, over}
+use Rattle.paper.specs.Lent.{Lent, Ask, calling, callOf, aboutAsk, addressOf, lentBlock, between, unfit, limitOutside, wrongBuffers, wrongBlock}
+use Rattle.paper.specs.Lent.{outside, over}
 use Rattle.paper.specs.Lent.{FewDirty, counts, answered, refusal, served, call, boxIn, lentOf}
 use Rattle.paper.specs.Sound.{Sound, sound-serve}
 use Rattle.paper.specs.Partly.{dirtyOf, count-is, left-dirty, newest-stay, dirty-few, none-dirty}

@@ -35,10 +35,12 @@ use Rattle.paper.specs.Quiet.{traceOf, printed-quiet}
 use Rattle.paper.specs.Parts.{length-split, join-split}
 use Rattle.paper.specs.LentLaws.{Lengths, right-lengths, Passes, passes-sound, sound-passes, lent-back}
 use Rattle.paper.specs.RefusalLaws.{exactly-opening, served-is, keeps, opened-is}
-use Rattle.paper.specs.CallLaws.{fits, served-finds, outcome, outcome-sound, outcome-few, served-lent, served-box, served-passes, look-counts, In64, counters-stay}
+use Rattle.paper.specs.CallLaws.{fits, served-finds, outcome, outcome-sound, outcome-few, served-lent, served-box, served-passes, look-counts, In64}
+use Rattle.paper.specs.CallLaws.{counters-stay}
 use Rattle.paper.specs.BatchLaws.{batch-sound, batch-good, batch-in-turn, batch-blocks}
 use Rattle.paper.specs.Reports.{width, reportRefusal}
-use Rattle.paper.specs.BatchLentLaws.{batch-finds, batch-served, batch-keeps, batch-lent, batch-leaves, batch-box, batch-few-dirty, batch-passes, batch-fits}
+use Rattle.paper.specs.BatchLentLaws.{batch-finds, batch-served, batch-keeps, batch-lent, batch-leaves, batch-box, batch-few-dirty, batch-passes}
+use Rattle.paper.specs.BatchLentLaws.{batch-fits}
 use Rattle.paper.specs.BatchLentLaws.{in-turn-is}
 
 pub head-≡ : {A : Type 0} {x y : A} {l k : List A} → _≡_ {A = List A} (x ∷ l) (y ∷ k) → x ≡ y

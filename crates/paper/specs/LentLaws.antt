@@ -120,7 +120,8 @@ unfolding all
 held-each P p [] q = refl
 held-each P p (r ∷ rs) q =
     both (addressOk P (addressBytes (heldRow r))) (all (addressOk P) (map addressBytes (map heldRow rs)))
-    (addressOk-of P (r .address) (r .fingerprint .0) (bit (r .dirty)) (r .seat) (q .0) (omega arith) (bit-low (r .dirty)) (r .fingerprint .1)) (held-each P p rs (q .1))
+    (addressOk-of P (r .address) (r .fingerprint .0) (bit (r .dirty)) (r .seat) (q .0) (omega arith) (bit-low (r .dirty)) (r .fingerprint .1))
+    (held-each P p rs (q .1))
 
 all-used : (used : List (BlockRow (Fixed 32))) → all isUsed (map blockBytes (map usedRow used)) ≡ true
 unfolding all

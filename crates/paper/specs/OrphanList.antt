@@ -23,7 +23,8 @@ module _ {F X : Type 0} (H : Hashing F X) where
       → NoWaste H ((readAs H m s a x o) .box .rows) ((readAs H m s a x o) .box .used)
   unfolding readAs answer
   noWaste-readAs m s a x (some r) d l =
-      noWaste-step H m s (record { address = a; fingerprint = r .fingerprint; block = blockOf H (r .fingerprint) (s .used) (s .flash); dirty = r .dirty; seat = r .seat }) d l
+      let b = blockOf H (r .fingerprint) (s .used) (s .flash) in
+      noWaste-step H m s (record { address = a; fingerprint = r .fingerprint; block = b; dirty = r .dirty; seat = r .seat }) d l
   noWaste-readAs m s a x none d l =
       noWaste-step H m s (record { address = a; fingerprint = H .hash x; block = x; dirty = false; seat = seatIn (rowOf a (s .rows)) }) d l
 

@@ -11,7 +11,8 @@ use Rattle.tables.specs.Rows.{zeros}
 use Rattle.tables.specs.Unsound.{addressesUnsound, blocksUnsound, dirtyUncached}
 use Rattle.paper.specs.KeyedLaws.{All, Distinct, by-test, either, clash, eqb→≡, eqb-self, or-cases, or-left, or-right, or-false-left, or-false-right}
 use Rattle.paper.specs.Cache.{Numbers}
-use Rattle.paper.specs.Lent.{Lent, Ask, opening, calling, addressOf, lentBlock, unfit, limitOutside, wrongBuffers, wrongBlock, outside, overLimit, over, counts}
+use Rattle.paper.specs.Lent.{Lent, Ask, opening, calling, addressOf, lentBlock, unfit, limitOutside, wrongBuffers, wrongBlock, outside, overLimit, over}
+use Rattle.paper.specs.Lent.{counts}
 use Rattle.paper.specs.Lent.{Test, test, first, oneOf, tests, refusal, refused}
 use Rattle.paper.specs.Lent.{served, kept, call, fresh, unopened, opened, labelAfter}
 

@@ -355,7 +355,8 @@ table =
 
 pub refused-with : map (λ c. refusal (c .numbers) (c .lent) (c .asked)) table ≡ map (λ c. c .number) table
 unfolding refusal unfit Lent.wrongBuffers Lent.over Lent.boxIn Rows.rows Rows.flat Rows.zeros Records.addressBytes Records.blockBytes
-    Records.readAddress Records.readBlock Records.heldRows addressTable blockTable Find.any Find.all Find.same Unsound.elem Unsound.twice Unsound.count Unsound.addressesUnsound
+    Records.readAddress Records.readBlock Records.heldRows addressTable blockTable Find.any Find.all Find.same Unsound.elem Unsound.twice
+    Unsound.count Unsound.addressesUnsound
     Unsound.freeAfterUsed Unsound.eachOnce Unsound.usedTwice Unsound.blocksUnsound Unsound.dirtyUncached
 refused-with = refl
 

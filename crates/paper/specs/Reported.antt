@@ -106,7 +106,7 @@ abbrev pub table : List Case
 table = cases manager 21 ++ cases desk 15 ++ (asks manager 20 two-held 2 ∷ asks desk 14 two-held 2 ∷ asks manager 15 two-held 2 ∷ asks desk 21 two-held 2 ∷ [])
 
 pub reports-refused-with : map (λ c. reportRefusal (c .numbers) (c .lent) (c .reader) (replicate (c .length) 5)) table ≡ map (λ c. c .number) table
-unfolding reportRefusal Lent.unfit Lent.wrongBuffers Lent.boxIn Records.heldRows Rows.rows Rows.flat Rows.zeros Records.addressBytes Records.blockBytes Records.readAddress
-    Records.readBlock addressTable blockTable Find.any Find.all Find.same Unsound.elem Unsound.twice Unsound.count Unsound.addressesUnsound
+unfolding reportRefusal Lent.unfit Lent.wrongBuffers Lent.boxIn Records.heldRows Rows.rows Rows.flat Rows.zeros Records.addressBytes Records.blockBytes
+    Records.readAddress Records.readBlock addressTable blockTable Find.any Find.all Find.same Unsound.elem Unsound.twice Unsound.count Unsound.addressesUnsound
     Unsound.freeAfterUsed Unsound.eachOnce Unsound.usedTwice Unsound.blocksUnsound Unsound.dirtyUncached
 reports-refused-with = refl

@@ -80,7 +80,7 @@ module _ {F X : Type 0} (H : Hashing F X) where
 
   -- cleaned rows differ only in what is dirty
   pub all-cleaned : (c : F → Bool) (P Q : AddressRow F → Type 0)
-      → ((r : AddressRow F) → P r → Q (record { address = r .address; fingerprint = r .fingerprint; dirty = r .dirty && not (c (r .fingerprint)); seat = r .seat }))
+      → ((r : AddressRow F) → P r → Q (newest (r .address) (r .fingerprint) (r .dirty && not (c (r .fingerprint))) (r .seat)))
       → (rows : List (AddressRow F)) → All P rows → All Q (cleaned H c rows)
   all-cleaned c P Q f [] p = tt
   all-cleaned c P Q f (r ∷ rs) p = (f r (p .0), all-cleaned c P Q f rs (p .1))
@@ -314,7 +314,8 @@ module _ {F X : Type 0} (H : Hashing F X) where
       → Sound H N ((readAs H (N .m) s a x o) .box)
   unfolding readAs answer
   sound-readAs N s a x (some r) h m1 d1 ap
-      = sound-step N s (record { address = a; fingerprint = r .fingerprint; block = blockOf H (r .fingerprint) (s .used) (s .flash); dirty = r .dirty; seat = r .seat })
+      = sound-step N s
+      (record { address = a; fingerprint = r .fingerprint; block = blockOf H (r .fingerprint) (s .used) (s .flash); dirty = r .dirty; seat = r .seat })
       h m1 d1 ap
   sound-readAs N s a x none h m1 d1 ap =
       sound-step N s (record { address = a; fingerprint = H .hash x; block = x; dirty = false; seat = seatIn (rowOf a (s .rows)) }) h m1 d1 ap

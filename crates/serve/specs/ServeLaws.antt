@@ -13,7 +13,8 @@ use Rattle.block.specs.Blocks.{splice}
 use Rattle.parts.specs.declared.BoxRecord.{BoxRecord}
 use Rattle.paper.specs.KeyedLaws.{by-test}
 use Rattle.paper.specs.Cache.{Numbers, AddressRow, BlockRow, Box, Call, Word, sameBlock, newBlock, Stepped, answer, cached, serve, writeBack, writeThrough}
-use Rattle.paper.specs.Cache.{writeInvalidate, flushed, limited, excess, dirtyRows, reach, partly, dirtied, onDisk, withoutAddress, dropped, step, hit, miss, readAs, rowWithBlock}
+use Rattle.paper.specs.Cache.{writeInvalidate, flushed, limited, excess, dirtyRows, reach, partly, dirtied, onDisk, withoutAddress, dropped, step, hit, miss}
+use Rattle.paper.specs.Cache.{readAs, rowWithBlock}
 use Rattle.paper.specs.Cache.{Seat, seatIn, rowOf, ifCached, blockOf}
 use Rattle.paper.specs.Partly.{length-partly}
 use Rattle.paper.specs.Engine.{Fixed, labelled, comparing}

@@ -158,8 +158,8 @@ fn serve_through(
     requires { ⌜ LentSound b (now disk) (now flash) (now addrs) (now blocks) ⌝ }
     requires { ⌜ Indexed (b .slots) (now blocks) (now heads) ⌝ }
     ensures { λ r. ⌜ (r .flashed ≤ 1) × (r .primary ≤ 2 + b .rows) ⌝ }
-    ensures { λ r. ⌜ Wrote Through b (a .0) (bytes2 seat) (now (disk .entry)) (now (flash .entry)) (now (addrs .entry)) (now (blocks .entry)) (now (block .entry))
-        (left r (now (disk .exit)) (now (flash .exit)) (now (addrs .exit)) (now (blocks .exit)) (now (block .entry))) ⌝ }
+    ensures { λ r. ⌜ Wrote Through b (a .0) (bytes2 seat) (now (disk .entry)) (now (flash .entry)) (now (addrs .entry)) (now (blocks .entry))
+        (now (block .entry)) (left r (now (disk .exit)) (now (flash .exit)) (now (addrs .exit)) (now (blocks .exit)) (now (block .entry))) ⌝ }
 {
     let g = fingerprint_of(b, block);
     let j = rows::place_of(blocks, b.slots, &g);
@@ -185,8 +185,8 @@ fn serve_invalidate(
     requires { ⌜ (length (now disk) ≡ b .blocks * b .size) × Access b (a .0) (now block) (now addrs) (now blocks) ⌝ }
     requires { ⌜ ((flash : List ℕ) × LentSound b (now disk) flash (now addrs) (now blocks)) ⌝ }
     ensures { λ r. ⌜ (r .flashed ≤ 1) × (r .primary ≤ 2 + b .rows) ⌝ }
-    ensures { λ r. ⌜ ((flash : List ℕ) (z : Seat) → Wrote Invalidate b (a .0) z (now (disk .entry)) flash (now (addrs .entry)) (now (blocks .entry)) (now (block .entry))
-        (left r (now (disk .exit)) flash (now (addrs .exit)) (now (blocks .exit)) (now (block .entry)))) ⌝ }
+    ensures { λ r. ⌜ ((flash : List ℕ) (z : Seat) → Wrote Invalidate b (a .0) z (now (disk .entry)) flash (now (addrs .entry)) (now (blocks .entry))
+        (now (block .entry)) (left r (now (disk .exit)) flash (now (addrs .exit)) (now (blocks .exit)) (now (block .entry)))) ⌝ }
 {
     let g = fingerprint_of(b, block);
     let j = rows::place_of(blocks, b.slots, &g);
