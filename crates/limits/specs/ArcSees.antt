@@ -22,7 +22,7 @@ use Rattle.arc.specs.ArcFair.{copied-absent}
 use Rattle.limits.specs.Sees.{Everywhere, But, block-moved, block-own, ownBlock, Sees, SeesBut, ready-rows, sees-moved, sees-free, sees-row, other-rows}
 use Rattle.limits.specs.Sees.{not-dirty, joins-current}
 use Rattle.limits.specs.Beside.{Parallel}
-use Rattle.limits.specs.ArcBlind.{arc-blind}
+use Rattle.blind.specs.ArcBlind.{arc-blind}
 
 module _ {F X : Type 0} (H : Hashing F X) (Z : Sizes) (a : ℕ) (shown : List X) (v : X) (g : F) (b w : X) where
   -- between the first and the last part of a step: `shown` but at a, where the disk is as it was, and so is the block that g's row will have
@@ -146,4 +146,4 @@ module _ {F X : Type 0} (H : Hashing F X) (Z : Sizes) where
 
   -- D-ARC promises what two boxes beside each other need
   pub arc-parallel : 1 ≤ Z .C → Parallel H (baseNumbers Z) (arc H Z) (ArcSound H Z)
-  arc-parallel c1 = record { blind = arc-blind H Z; sees = arc-sees c1 }
+  arc-parallel c1 = record { blind = arc-blind false H Z; sees = arc-sees c1 }

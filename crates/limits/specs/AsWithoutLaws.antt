@@ -23,7 +23,7 @@ use Rattle.arc.specs.Promise.{lru-promises}
 use Rattle.arc.specs.LruServes.{lru-serves}
 use Rattle.arc.specs.FolderLaws.{lru-folder}
 use Rattle.limits.specs.AsWithout.{single, folder, number, hitsSaid, lruShows, lruKind, unlimited, AsWithout}
-use Rattle.limits.specs.Bare.{lru-blind}
+use Rattle.blind.specs.Blind.{lru-blind}
 use Rattle.limits.specs.Sees.{sees-step}
 use Rattle.limits.specs.Beside.{Parallel, Beside, beside-itself}
 use Rattle.limits.specs.Unlimited.{unlimited-unfit, unlimited-limit, unlimited-buffers, label-right, unlimited-box, unlimited-fresh, fresh-rows}
@@ -32,7 +32,7 @@ use Rattle.limits.specs.Until.{State, refusedShown, outcomeShown, batchS
 -- D-LRU promises what two boxes beside each other need
 pub lru-parallel : {F X : Type 0} (H : Hashing F X) (N : Numbers) → 1 ≤ N .m → 1 ≤ N .d → Parallel H N (lru H N) (λ k s. Sound H N s)
 lru-parallel H N m1 d1 =
-    record { blind = lru-blind H N; sees = λ shown k s q h f w ow cl. sees-step H N shown s q h f m1 d1 w ow cl }
+    record { blind = lru-blind false H N; sees = λ shown k s q h f w ow cl. sees-step H N shown s q h f m1 d1 w ow cl }
 
 -- ---- the calls of a D-LRU box in lent bytes are those over its policy
 

@@ -1,34 +1,34 @@
 -- A box under a limit beside one under another: what a policy must promise, and that then every call of the two answers the same and they stay beside each
--- other. The two show the same blocks, with no premise on fingerprints, and are the same but for dirty rows, the disk and seats.
-use mathlib.Core.Path.{_≡_, refl, sym, ap, ap₂, _∙_, subst}
+-- other. The two show the same blocks, with no premise on fingerprints, and are the same but for dirty rows, the disk and seats (bare with `false`).
+use mathlib.Core.Path.{_≡_, refl, sym, ap, _∙_, subst}
 use mathlib.Core.Bool.{Bool, true, false, not, _||_, cond, true≢false}
 use mathlib.Core.List.{List, [], _∷_}
 use mathlib.Core.Option.{Option, none, some, Option·map, Option·none-ne-some, Option·some-ne-none, Option·some-injective}
-use Prim.Native.Nat.{ℕ, _<_}
+use Prim.Native.Nat.{ℕ, zero, suc, _<_}
 use lib.Dec.{eqb}
 use lib.ListN.{length, set, length-set}
 use Rattle.paper.specs.Cache.{Numbers, Seat, Hashing, AddressRow, BlockRow, Box, BlockRows, Request, Word, hit, miss, fromCache, fromDisk, done, Outcome, rowOf}
 use Rattle.paper.specs.Cache.{seatIn, withoutAddress, known, cached, blockOf, reach, cleanTo, freed, Call, read, through, back, invalidate, look, flush, Within}
 use Rattle.paper.specs.Cache.{rowWithBlock, answer, sameOrNew, onDisk, dirtied, backRequest, dropped, writeInvalidate, lookAs, flushed, excess, limited}
-use Rattle.paper.specs.Cache.{noCounts}
+use Rattle.paper.specs.Cache.{partly, noCounts}
 use Rattle.paper.specs.KeyedLaws.{by-test, clash, or-false-left, or-false-right, eqb→≡, eqb-swap, All, all-map, all-both, find-some}
 use Rattle.paper.specs.Sound.{DirtyCached, all-known}
 use Rattle.paper.specs.Orphans.{apart}
 use Rattle.paper.specs.Faithful.{at, at-set-same, at-set-other, any, dirty-without, CopyTrue, all-without-strict}
 use Rattle.paper.specs.PlainDisk.{ifCached-some}
-use Rattle.paper.specs.Batch.{Batched, seen, firstRead, source, added}
+use Rattle.paper.specs.Batch.{seen, firstRead, source, added}
 use Rattle.arc.specs.PlainRows.{row-clean, miss-clean}
 use Rattle.arc.specs.Policy.{Policy, Served, answeredBy, readBy, throughBy, backBy, serveBy}
 use Rattle.arc.specs.Promise.{Promise, inv-onDisk, inv-read, inv-serve}
 use Rattle.arc.specs.Folder.{FolderBy, folderRead, folder}
-use Rattle.limits.specs.Bare.{noSeat, bare, bares, bareBox, bareRequest, bareOutcome, bareRan, bareServed, Blind, row-bare, without-bare, partly-bare}
-use Rattle.limits.specs.Bare.{row-with-block-bare, dropped-bare}
+use Rattle.blind.specs.Blind.{noSeat, bare, bares, bareBox, bareRequest, keptOutcome, bareOutcome, bareRan, bareServed, bareFolder, Blind}
+use Rattle.blind.specs.Blind.{row-bare, row-with-block-bare, invalidate-bare}
 use Rattle.limits.specs.Sees.{slot-without, Everywhere, But, ownBlock, Sees, SeesBut, sees-cleanTo}
 
 -- What a policy must promise: it is blind to what the limit changes; and from a box that shows `shown` but at the request's address, its step leaves a box that
 -- shows it, where the request's own block is shown if it is dirty, and the disk's if it is clean.
 pub record Parallel {F X S : Type 0} (H : Hashing F X) (N : Numbers) (pol : Policy F X S) (Inv : S → Box F X → Type 0) : Type 0 where
-  pub blind : Blind pol
+  pub blind : Blind false pol
   pub sees : (shown : List X) (k : S) (s : Box F X) (q : Request F X) → Inv k s → SeesBut H (q .address) (N .P) shown s → q .address < N .P
       → (q .dirty ≡ true → ownBlock H (q .fingerprint) (q .block) (s .used) (s .flash) ≡ at H shown (q .address))
       → (q .dirty ≡ false → at H (s .disk) (q .address) ≡ at H shown (q .address))
@@ -81,21 +81,21 @@ module _ {F X : Type 0} (H : Hashing F X) where
   next-size P shown s (flush k) e = e
 
   -- it is the same of two boxes that are the same but for what the limit changes
-  has-bare : (g : F) (o : Option (AddressRow F)) → hasIt g (Option·map bare o) ≡ hasIt g o
+  has-bare : (g : F) (o : Option (AddressRow F)) → hasIt g (Option·map (bare false) o) ≡ hasIt g o
   has-bare g none = refl
   has-bare g (some r) = refl
 
-  shown-bare : (shown : List X) (s : Box F X) (c : Call X) → shownNext shown (bareBox s) c ≡ shownNext shown s c
+  shown-bare : (shown : List X) (s : Box F X) (c : Call X) → shownNext shown (bareBox false s) c ≡ shownNext shown s c
   shown-bare shown s (read a) = refl
   shown-bare shown s (through a b z) = refl
   shown-bare shown s (back a b z) =
       ap (λ y. cond y shown (set shown a (ownBlock H (H .hash b) b (s .used) (s .flash))))
-      (ap (hasIt (H .hash b)) (row-bare a (s .rows)) ∙ has-bare (H .hash b) (rowOf a (s .rows)))
+      (ap (hasIt (H .hash b)) (row-bare false a (s .rows)) ∙ has-bare (H .hash b) (rowOf a (s .rows)))
   shown-bare shown s (invalidate a b z) = refl
   shown-bare shown s (look a) = refl
   shown-bare shown s (flush k) = refl
 
-  shown-same : (shown : List X) (s u : Box F X) (c : Call X) → bareBox s ≡ bareBox u → shownNext shown s c ≡ shownNext shown u c
+  shown-same : (shown : List X) (s u : Box F X) (c : Call X) → bareBox false s ≡ bareBox false u → shownNext shown s c ≡ shownNext shown u c
   shown-same shown s u c e = sym (shown-bare shown s c) ∙ ap (λ x. shownNext shown x c) e ∙ shown-bare shown u c
 
   -- nothing said of a; a's block replaced
@@ -224,69 +224,38 @@ module _ {F X S : Type 0} (H : Hashing F X) (N : Numbers) (pol : Policy F X S) (
 
 -- ---- two boxes that are the same but for what the limit changes
 
--- folder reads but for primary writes and for the counters, which have them too
-abbrev pub bareBatched : {F X : Type 0} → Batched F X → Batched F X
-bareBatched t =
-    record {
-      box = bareBox (t .box);
-      filled = t .filled;
-      counters = noCounts;
-      hits = t .hits;
-      misses = t .misses;
-      flashWrites = t .flashWrites;
-      primaryWrites = 0;
-      fetches = t .fetches;
-    }
-
-abbrev pub bareFolder : {F X S : Type 0} → FolderBy F X S → FolderBy F X S
-bareFolder t = record { kept = t .kept; batched = bareBatched (t .batched) }
-
 module _ {F X : Type 0} (H : Hashing F X) where
   -- what only cleans rows
-  clean-bare : (i : ℕ) (s : Box F X) → bareBox (cleanTo H i s) ≡ bareBox s
-  clean-bare i s = let r = partly-bare H i (s .rows) in λ j. record { rows = r j; free = s .free; used = s .used; flash = s .flash; disk = [] }
+  partly-bare : (i : ℕ) (rows : List (AddressRow F)) → bares false (partly H i rows) ≡ bares false rows
+  partly-bare zero rows = refl
+  partly-bare (suc i) [] = refl
+  partly-bare (suc i) (r ∷ rs) = ap {B = List (AddressRow F)} (λ l. bare false r ∷ l) (partly-bare i rs)
 
-  limited-bare : (n : ℕ) (o : Outcome F X) → bareOutcome (limited H n o) ≡ bareOutcome o
+  clean-bare : (i : ℕ) (s : Box F X) → bareBox false (cleanTo H i s) ≡ bareBox false s
+  clean-bare i s = let r = partly-bare i (s .rows) in λ j. record { rows = r j; free = s .free; used = s .used; flash = s .flash; disk = [] }
+
+  limited-bare : (n : ℕ) (o : Outcome F X) → bareOutcome false (limited H n o) ≡ bareOutcome false o
   unfolding flushed
   limited-bare n o =
       let e = clean-bare (reach H (excess H n (o .box .rows)) (o .box .rows)) (o .box) in
       λ j. record { box = e j; word = o .word; block = o .block; flashWrites = o .flashWrites; primaryWrites = 0 }
 
-  flushed-bare : (n : ℕ) (s : Box F X) → bareOutcome (flushed H n s) ≡ record { box = bareBox s; word = done; block = none; flashWrites = 0; primaryWrites = 0 }
+  flushed-bare : (n : ℕ) (s : Box F X) → bareOutcome false (flushed H n s)
+      ≡ record { box = bareBox false s; word = done; block = none; flashWrites = 0; primaryWrites = 0 }
   unfolding flushed
   flushed-bare n s =
       let e = clean-bare (reach H n (s .rows)) s in
       λ j. record { box = e j; word = done; block = none; flashWrites = 0; primaryWrites = 0 }
 
-  bare-twice : (rows : List (AddressRow F)) → bares (bares rows) ≡ bares rows
-  bare-twice [] = refl
-  bare-twice (r ∷ rs) = ap {B = List (AddressRow F)} (λ l. bare r ∷ l) (bare-twice rs)
-
-  invalidate-bare : (s : Box F X) (a : ℕ) (b : X) → bareOutcome (writeInvalidate H (bareBox s) a b) ≡ bareOutcome (writeInvalidate H s a b)
-  unfolding writeInvalidate
-  invalidate-bare s a b =
-      let bs : BlockRows F = record { free = s .free; used = s .used } in
-      let rows = withoutAddress a (s .rows) in
-      let w = without-bare a (s .rows) in
-      let d = ap₂ (λ x o. dropped H x bs o) w (row-bare a (s .rows)) ∙ dropped-bare H rows bs (rowOf a (s .rows)) in
-      let v = ap bares w ∙ bare-twice rows in
-      λ j. record {
-        box = record { rows = v j; free = d j .free; used = d j .used; flash = s .flash; disk = [] };
-        word = sameOrNew H s b;
-        block = none;
-        flashWrites = 0;
-        primaryWrites = 0;
-      }
-
-module _ {F X S : Type 0} (H : Hashing F X) (pol : Policy F X S) (bl : Blind pol) (n : ℕ) where
+module _ {F X S : Type 0} (H : Hashing F X) (pol : Policy F X S) (bl : Blind false pol) (n : ℕ) where
   -- steps for requests that are the same but for dirty value and seat
-  runs-same : (k l : S) (s u : Box F X) (q r : Request F X) → k ≡ l → bareBox s ≡ bareBox u → bareRequest q ≡ bareRequest r
-      → bareRan (pol .run k s q) ≡ bareRan (pol .run l u r)
+  runs-same : (k l : S) (s u : Box F X) (q r : Request F X) → k ≡ l → bareBox false s ≡ bareBox false u → bareRequest false q ≡ bareRequest false r
+      → bareRan false (pol .run k s q) ≡ bareRan false (pol .run l u r)
   runs-same k l s u q r e b f = sym (bl .runs k s q) ∙ (λ j. pol .run (e j) (b j) (f j)) ∙ bl .runs l u r
 
-  answered-same : (w v : Word) (x y : Option X) (more : ℕ) (k l : S) (s u : Box F X) (q r : Request F X) → w ≡ v → x ≡ y → k ≡ l → bareBox s ≡ bareBox u
-      → bareRequest q ≡ bareRequest r
-      → bareServed (answeredBy H pol w x more (pol .run k s q)) ≡ bareServed (answeredBy H (capped n pol) v y more (pol .run l u r))
+  answered-same : (w v : Word) (x y : Option X) (more : ℕ) (k l : S) (s u : Box F X) (q r : Request F X) → w ≡ v → x ≡ y → k ≡ l
+      → bareBox false s ≡ bareBox false u → bareRequest false q ≡ bareRequest false r
+      → bareServed false (answeredBy H pol w x more (pol .run k s q)) ≡ bareServed false (answeredBy H (capped n pol) v y more (pol .run l u r))
   unfolding answeredBy answer
   answered-same w v x y more k l s u q r ew ex e b f =
       let t = runs-same k l s u q r e b f in
@@ -295,20 +264,20 @@ module _ {F X S : Type 0} (H : Hashing F X) (pol : Policy F X S) (bl : Blind pol
         outcome = record { box = t j .stepped .box; word = ew j; block = ex j; flashWrites = t j .stepped .flashWrites; primaryWrites = 0 };
       }
 
-  module _ (k l : S) (s u : Box F X) (e : k ≡ l) (b : bareBox s ≡ bareBox u) where
-    row-found : (a : ℕ) → Option·map bare (rowWithBlock H s a) ≡ Option·map bare (rowWithBlock H u a)
-    row-found a = sym (row-with-block-bare H s a) ∙ ap (λ x. rowWithBlock H x a) b ∙ row-with-block-bare H u a
+  module _ (k l : S) (s u : Box F X) (e : k ≡ l) (b : bareBox false s ≡ bareBox false u) where
+    row-found : (a : ℕ) → Option·map (bare false) (rowWithBlock H s a) ≡ Option·map (bare false) (rowWithBlock H u a)
+    row-found a = sym (row-with-block-bare false H s a) ∙ ap (λ x. rowWithBlock H x a) b ∙ row-with-block-bare false H u a
 
     -- the cached blocks of fingerprints that are the same
-    same-block : (q r : AddressRow F) → _≡_ {A = Option (AddressRow F)} (some (bare q)) (some (bare r))
+    same-block : (q r : AddressRow F) → _≡_ {A = Option (AddressRow F)} (some (bare false q)) (some (bare false r))
         → (q .fingerprint ≡ r .fingerprint) × (blockOf H (q .fingerprint) (s .used) (s .flash) ≡ blockOf H (r .fingerprint) (u .used) (u .flash))
     same-block q r f =
-        let g : q .fingerprint ≡ r .fingerprint = ap (λ (x : AddressRow F). x .fingerprint) (Option·some-injective (bare q) (bare r) f) in
+        let g : q .fingerprint ≡ r .fingerprint = ap (λ (x : AddressRow F). x .fingerprint) (Option·some-injective (bare false q) (bare false r) f) in
         (g, λ j. blockOf H (g j) (b j .used) (b j .flash))
 
     -- a read where a miss of both takes the same block
-    read-same : (a : ℕ) (x y : X) (o p : Option (AddressRow F)) → Option·map bare o ≡ Option·map bare p → (o ≡ none → p ≡ none → x ≡ y)
-        → bareServed (readBy H pol k s a x o) ≡ bareServed (readBy H (capped n pol) l u a y p)
+    read-same : (a : ℕ) (x y : X) (o p : Option (AddressRow F)) → Option·map (bare false) o ≡ Option·map (bare false) p → (o ≡ none → p ≡ none → x ≡ y)
+        → bareServed false (readBy H pol k s a x o) ≡ bareServed false (readBy H (capped n pol) l u a y p)
     unfolding readBy
     read-same a x y none none f d =
         let v = d refl refl in
@@ -316,8 +285,8 @@ module _ {F X S : Type 0} (H : Hashing F X) (pol : Policy F X S) (bl : Blind pol
         (record { address = a; fingerprint = H .hash x; block = x; dirty = false; seat = seatIn (rowOf a (s .rows)) })
         (record { address = a; fingerprint = H .hash y; block = y; dirty = false; seat = seatIn (rowOf a (u .rows)) })
         refl (ap {B = Option X} some v) e b (λ j. record { address = a; fingerprint = H .hash (v j); block = v j; dirty = false; seat = noSeat })
-    read-same a x y none (some r) f d = absurd (Option·none-ne-some (bare r) f)
-    read-same a x y (some q) none f d = absurd (Option·some-ne-none (bare q) f)
+    read-same a x y none (some r) f d = absurd (Option·none-ne-some (bare false r) f)
+    read-same a x y (some q) none f d = absurd (Option·some-ne-none (bare false q) f)
     read-same a x y (some q) (some r) f d =
         let z = same-block q r f in
         let g = z .0 in
@@ -339,14 +308,15 @@ module _ {F X S : Type 0} (H : Hashing F X) (pol : Policy F X S) (bl : Blind pol
         })
         refl (ap {B = Option X} some v) e b (λ j. record { address = a; fingerprint = g j; block = v j; dirty = false; seat = noSeat })
 
-    look-same : (a : ℕ) (o p : Option (AddressRow F)) → Option·map bare o ≡ Option·map bare p → (o ≡ none → p ≡ none → at H (s .disk) a ≡ at H (u .disk) a)
-        → bareOutcome (lookAs H s a o) ≡ bareOutcome (lookAs H u a p)
+    look-same : (a : ℕ) (o p : Option (AddressRow F)) → Option·map (bare false) o ≡ Option·map (bare false) p
+        → (o ≡ none → p ≡ none → at H (s .disk) a ≡ at H (u .disk) a)
+        → bareOutcome false (lookAs H s a o) ≡ bareOutcome false (lookAs H u a p)
     unfolding lookAs
     look-same a none none f d =
         let v = d refl refl in
         λ j. record { box = b j; word = fromDisk; block = some (v j); flashWrites = 0; primaryWrites = 0 }
-    look-same a none (some r) f d = absurd (Option·none-ne-some (bare r) f)
-    look-same a (some q) none f d = absurd (Option·some-ne-none (bare q) f)
+    look-same a none (some r) f d = absurd (Option·none-ne-some (bare false r) f)
+    look-same a (some q) none f d = absurd (Option·some-ne-none (bare false q) f)
     look-same a (some q) (some r) f d =
         let v = (same-block q r f) .1 in
         λ j. record { box = b j; word = fromCache; block = some (v j); flashWrites = 0; primaryWrites = 0 }
@@ -356,7 +326,7 @@ module _ {F X S : Type 0} (H : Hashing F X) (pol : Policy F X S) (bl : Blind pol
 
     -- every call, where the disks are the same at what both miss
     serve-same : (c : Call X) → ((a : ℕ) → rowWithBlock H s a ≡ none → rowWithBlock H u a ≡ none → at H (s .disk) a ≡ at H (u .disk) a)
-        → bareServed (serveBy H pol k s c) ≡ bareServed (serveBy H (capped n pol) l u c)
+        → bareServed false (serveBy H pol k s c) ≡ bareServed false (serveBy H (capped n pol) l u c)
     unfolding serveBy throughBy backBy
     serve-same (read a) d = read-same a (at H (s .disk) a) (at H (u .disk) a) (rowWithBlock H s a) (rowWithBlock H u a) (row-found a) (d a)
     serve-same (through a x z) d =
@@ -373,13 +343,13 @@ module _ {F X S : Type 0} (H : Hashing F X) (pol : Policy F X S) (bl : Blind pol
         ∙ answered-same (sameOrNew H s x) (sameOrNew H u x) none none 0 k l s u q r (word-same x) refl e b refl
         ∙ sym (λ j. record { kept = p .kept; outcome = w j })
     serve-same (invalidate a x z) d =
-        let v = sym (invalidate-bare H s a x) ∙ ap (λ t. bareOutcome (writeInvalidate H t a x)) b ∙ invalidate-bare H u a x in
+        let v = sym (invalidate-bare false H s a x) ∙ ap (λ t. keptOutcome false (writeInvalidate H t a x)) b ∙ invalidate-bare false H u a x in
         λ j. record { kept = pol .leave a (e j); outcome = v j }
     serve-same (look a) d =
         let v = look-same a (rowWithBlock H s a) (rowWithBlock H u a) (row-found a) (d a) in
         λ j. record { kept = e j; outcome = v j }
     serve-same (flush i) d =
-        let v : bareOutcome (flushed H i s) ≡ bareOutcome (flushed H i u) = flushed-bare H i s
+        let v : bareOutcome false (flushed H i s) ≡ bareOutcome false (flushed H i u) = flushed-bare H i s
         ∙ ap {B = Outcome F X} (λ t. record { box = t; word = done; block = none; flashWrites = 0; primaryWrites = 0 }) b
         ∙ sym (flushed-bare H i u) in
         λ j. record { kept = e j; outcome = v j }
@@ -391,7 +361,7 @@ module _ {F X S : Type 0} (H : Hashing F X) (N : Numbers) (pol : Policy F X S) (
   -- the same but for what the limit changes, and both show the same blocks
   pub record Beside (k l : S) (s u : Box F X) : Type 0 where
     pub kept : k ≡ l
-    pub boxes : bareBox s ≡ bareBox u
+    pub boxes : bareBox false s ≡ bareBox false u
     pub inv : Inv k s
     pub inv′ : Inv l u
     pub shown : List X
@@ -417,7 +387,7 @@ module _ {F X S : Type 0} (H : Hashing F X) (N : Numbers) (pol : Policy F X S) (
 
   -- what two calls answer is the same, and they leave boxes beside each other
   pub record AsOne (o p : Served F X S) : Type 0 where
-    pub same : bareServed o ≡ bareServed p
+    pub same : bareServed false o ≡ bareServed false p
     pub beside : Beside (o .kept) (p .kept) (o .outcome .box) (p .outcome .box)
 
   module _ (k l : S) (s u : Box F X) (y : Beside k l s u) where
@@ -468,7 +438,7 @@ module _ {F X S : Type 0} (H : Hashing F X) (N : Numbers) (pol : Policy F X S) (
   -- ---- folder reads
 
   pub record FolderBeside (t v : FolderBy F X S) : Type 0 where
-    pub same : bareFolder t ≡ bareFolder v
+    pub same : bareFolder false t ≡ bareFolder false v
     pub beside : Beside (t .kept) (v .kept) (t .batched .box) (v .batched .box)
 
   source-same : (s u : Box F X) (a : ℕ) (o : Option X) → at H (s .disk) a ≡ at H (u .disk) a → source H s a o ≡ source H u a o

@@ -6,9 +6,7 @@ pub mod ArcAsWithoutLaws
 pub mod LimitM
 pub mod Beside
 -- lemmas
-pub mod Bare
 pub mod Sees
 pub mod Until
 pub mod Unlimited
-pub mod ArcBlind
 pub mod ArcSees

@@ -2,7 +2,7 @@
 -- those over its policy; then the desk sees the same of two runs.
 -- Assumes nothing.
 use mathlib.Core.Path.{_≡_, refl, sym, ap, ap₂, _∙_, subst₂}
-use mathlib.Core.Bool.{Bool, _&&_, _||_, cond}
+use mathlib.Core.Bool.{Bool, true, _&&_, _||_, cond}
 use mathlib.Core.List.{List, [], _∷_, _++_, map}
 use mathlib.Core.Logic.{_≢_}
 use Prim.Native.Nat.{ℕ, _-_, _*_}
@@ -21,8 +21,9 @@ use Rattle.paper.specs.BatchLent.{Asking, one, many, report, badCount, anyOutsi
 use Rattle.arc.specs.Policy.{Policy, Served, serveBy}
 use Rattle.arc.specs.Folder as Folder
 use Rattle.arc.specs.Folder.{FolderBy}
+use Rattle.blind.specs.Blind.{bare, bares, bareBox, bareServed, bareFolder, Blind}
 use Rattle.seats.specs.TwoRuns.{bareAsk, bareAsking, Told, single, folder, number, Runs, Seen, seen, deskSees}
-use Rattle.seats.specs.Blind.{bare, bares, bareBox, bareServed, bareFolder, bareCall, Blind, counted-bare, serve-bare, folder-bare}
+use Rattle.seats.specs.BareCalls.{bareCall, counted-bare, serve-bare, folder-bare}
 
 -- ---- a call and the same call without its seat
 
@@ -47,13 +48,13 @@ asking-twice (many l buffer) = refl
 asking-twice (report w lent) = refl
 
 -- the desk's report has nothing of the seats
-rows-bare : {F : Type 0} (rows : List (AddressRow F)) → map (reportRow desk) (bares rows) ≡ map (reportRow desk) rows
+rows-bare : {F : Type 0} (rows : List (AddressRow F)) → map (reportRow desk) (bares true rows) ≡ map (reportRow desk) rows
 rows-bare [] = refl
 rows-bare (r ∷ rs) = ap {B = List (List ℕ)} (λ l. reportRow desk r ∷ l) (rows-bare rs)
 
-desk-bare : {F : Type 0} (m : ℕ) (rows : List (AddressRow F)) → reportOf desk m (bares rows) ≡ reportOf desk m rows
+desk-bare : {F : Type 0} (m : ℕ) (rows : List (AddressRow F)) → reportOf desk m (bares true rows) ≡ reportOf desk m rows
 unfolding reportOf
-desk-bare m rows = ap₂ (λ l n. flat l ++ zeros ((m - n) * 5)) (rows-bare rows) (length-map rows bare)
+desk-bare m rows = ap₂ (λ l n. flat l ++ zeros ((m - n) * 5)) (rows-bare rows) (length-map rows (bare true))
 
 -- ---- calls over a policy
 
@@ -64,7 +65,7 @@ pub record State (F X S : Type 0) : Type 0 where
   pub counters : Counters
 
 abbrev bareState : {F X S : Type 0} → State F X S → State F X S
-bareState s = record { kept = s .kept; box = bareBox (s .box); counters = s .counters }
+bareState s = record { kept = s .kept; box = bareBox true (s .box); counters = s .counters }
 
 -- what a call tells: refused, and by its outcome
 abbrev pub refusedTold : ℕ → Asking → Told
@@ -159,12 +160,12 @@ module _ {S : Type 0} (N : Numbers) (pol : Policy (Fixed 32) (Fixed (N .B)) S) w
     pub reports : (t : M) (lent : List ℕ)
         → runs .deskReport t lent ≡ cond (eqb (number t (report desk lent)) 0) (reportOf desk (N .m) ((state t) .box .rows)) lent
 
-  module _ (bl : Blind pol) where
-    served-bare : (s : Held) (q : Ask) → servedBy (bareState s) (bareAsk q) ≡ bareServed (servedBy s q)
+  module _ (bl : Blind true pol) where
+    served-bare : (s : Held) (q : Ask) → servedBy (bareState s) (bareAsk q) ≡ bareServed true (servedBy s q)
     served-bare s q =
-        ap (serveBy H pol (s .kept) (bareBox (s .box))) (ask-bare q .call (N .B)) ∙ serve-bare H pol bl (s .kept) (s .box) (callOf (N .B) q)
+        ap (serveBy H pol (s .kept) (bareBox true (s .box))) (ask-bare q .call (N .B)) ∙ serve-bare H pol bl (s .kept) (s .box) (callOf (N .B) q)
 
-    files-bare : (s : Held) (l : List ℕ) → folderBy (bareState s) l ≡ bareFolder (folderBy s l)
+    files-bare : (s : Held) (l : List ℕ) → folderBy (bareState s) l ≡ bareFolder true (folderBy s l)
     files-bare s l = folder-bare H pol bl (record { kept = s .kept; batched = start (s .box) (s .counters) }) l
 
     outcome-bare : (q : Ask) (o : Outcome (Fixed 32) (Fixed (N .B))) → outcomeTold (bareAsk q) o ≡ outcomeTold q o
@@ -181,7 +182,7 @@ module _ {S : Type 0} (N : Numbers) (pol : Policy (Fixed 32) (Fixed (N .B)) S) w
         let c = ask-bare q .call (N .B) in
         let k = counted-bare H (s .counters) (callOf (N .B) q) ((servedBy s q) .outcome) in
         (λ i. record { kept = o i .kept; box = o i .outcome .box; counters = counted (s .counters) (c i) (o i .outcome) })
-        ∙ (λ i. record { kept = (servedBy s q) .kept; box = bareBox ((servedBy s q) .outcome .box); counters = k i })
+        ∙ (λ i. record { kept = (servedBy s q) .kept; box = bareBox true ((servedBy s q) .outcome .box); counters = k i })
     state-bare s (many l buffer) =
         let r = files-bare s l in
         λ i. record { kept = r i .kept; box = r i .batched .box; counters = r i .batched .counters }

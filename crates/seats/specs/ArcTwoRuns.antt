@@ -1,6 +1,6 @@
 -- The theorem of two runs for boxes that run D-ARC.
 use mathlib.Core.Path.{_≡_, refl, sym, ap, ap₂, _∙_}
-use mathlib.Core.Bool.{_||_}
+use mathlib.Core.Bool.{true, _||_}
 use mathlib.Core.List.{List, map}
 use mathlib.Core.Logic.{_≢_}
 use Prim.Native.Nat.{ℕ}
@@ -17,7 +17,7 @@ use Rattle.arc.specs.ArcDemand.{listsOf, boxOf, arcNumber, arcNext}
 use Rattle.arc.specs.ArcDemandLaws.{ArcPasses, no-13, served-is, arc-keeps, served-box, served-lists, served-counters, served-passes}
 use Rattle.arc.specs.ArcDemandLaws.{folder-served, arc-folder-keeps, folder-box, folder-lists, folder-counters, folder-passes}
 use Rattle.seats.specs.TwoRuns.{bareAsk, bareAsking, single, folder, number, arcTells, arcRuns, deskSees}
-use Rattle.seats.specs.ArcBlind.{arc-blind}
+use Rattle.blind.specs.ArcBlind.{arc-blind}
 use Rattle.seats.specs.Alike.{State, Tests, numberBy, refusedTold, servedTold, servedState, Serves, runs-alike}
 use Rattle.seats.specs.TwoRunsLaws.{same-buffers}
 
@@ -114,4 +114,4 @@ module _ (Z : Sizes) where
 pub arc-two-runs : (Z : Sizes) (lent : List ℕ) (t : ArcLent) (qs rs : List Asking) → map bareAsking qs ≡ map bareAsking rs
     → deskSees (arcRuns Z) lent t qs ≡ deskSees (arcRuns Z) lent t rs
 arc-two-runs Z lent t qs rs e =
-    runs-alike (baseNumbers Z) (arc (labelled (baseNumbers Z)) Z) (arc-blind (labelled (baseNumbers Z)) Z) (arcRuns Z) (arc-runs Z) lent t qs rs e
+    runs-alike (baseNumbers Z) (arc (labelled (baseNumbers Z)) Z) (arc-blind true (labelled (baseNumbers Z)) Z) (arcRuns Z) (arc-runs Z) lent t qs rs e

@@ -1,6 +1,6 @@
 -- The theorem of two runs for boxes that run D-LRU: what the desk sees is the same, whatever seats the calls carry.
 use mathlib.Core.Path.{_≡_, refl, sym, ap, _∙_, subst}
-use mathlib.Core.Bool.{false}
+use mathlib.Core.Bool.{true, false}
 use mathlib.Core.List.{List, map}
 use mathlib.Core.Logic.{_≢_}
 use Prim.Native.Nat.{ℕ}
@@ -21,7 +21,7 @@ use Rattle.arc.specs.Policy.{lru}
 use Rattle.arc.specs.LruServes.{lru-serves}
 use Rattle.arc.specs.FolderLaws.{lru-folder}
 use Rattle.seats.specs.TwoRuns.{bareAsk, bareAsking, single, folder, number, lruTells, lruRuns, deskSees}
-use Rattle.seats.specs.Blind.{lru-blind}
+use Rattle.blind.specs.Blind.{lru-blind}
 use Rattle.seats.specs.Alike.{State, Tests, numberBy, refusedTold, outcomeTold, batchTold, servedTold, servedState, Serves, runs-alike}
 
 -- lent memory that passes has the same lengths
@@ -137,4 +137,4 @@ module _ (N : Numbers) where
 -- From any lent memory, whatever is refused
 pub two-runs : (N : Numbers) (lent : List ℕ) (t : Lent) (qs rs : List Asking) → map bareAsking qs ≡ map bareAsking rs
     → deskSees (lruRuns N) lent t qs ≡ deskSees (lruRuns N) lent t rs
-two-runs N lent t qs rs e = runs-alike N (lru (labelled N) N) (lru-blind (labelled N) N) (lruRuns N) (lru-runs N) lent t qs rs e
+two-runs N lent t qs rs e = runs-alike N (lru (labelled N) N) (lru-blind true (labelled N) N) (lruRuns N) (lru-runs N) lent t qs rs e
