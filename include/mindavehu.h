@@ -4,10 +4,12 @@
  * nothing and reads no clock: whatever a call needs and leaves is in the buffers below. Each call is proved to do what documents 01 and 02 say, on any bytes.
  *
  * The box: B bytes a block (64, 128, 256, 512, 1024, 2048 or 4096), P disk blocks (1 to 65536), at most m addresses held (1 to 1024),
- * d cached blocks (1 to 256). n is the number of addresses held now.
+ * d cached blocks (1 to 256), at most t addresses dirty after a call (1 to m): the limit. n is the number of addresses held now. An address is dirty while
+ * what was written back to it is only in the flash. Where a write back leaves more than t dirty, the oldest of them is copied to the disk and is clean then;
+ * a limit of m copies nothing for its sake. From an opening on, and until a 9, what is read, and whether it is a hit, is as without a limit.
  *
  * The buffers. Each is given as a pointer and a length in bytes:
- *   state      136            B, P, m, d, n, reads, hits, flash writes, primary writes: 8 bytes each, little-endian; then the label
+ *   state      144            B, P, m, d, n, reads, hits, flash writes, primary writes: 8 bytes each, little-endian; then the label; then t, as the others
  *   disk       P x B          block k starts at byte k x B
  *   flash      d x B          likewise
  *   addresses  m x 40         the address table; the library's own layout
@@ -22,15 +24,15 @@
  *   asked      count          the addresses, 1 to 64 of them; this length alone is a number of uint32_t, not of bytes
  *   buffer     count x B      the blocks read: block i of it is that at asked[i]
  *   answer     32             the hits, the flash writes, the primary writes and the fetches: 8 bytes each, little-endian
- * The call for an exam question takes no box: B, P, m and d as numbers, the label and the disk, and
+ * The call for an exam question takes no box: B, P, m, d and t as numbers, the label and the disk, and
  *   counts     72             how many lists have 0, 1, up to 8 hits: 8 bytes each, little-endian
  *
  * The result of each function is the number of a refusal, or MINDAVEHU_SERVED. A refused call changes no buffer, but for a refused
- * opening, which writes n = 0 and a label of zeros into the state, and a refused exam question, which writes nine counts of 0. A state that is not 136
+ * opening, which writes n = 0 and a label of zeros into the state, and a refused exam question, which writes nine counts of 0. A state that is not 144
  * bytes, or an answer that is not 24 (of the call for a list: not 32), gives MINDAVEHU_WRONG_LENGTH before anything else is looked at, and nothing at all
  * is changed.
- * Where several refusals apply, the first of 1, 2, 10, 3, 6, 7, 8, 9 is told. Only the call for a list has 10. Flush has no 3, look no 9, a report neither,
- * opening only 1 and 2, an exam question only 1, 2 and 17.
+ * Where several refusals apply, the first of 1, 12, 2, 10, 3, 6, 7, 8, 13, 9 is told. Only the call for a list has 10. Flush has no 3, look no 9, a report
+ * neither, opening only 1, 12 and 2, an exam question only 1, 12, 2 and 17.
  *
  * Seats. Each write is given the number of the seat that makes it, and a held address has the number of the seat that wrote it last; 0 where a read has
  * brought it and no seat has written it since. The office manager may be shown the manager's report, which has the seats. The desk may be shown the desk's
@@ -43,7 +45,7 @@
  *   - the buffers of one call do not overlap, unless both are const (so the label of an opening is not that in its own state);
  *   - nobody else reads or writes them while a call runs (a look and a report only read all but what they answer, so these may run beside each other);
  *   - between calls the buffers are kept as they were left. Other bytes do no harm to the program: a damaged table is refused with
- *     6, 7 or 8, and sound tables of another history are served as what they say.
+ *     6, 7, 8 or 13, and sound tables of another history are served as what they say.
  * The fingerprint of a block is SHA-256 over the box's label followed by the block. Blocks are told apart by it alone: two blocks with one fingerprint
  * are taken for the same block. Under different labels equal blocks have unrelated fingerprints; where that is not wanted, a label of zeros will do.
  *
@@ -56,7 +58,7 @@
  *     #include <string.h>
  *     #include "mindavehu.h"
  *
- *     enum { B = 64, P = 8, M = 3, D = 2 };
+ *     enum { B = 64, P = 8, M = 3, D = 2, T = 1 };
  *     static uint8_t disk[MINDAVEHU_DISK_LENGTH(B, P)], flash[MINDAVEHU_FLASH_LENGTH(B, D)], block[MINDAVEHU_BLOCK_LENGTH(B)];
  *     static uint8_t addresses[MINDAVEHU_ADDRESSES_LENGTH(M)], blocks[MINDAVEHU_BLOCKS_LENGTH(D)];
  *     static uint8_t manager[MINDAVEHU_MANAGER_REPORT_LENGTH(M)], desk[MINDAVEHU_DESK_REPORT_LENGTH(M)];
@@ -66,7 +68,7 @@
  *     {
  *         struct mindavehu_box box;
  *         mindavehu_box_lend(&box, disk, sizeof disk, flash, sizeof flash, addresses, sizeof addresses, blocks, sizeof blocks);
- *         if (mindavehu_box_open(&box, label, sizeof label, B, P, M, D) != MINDAVEHU_SERVED)
+ *         if (mindavehu_box_open(&box, label, sizeof label, B, P, M, D, T) != MINDAVEHU_SERVED)
  *             return 1;
  *         memset(block, 7, sizeof block);
  *         if (mindavehu_box_write_back(&box, 5, 17, block, sizeof block) != MINDAVEHU_SERVED)
@@ -109,6 +111,7 @@
  *         mindavehu_put(state, MINDAVEHU_P, 8);
  *         mindavehu_put(state, MINDAVEHU_M, 3);
  *         mindavehu_put(state, MINDAVEHU_D, 2);
+ *         mindavehu_put(state, MINDAVEHU_T, 3);
  *         if (mindavehu_open(state, sizeof state, label, sizeof label, disk, sizeof disk, flash, sizeof flash,
  *                            addresses, sizeof addresses, blocks, sizeof blocks) != MINDAVEHU_SERVED)
  *             return 1;
@@ -142,9 +145,10 @@ extern "C" {
 /* The version of this header and of the library that belongs to it. Version 1 had a state of 72 bytes without a label, and opened a box without one; in
  * version 2 the layout of the state is another: the label follows the nine numbers; version 2.1 has mindavehu_scores besides. In version 3 each of the
  * three writes takes a seat behind its address, the address table keeps the seats in two bytes of a row that were zero before, and there are two reports.
- * Boxes of version 2 are boxes of version 3 in which every seat is 0. */
-#define MINDAVEHU_VERSION "3.0.0"
-#define MINDAVEHU_VERSION_MAJOR 3
+ * Boxes of version 2 are boxes of version 3 in which every seat is 0. In version 4 the state has the limit behind the label, and mindavehu_box_open and
+ * mindavehu_scores take it behind d. A box of version 3, with m behind its 136 bytes, is one of version 4. */
+#define MINDAVEHU_VERSION "4.0.0"
+#define MINDAVEHU_VERSION_MAJOR 4
 #define MINDAVEHU_VERSION_MINOR 0
 #define MINDAVEHU_VERSION_PATCH 0
 
@@ -153,7 +157,7 @@ extern "C" {
 
 /* Lengths in bytes: of the state, of a label, of an answer, of the answer of the call for a list, of the counts of an exam question, of a row of either
  * table, and of the part of each held address in the manager's report and in the desk's. */
-#define MINDAVEHU_STATE 136
+#define MINDAVEHU_STATE 144
 #define MINDAVEHU_LABEL 64
 #define MINDAVEHU_ANSWER 24
 #define MINDAVEHU_MANY_ANSWER 32
@@ -190,6 +194,8 @@ extern "C" {
 #define MINDAVEHU_DIRTY_UNCACHED 8   /* a dirty address without its block */
 #define MINDAVEHU_COUNTER_FULL 9     /* a counter above 2 to the power 63 */
 #define MINDAVEHU_BAD_COUNT 10       /* a list of no address, or of more than 64 */
+#define MINDAVEHU_BAD_LIMIT 12       /* the limit t is not 1 to m */
+#define MINDAVEHU_TOO_DIRTY 13       /* more than t addresses are dirty */
 #define MINDAVEHU_TOO_LARGE 17       /* an exam question: P is above 4, B is not 64 or k is above 8 */
 
 /* The words of an answer. */
@@ -201,7 +207,7 @@ extern "C" {
 #define MINDAVEHU_DISK 6   /* a look: the part is of the disk */
 #define MINDAVEHU_DONE 7   /* a flush, whole or in parts */
 
-/* The fields of the state, by the byte where each starts. The last is no number but the MINDAVEHU_LABEL bytes of the label. */
+/* The fields of the state, by the byte where each starts. STATE_LABEL is no number but the MINDAVEHU_LABEL bytes of the label. */
 #define MINDAVEHU_B 0
 #define MINDAVEHU_P 8
 #define MINDAVEHU_M 16
@@ -212,6 +218,7 @@ extern "C" {
 #define MINDAVEHU_FLASH_WRITES 56
 #define MINDAVEHU_PRIMARY_WRITES 64
 #define MINDAVEHU_STATE_LABEL 72
+#define MINDAVEHU_T 136
 
 /* The fields of an answer; of a look's, START and LENGTH stand for the second and the third. The answer of the call for a list has no word: its
  * first field is MANY_HITS, and a fourth is added, FETCHES. */
@@ -271,6 +278,8 @@ static inline const char *mindavehu_refusal_text(uint32_t refusal)
     case MINDAVEHU_DIRTY_UNCACHED: return "a dirty address is without its block";
     case MINDAVEHU_COUNTER_FULL: return "a counter is above 2 to the power 63";
     case MINDAVEHU_BAD_COUNT: return "the list has no address, or more than 64";
+    case MINDAVEHU_BAD_LIMIT: return "the limit t is not 1 to m";
+    case MINDAVEHU_TOO_DIRTY: return "more than t addresses are dirty";
     case MINDAVEHU_TOO_LARGE: return "P is above 4, B is not 64 or k is above 8";
     default: return "no refusal has this number";
     }
@@ -290,8 +299,8 @@ static inline const char *mindavehu_word_name(uint64_t word)
     }
 }
 
-/* Opens a box of the B, P, m and d in the state under a label, which is copied into the state. Both tables become fresh, n and the counters 0; disk and
- * flash keep their bytes. Refused with 1 or 2: n = 0 and a label of zeros are written, and nothing else. */
+/* Opens a box of the B, P, m, d and t in the state under a label, which is copied into the state. Both tables become fresh, n and the counters 0; disk and
+ * flash keep their bytes. Refused with 1, 12 or 2: n = 0 and a label of zeros are written, and nothing else. */
 uint32_t mindavehu_open(uint8_t *state, size_t state_length,
                         const uint8_t *label, size_t label_length,
                         const uint8_t *disk, size_t disk_length,
@@ -332,8 +341,10 @@ uint32_t mindavehu_write_through(uint8_t *state, size_t state_length, uint32_t a
                                  const uint8_t *block, size_t block_length,
                                  uint8_t *answer, size_t answer_length);
 
-/* Write back: `block` goes into the cache, and to the disk when it leaves the cache or at a flush. An address that is held, clean,
- * with the same content stays clean, and nothing is copied for it later. Answers SAME or NEW. The address has the call's seat then, clean or not. */
+/* Write back: `block` goes into the cache, and to the disk when it leaves the cache or at a flush, or when it is the oldest of more than t dirty ones. An
+ * address that is held, clean, with the same content stays clean, and nothing is copied for it later. Where more than t are dirty after it, the block of the
+ * oldest dirty address is copied to the disk, one more primary write of this answer. Answers SAME or NEW. The address has the call's seat then, clean or not.
+ */
 uint32_t mindavehu_write_back(uint8_t *state, size_t state_length, uint32_t address, uint16_t seat,
                               uint8_t *disk, size_t disk_length,
                               uint8_t *flash, size_t flash_length,
@@ -398,9 +409,9 @@ uint32_t mindavehu_desk_report(const uint8_t *state, size_t state_length,
 
 /* How hard an exam question is: counts, over all lists of k reads (k from 0 to 8) from a fresh box of these numbers and this label over the disk, how many
  * have 0, 1, up to 8 hits. Count h starts at byte 8 x h of `counts` (mindavehu_get(counts, 8 * h)); those beyond k are 0, and their total is P to the power k.
- * Refused with 1, 2 or 17: `counts`, where it has its 72 bytes, gets nine counts of 0; with another length, which gives 2 unless 1 comes first, it is left
- * as it is. B is to be 64 and P at most 4. */
-uint32_t mindavehu_scores(size_t B, size_t P, size_t m, size_t d,
+ * Refused with 1, 12, 2 or 17: `counts`, where it has its 72 bytes, gets nine counts of 0; with another length, which gives 2 unless 1 or 12 comes first, it
+ * is left as it is. B is to be 64 and P at most 4. The limit changes no count. */
+uint32_t mindavehu_scores(size_t B, size_t P, size_t m, size_t d, size_t t,
                           const uint8_t *label, size_t label_length,
                           const uint8_t *disk, size_t disk_length,
                           size_t k, uint8_t *counts, size_t counts_length);
@@ -433,12 +444,13 @@ static inline void mindavehu_box_lend(struct mindavehu_box *box, uint8_t *disk, 
 #define MINDAVEHU_BOX_ANSWER box->answer, sizeof box->answer
 
 static inline uint32_t mindavehu_box_open(struct mindavehu_box *box, const uint8_t *label, size_t label_length,
-                                          uint64_t B, uint64_t P, uint64_t m, uint64_t d)
+                                          uint64_t B, uint64_t P, uint64_t m, uint64_t d, uint64_t t)
 {
     mindavehu_put(box->state, MINDAVEHU_B, B);
     mindavehu_put(box->state, MINDAVEHU_P, P);
     mindavehu_put(box->state, MINDAVEHU_M, m);
     mindavehu_put(box->state, MINDAVEHU_D, d);
+    mindavehu_put(box->state, MINDAVEHU_T, t);
     return mindavehu_open(MINDAVEHU_BOX_STATE, label, label_length, MINDAVEHU_BOX_MEMORY);
 }
 

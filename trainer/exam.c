@@ -51,7 +51,7 @@ static void fail(int status, const char *text, const char *word)
     exit(status);
 }
 
-static uint32_t ask(void) { return mindavehu_scores(B, P, m, d, label, sizeof label, disk, disk_length, k, counts, sizeof counts); }
+static uint32_t ask(void) { return mindavehu_scores(B, P, m, d, m, label, sizeof label, disk, disk_length, k, counts, sizeof counts); }
 
 static size_t count_of(size_t hits) { return (size_t)mindavehu_get(counts, 8 * hits); }
 
@@ -183,7 +183,7 @@ static void print_key(const uint32_t *list)
     size_t hits = 0;
     mindavehu_box_lend(&box, disk, disk_length, flash, MINDAVEHU_FLASH_LENGTH(B, d), addresses, MINDAVEHU_ADDRESSES_LENGTH(m), blocks,
                        MINDAVEHU_BLOCKS_LENGTH(d));
-    if (mindavehu_box_open(&box, label, sizeof label, B, P, m, d))
+    if (mindavehu_box_open(&box, label, sizeof label, B, P, m, d, m))
         fail(1, "the engine opens no box of these numbers, which it is proved to do%s", "");
     printf("   ");
     for (size_t at = 0; at < k; at++)

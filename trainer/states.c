@@ -35,6 +35,9 @@
  *         manager: 1* seat 7
  *         desk: 1*
  *
+ * With --limit T, a decimal of at most five digits, the box has the limit T: after a write back at most T addresses are dirty. A limit outside 1 to m is a
+ * refused line 1, `0 refused 12`. Without it the limit is m, as in a replay, and nothing is copied for its sake.
+ *
  * With --folder ADDRESSES (decimals with commas between them; an empty word for none), the folder of these addresses is opened after the list, twice
  * from the same box: with one call, and read by read. Both ways are printed, with the content of each block read, and whether they leave the same:
  *
@@ -84,6 +87,10 @@ static uint8_t disk[MOST_BYTES], flash[MOST_BYTES], block[MOST_B];
 static uint8_t addresses[MOST_M * MINDAVEHU_ROW], blocks[MOST_D * MINDAVEHU_ROW];
 static size_t B, P, m, d;
 static int full, parts, seats, explains, counting;
+
+/* The limit, where one is given. */
+static int has_limit;
+static uint32_t limit;
 
 /* A replay's label is all zeros. */
 static const uint8_t label[MINDAVEHU_LABEL] = {0};
@@ -276,6 +283,7 @@ static uint32_t open_box(const uint32_t numbers[4])
     for (int k = 0; k < 4; k++)
         mindavehu_put(state, fields[k], numbers[k]);
     B = numbers[0], P = numbers[1], m = numbers[2], d = numbers[3];
+    mindavehu_put(state, MINDAVEHU_T, has_limit ? limit : m);
     if (P <= MOST_P && P * B <= MOST_BYTES && d * B <= MOST_BYTES && m <= MOST_M && d <= MOST_D) {
         for (size_t k = 0; k < P; k++)
             memset(disk + k * B, (int)first_content(k), B);
@@ -879,29 +887,44 @@ static int take_numbers(const char *word, uint32_t *numbers, size_t *count, size
 
 static int is_option(int count, char **words, int place, const char *text) { return place < count && strcmp(words[place], text) == 0; }
 
-int main(int count, char **words)
+/* Takes the option of the command and its word. Gives 0, and says why, where they are not of the form. */
+static int take_options(int count, char **words)
 {
+    size_t limits = 0;
     full = is_option(count, words, 1, "--full");
     parts = is_option(count, words, 1, "--parts");
     seats = is_option(count, words, 1, "--seats");
     explains = is_option(count, words, full ? 2 : 1, "--explain");
     counting = is_option(count, words, 1, "--counts");
     has_folder = is_option(count, words, 1, "--folder") && count == 3;
+    has_limit = is_option(count, words, 1, "--limit") && count == 3;
     if (counting && count <= 3) {
         if (count == 3 && !take_numbers(words[2], given, &given_count, MOST_P, 255)) {
             fprintf(stderr, "states: --counts takes at most %d contents from 0 to 255 with commas between them, such as 0,7,7: %s\n", MOST_P, words[2]);
-            return 2;
+            return 0;
         }
     } else if (has_folder) {
         if (!take_numbers(words[2], folder, &folder_count, MOST_FOLDER, 99999)) {
             fprintf(stderr, "states: --folder takes at most %d addresses with commas between them, such as 2,5,2: %s\n", MOST_FOLDER, words[2]);
-            return 2;
+            return 0;
+        }
+    } else if (has_limit) {
+        if (!take_numbers(words[2], &limit, &limits, 1, 99999) || limits == 0) {
+            fprintf(stderr, "states: --limit takes one number of at most five digits, such as 2: %s\n", words[2]);
+            return 0;
         }
     } else if (count > 1 + full + parts + seats + explains) {
-        fprintf(stderr, "states: unknown option %s; there are --full, --parts, --seats, --explain, --full --explain, --counts and --folder ADDRESSES\n",
-                words[1]);
-        return 2;
+        fprintf(stderr, "states: unknown option %s; there are --full, --parts, --seats, --explain, --full --explain, --counts, --limit T and "
+                "--folder ADDRESSES\n", words[1]);
+        return 0;
     }
+    return 1;
+}
+
+int main(int count, char **words)
+{
+    if (!take_options(count, words))
+        return 2;
     replay();
     if (ferror(stdin)) {
         fprintf(stderr, "states: the list cannot be read: %s\n", strerror(errno));

@@ -106,7 +106,8 @@ static void *desk_reports(void *unused)
 static void *asks(void *unused)
 {
     static uint8_t counts[MINDAVEHU_COUNTS];
-    mindavehu_scores(MINDAVEHU_SCORES_B, MINDAVEHU_SCORES_P, 3, 2, label, sizeof label, disk, MINDAVEHU_DISK_LENGTH(MINDAVEHU_SCORES_B, MINDAVEHU_SCORES_P),
+    mindavehu_scores(MINDAVEHU_SCORES_B, MINDAVEHU_SCORES_P, 3, 2, 3, label, sizeof label, disk,
+                     MINDAVEHU_DISK_LENGTH(MINDAVEHU_SCORES_B, MINDAVEHU_SCORES_P),
                      MINDAVEHU_SCORES_K, counts, sizeof counts);
     return unused;
 }
@@ -144,6 +145,8 @@ int main(void)
     mindavehu_put(state, MINDAVEHU_P, P);
     mindavehu_put(state, MINDAVEHU_M, M);
     mindavehu_put(state, MINDAVEHU_D, D);
+    /* Above it a write back copies a block more. */
+    mindavehu_put(state, MINDAVEHU_T, 100);
     puts("Stack of each call, in bytes, less that of an empty thread:");
     for (size_t k = 0; k < sizeof calls / sizeof *calls; k++)
         printf("%-20s %8ld\n", calls[k].name, used(calls[k].call) - none);

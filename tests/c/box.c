@@ -7,7 +7,7 @@
 #include "mindavehu.h"
 #include "expect.h"
 
-enum { B = 128, P = 16, M = 5, D = 3, COUNT = 4, CALLS = 5000, KINDS = 10 };
+enum { B = 128, P = 16, M = 5, D = 3, T = 2, COUNT = 4, CALLS = 5000, KINDS = 10 };
 
 /* The memory of a box, the bytes behind the state and the answers included. */
 struct memory {
@@ -105,7 +105,8 @@ static void the_same_calls(void)
     mindavehu_box_lend(&box, one.disk, sizeof one.disk, one.flash, sizeof one.flash, one.addresses, sizeof one.addresses, one.blocks, sizeof one.blocks);
     for (size_t k = 0; k < 4; k++)
         mindavehu_put(other.state, 8 * k, numbers[k]);
-    EXPECT(mindavehu_box_open(&box, label, sizeof label, B, P, M, D) == MINDAVEHU_SERVED);
+    mindavehu_put(other.state, MINDAVEHU_T, T);
+    EXPECT(mindavehu_box_open(&box, label, sizeof label, B, P, M, D, T) == MINDAVEHU_SERVED);
     EXPECT(mindavehu_open(STATE, label, sizeof label, MEMORY) == MINDAVEHU_SERVED);
     EXPECT(memcmp(box.state + MINDAVEHU_STATE_LABEL, label, sizeof label) == 0);
     expect_same();
@@ -137,7 +138,7 @@ static void the_lengths(void)
                 for (int i = 0; i < 5; i++)
                     given[i] = lengths[i] + (i == wrong ? (more ? (size_t)1 : (size_t)-1) : 0);
                 mindavehu_box_lend(&box, bytes[0], given[0], bytes[1], given[1], bytes[2], given[2], bytes[3], given[3]);
-                uint32_t refusal = mindavehu_box_open(&box, bytes[4], given[4], boxes[k].B, boxes[k].P, boxes[k].m, boxes[k].d);
+                uint32_t refusal = mindavehu_box_open(&box, bytes[4], given[4], boxes[k].B, boxes[k].P, boxes[k].m, boxes[k].d, boxes[k].m);
                 EXPECT(refusal == (wrong == 5 ? MINDAVEHU_SERVED : MINDAVEHU_WRONG_LENGTH));
             }
     }
@@ -150,14 +151,16 @@ static void an_exam_question(void)
     static uint8_t bytes[2 * MINDAVEHU_SCORES_B], counts[MINDAVEHU_COUNTS + 1];
     bytes[0] = 1;
     memset(counts, 7, sizeof counts);
-    EXPECT(mindavehu_scores(64, 2, 1, 1, label, sizeof label, bytes, sizeof bytes, 2, counts, MINDAVEHU_COUNTS) == MINDAVEHU_SERVED);
+    EXPECT(mindavehu_scores(64, 2, 1, 1, 1, label, sizeof label, bytes, sizeof bytes, 2, counts, MINDAVEHU_COUNTS) == MINDAVEHU_SERVED);
     for (size_t h = 0; h <= MINDAVEHU_SCORES_K; h++)
         EXPECT(mindavehu_get(counts, 8 * h) == (h < 2 ? 2 : 0));
-    EXPECT(mindavehu_scores(64, 2, 1, 1, label, sizeof label, bytes, sizeof bytes, 9, counts, MINDAVEHU_COUNTS) == MINDAVEHU_TOO_LARGE);
+    EXPECT(mindavehu_scores(64, 2, 1, 1, 1, label, sizeof label, bytes, sizeof bytes, 9, counts, MINDAVEHU_COUNTS) == MINDAVEHU_TOO_LARGE);
     EXPECT(mindavehu_get(counts, 0) == 0 && counts[MINDAVEHU_COUNTS] == 7);
     memset(counts, 7, sizeof counts);
-    EXPECT(mindavehu_scores(64, 2, 1, 1, label, sizeof label, bytes, sizeof bytes, 2, counts, sizeof counts) == MINDAVEHU_WRONG_LENGTH);
-    EXPECT(mindavehu_scores(64, 2, 0, 1, label, sizeof label, bytes, sizeof bytes, 2, counts, sizeof counts) == MINDAVEHU_OUTSIDE);
+    EXPECT(mindavehu_scores(64, 2, 1, 1, 1, label, sizeof label, bytes, sizeof bytes, 2, counts, sizeof counts) == MINDAVEHU_WRONG_LENGTH);
+    EXPECT(mindavehu_scores(64, 2, 1, 1, 0, label, sizeof label, bytes, sizeof bytes, 9, counts, sizeof counts) == MINDAVEHU_BAD_LIMIT);
+    EXPECT(mindavehu_scores(64, 2, 1, 1, 2, label, sizeof label, bytes, sizeof bytes, 2, counts, sizeof counts) == MINDAVEHU_BAD_LIMIT);
+    EXPECT(mindavehu_scores(64, 2, 0, 1, 1, label, sizeof label, bytes, sizeof bytes, 2, counts, sizeof counts) == MINDAVEHU_OUTSIDE);
     for (size_t k = 0; k < sizeof counts; k++)
         EXPECT(counts[k] == 7);
 }
@@ -168,12 +171,14 @@ static void the_texts(void)
     for (unsigned k = 0; k < 7; k++)
         EXPECT(strcmp(mindavehu_word_name(k + 1), words[k]) == 0);
     EXPECT(strcmp(mindavehu_word_name(0), "no word has this number") == 0 && strcmp(mindavehu_word_name(8), "no word has this number") == 0);
-    static const uint32_t refusals[] = {0, 1, 2, 3, 4, 5, 6, 7, 8, 9, 10, MINDAVEHU_TOO_LARGE, 11};
-    for (size_t k = 0; k < 12; k++)
-        for (size_t i = 0; i < 13; i++)
+    static const uint32_t refusals[] = {0, 1, 2, 3, 4, 5, 6, 7, 8, 9, 10, MINDAVEHU_BAD_LIMIT, MINDAVEHU_TOO_DIRTY, MINDAVEHU_TOO_LARGE, 11};
+    for (size_t k = 0; k < 14; k++)
+        for (size_t i = 0; i < 15; i++)
             EXPECT((strcmp(mindavehu_refusal_text(refusals[k]), mindavehu_refusal_text(refusals[i])) == 0) == (k == i));
     EXPECT(strcmp(mindavehu_refusal_text(MINDAVEHU_SERVED), "served") == 0);
     EXPECT(strcmp(mindavehu_refusal_text(MINDAVEHU_NO_ADDRESS), "the address is P or more") == 0);
+    EXPECT(strcmp(mindavehu_refusal_text(MINDAVEHU_BAD_LIMIT), "the limit t is not 1 to m") == 0);
+    EXPECT(strcmp(mindavehu_refusal_text(MINDAVEHU_TOO_DIRTY), "more than t addresses are dirty") == 0);
     EXPECT(strcmp(mindavehu_refusal_text(11), "no refusal has this number") == 0);
 }
 

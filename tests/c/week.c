@@ -1,5 +1,5 @@
 /* A week of calls through the header: the document's replay (E1), write back and sharing, eviction, flush, whole and in parts, looks, a folder opened
- * with one call, two offices with equal pages, seats and both reports, and refusals.
+ * with one call, two offices with equal pages, seats and both reports, a limit on dirty addresses, and refusals.
  * Prints what it checked, or the line that failed. */
 #include <stdio.h>
 #include <stdlib.h>
@@ -21,7 +21,7 @@ static uint8_t *piece(size_t length)
     return bytes;
 }
 
-/* Disk block k starts filled with byte k. */
+/* Disk block k starts filled with byte k. The limit is m. */
 static struct box make(size_t B, size_t P, size_t m, size_t d)
 {
     struct box b = {.disk_length = P * B, .flash_length = d * B, .addresses_length = m * MINDAVEHU_ROW,
@@ -39,6 +39,7 @@ static struct box make(size_t B, size_t P, size_t m, size_t d)
     mindavehu_put(b.state, MINDAVEHU_P, P);
     mindavehu_put(b.state, MINDAVEHU_M, m);
     mindavehu_put(b.state, MINDAVEHU_D, d);
+    mindavehu_put(b.state, MINDAVEHU_T, m);
     return b;
 }
 
@@ -314,7 +315,7 @@ static void offices(void)
 /* A label that has not 64 bytes is refused, after numbers outside their sets; n and the label are zeros then. */
 static void labels(void)
 {
-    static const size_t lengths[] = {0, 1, 63, 65, 72, 128, 136};
+    static const size_t lengths[] = {0, 1, 63, 65, 72, 128, 136, 144};
     for (size_t k = 0; k < sizeof lengths / sizeof *lengths; k++) {
         struct box b = make(64, 8, 3, 2);
         EXPECT(open_box(&b) == 0 && back(&b, 3, 1) == 0 && labelled(&b, 0x4F));
@@ -325,6 +326,9 @@ static void labels(void)
         drop(&b);
     }
 }
+
+/* The dirty byte of a row of the address table. */
+#define ROW_DIRTY 36
 
 /* Everything that a call can change, to compare. */
 static uint8_t *all(const struct box *b, size_t *length)
@@ -357,10 +361,11 @@ static void refusals(void)
     EXPECT(open_box(&b) == 0 && back(&b, 3, 1) == 0);
     KEPT(&b, mindavehu_read(STATE(&b), 8, MEMORY(&b), BLOCK(&b), ANSWER(&b)), MINDAVEHU_NO_ADDRESS);
     KEPT(&b, mindavehu_look(STATE(&b), 0xFFFFFFFF, MEMORY(&b), ANSWER(&b)), MINDAVEHU_NO_ADDRESS);
-    KEPT(&b, mindavehu_read(b.state, 135, 1, MEMORY(&b), BLOCK(&b), ANSWER(&b)), MINDAVEHU_WRONG_LENGTH);
+    KEPT(&b, mindavehu_read(b.state, 143, 1, MEMORY(&b), BLOCK(&b), ANSWER(&b)), MINDAVEHU_WRONG_LENGTH);
+    KEPT(&b, mindavehu_read(b.state, 136, 1, MEMORY(&b), BLOCK(&b), ANSWER(&b)), MINDAVEHU_WRONG_LENGTH);
     KEPT(&b, mindavehu_read(b.state, 72, 1, MEMORY(&b), BLOCK(&b), ANSWER(&b)), MINDAVEHU_WRONG_LENGTH);
     KEPT(&b, mindavehu_flush(STATE(&b), MEMORY(&b), b.answer, 23), MINDAVEHU_WRONG_LENGTH);
-    KEPT(&b, mindavehu_flush_some(b.state, 135, 1, MEMORY(&b), ANSWER(&b)), MINDAVEHU_WRONG_LENGTH);
+    KEPT(&b, mindavehu_flush_some(b.state, 136, 1, MEMORY(&b), ANSWER(&b)), MINDAVEHU_WRONG_LENGTH);
     KEPT(&b, mindavehu_look(STATE(&b), 1, MEMORY(&b), b.answer, 0), MINDAVEHU_WRONG_LENGTH);
     KEPT(&b, mindavehu_open(b.state, 72, b.block, 64, MEMORY(&b)), MINDAVEHU_WRONG_LENGTH);
     KEPT(&b, mindavehu_write_back(STATE(&b), 1, seat, MEMORY(&b), b.block, 63, ANSWER(&b)), MINDAVEHU_WRONG_LENGTH);
@@ -473,7 +478,7 @@ static void report_refusals(void)
     REPORT_KEPT(&b, &r, 3, MINDAVEHU_WRONG_LENGTH);
     mindavehu_put(b.state, MINDAVEHU_M, 1025);
     REPORT_KEPT(&b, &r, 2, MINDAVEHU_OUTSIDE);
-    KEPT(&b, mindavehu_manager_report(b.state, 135, MEMORY(&b), MANAGER(&r)), MINDAVEHU_WRONG_LENGTH);
+    KEPT(&b, mindavehu_manager_report(b.state, 136, MEMORY(&b), MANAGER(&r)), MINDAVEHU_WRONG_LENGTH);
     KEPT(&b, mindavehu_desk_report(b.state, 72, MEMORY(&b), DESK(&r)), MINDAVEHU_WRONG_LENGTH);
     b.flash_length++;
     EXPECT(filled(r.manager, 21, 0xEE) && filled(r.desk, 15, 0xEE));
@@ -485,6 +490,78 @@ static void report_refusals(void)
     b.addresses[MINDAVEHU_ROW + 37] = 1;
     KEPT(&b, manager_report(&b, &r), MINDAVEHU_BAD_ADDRESSES);
     drop(&b), drop_reports(&r);
+}
+
+/* A limit of 1: the second write back has the first one's page copied, one primary write more; the same page again, a read and a write through copy nothing.
+ * A limit of 2 after a read: the oldest by use is copied. */
+static void limits(void)
+{
+    struct box b = make(64, 8, 3, 3);
+    mindavehu_put(b.state, MINDAVEHU_T, 1);
+    EXPECT(open_box(&b) == MINDAVEHU_SERVED && mindavehu_get(b.state, MINDAVEHU_T) == 1);
+    EXPECT(back(&b, 0, 9) == 0 && says(&b, MINDAVEHU_NEW, 1, 0) && filled(b.disk, 64, 0));
+    EXPECT(back(&b, 0, 9) == 0 && says(&b, MINDAVEHU_SAME, 0, 0) && filled(b.disk, 64, 0));
+    EXPECT(back(&b, 1, 8) == 0 && says(&b, MINDAVEHU_NEW, 1, 1) && filled(b.disk, 64, 9) && filled(b.disk + 64, 64, 1));
+    EXPECT(through(&b, 2, 7) == 0 && says(&b, MINDAVEHU_NEW, 1, 1) && filled(b.disk + 64, 64, 1));
+    EXPECT(read_block(&b, 0) == 0 && says(&b, MINDAVEHU_HIT, 0, 0) && filled(b.block, 64, 9));
+    EXPECT(flush(&b) == 0 && says(&b, MINDAVEHU_DONE, 0, 1) && filled(b.disk + 64, 64, 8) && counted(&b, 1, 1, 3, 3));
+    drop(&b);
+    b = make(64, 8, 3, 3);
+    mindavehu_put(b.state, MINDAVEHU_T, 2);
+    EXPECT(open_box(&b) == 0 && back(&b, 0, 9) == 0 && back(&b, 1, 8) == 0 && read_block(&b, 0) == 0 && counted(&b, 1, 1, 2, 0));
+    EXPECT(back(&b, 2, 7) == 0 && says(&b, MINDAVEHU_NEW, 1, 1) && filled(b.disk, 64, 0) && filled(b.disk + 64, 64, 8));
+    drop(&b);
+}
+
+/* Each call on a box is refused with this number and keeps every byte; a refused opening keeps the limit. */
+static void all_refused(struct box *b, uint32_t number)
+{
+    struct reports r = make_reports();
+    uint32_t page = 0;
+    struct folder f = make_folder(b, 1, &page);
+    KEPT(b, mindavehu_read(STATE(b), 0, MEMORY(b), BLOCK(b), ANSWER(b)), number);
+    KEPT(b, mindavehu_write_through(STATE(b), 0, seat, MEMORY(b), BLOCK(b), ANSWER(b)), number);
+    KEPT(b, mindavehu_write_back(STATE(b), 0, seat, MEMORY(b), BLOCK(b), ANSWER(b)), number);
+    KEPT(b, mindavehu_write_invalidate(STATE(b), 0, seat, MEMORY(b), BLOCK(b), ANSWER(b)), number);
+    KEPT(b, flush(b), number);
+    KEPT(b, flush_some(b, 1), number);
+    KEPT(b, look(b, 0), number);
+    KEPT(b, manager_report(b, &r), number);
+    KEPT(b, desk_report(b, &r), number);
+    KEPT(b, read_folder(b, &f), number);
+    EXPECT(filled(r.manager, 21, 0xEE) && filled(r.desk, 15, 0xEE) && filled(f.buffer, 64, 0xEE));
+    drop_reports(&r), drop_folder(&f);
+}
+
+/* Limits that are not 1 to m, and a limit below the dirty addresses; 12 comes right after 1, and 13 between 8 and 9. */
+static void limit_refusals(void)
+{
+    static const uint64_t wrong[] = {0, 4, 1025, (1ull << 32) + 1, UINT64_MAX};
+    struct box b = make(64, 8, 3, 3);
+    EXPECT(open_box(&b) == 0 && back(&b, 0, 9) == 0 && back(&b, 1, 8) == 0);
+    for (size_t k = 0; k < sizeof wrong / sizeof *wrong; k++) {
+        mindavehu_put(b.state, MINDAVEHU_T, wrong[k]);
+        all_refused(&b, MINDAVEHU_BAD_LIMIT);
+    }
+    b.flash_length--;
+    KEPT(&b, look(&b, 8), MINDAVEHU_BAD_LIMIT);
+    b.flash_length++;
+    mindavehu_put(b.state, MINDAVEHU_P, 0);
+    KEPT(&b, look(&b, 8), MINDAVEHU_OUTSIDE);
+    mindavehu_put(b.state, MINDAVEHU_P, 8);
+    mindavehu_put(b.state, MINDAVEHU_T, 1);
+    mindavehu_put(b.state, MINDAVEHU_READS, UINT64_MAX);
+    all_refused(&b, MINDAVEHU_TOO_DIRTY);
+    b.blocks[MINDAVEHU_ROW] ^= 1;
+    KEPT(&b, flush(&b), MINDAVEHU_DIRTY_UNCACHED);
+    b.blocks[MINDAVEHU_ROW] ^= 1;
+    mindavehu_put(b.state, MINDAVEHU_READS, 0);
+    mindavehu_put(b.state, MINDAVEHU_T, 2);
+    EXPECT(look(&b, 0) == 0 && says(&b, MINDAVEHU_CACHE, 0, 64));
+    mindavehu_put(b.state, MINDAVEHU_T, 4);
+    EXPECT(open_box(&b) == MINDAVEHU_BAD_LIMIT && mindavehu_get(b.state, MINDAVEHU_T) == 4);
+    EXPECT(mindavehu_get(b.state, MINDAVEHU_N) == 0 && labelled(&b, 0) && b.addresses[ROW_DIRTY] == 1);
+    drop(&b);
 }
 
 /* Two runs with other seats: the desk sees the same, the manager does not. */
@@ -566,6 +643,8 @@ int main(void)
     refusals();
     seats();
     report_refusals();
+    limits();
+    limit_refusals();
     two_runs();
     folder_refusals();
     printf("week: %u facts hold\n", checks);

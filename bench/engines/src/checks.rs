@@ -1,4 +1,4 @@
-//! The refusals of the tables, 6, 7 and 8.
+//! The refusals of the tables, 6, 7, 8 and 13.
 use crate::engine::Index;
 use crate::layout::*;
 
@@ -10,12 +10,17 @@ pub fn check<I: Index>(sizes: &Sizes, addresses: &[u8], blocks: &[u8], index: &m
     if !blocks_sound(sizes.d, blocks, index) {
         return Err(7);
     }
-    let has_block = |row: &Row| index.has(blocks, held_fingerprint(row));
-    if rows(&addresses[..sizes.n * ROW]).all(|row| !is_dirty(row) || has_block(row)) {
-        Ok(())
-    } else {
-        Err(8)
+    let mut dirty = 0;
+    for row in rows(&addresses[..sizes.n * ROW]).filter(|row| is_dirty(row)) {
+        if !index.has(blocks, held_fingerprint(row)) {
+            return Err(8);
+        }
+        dirty += 1;
     }
+    if dirty > sizes.t {
+        return Err(13);
+    }
+    Ok(())
 }
 
 fn addresses_sound(sizes: &Sizes, addresses: &[u8]) -> bool {

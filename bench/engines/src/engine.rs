@@ -25,7 +25,7 @@ pub trait Index: Default {
     fn has(&self, blocks: &[u8], g: &Fingerprint) -> bool;
 }
 
-/// The refusals that need no table: 1, 2 and 3. An address is `None` in a call without one, and so is a block.
+/// The refusals that need no table: 1, 12, 2 and 3. An address is `None` in a call without one, and so is a block.
 fn numbers(state: &[u8], lengths: [usize; 4], a: Option<u32>, block: Option<usize>) -> Result<Sizes, u32> {
     let sizes = sizes(state)?;
     let Sizes { b, p, m, d, .. } = sizes;
@@ -153,6 +153,22 @@ impl<I: Index> Taken<'_, I> {
         to_newest(self.blocks, place);
         (1, primary_writes)
     }
+
+    /// After the step of a write back: where more rows are dirty than the limit, the block of the oldest of them is copied to the disk and the row is clean
+    /// then. Answers the primary writes. The index has the places of the block rows before the step, so the block is looked for.
+    fn keep_limit(&mut self) -> u64 {
+        let Sizes { b, t, .. } = self.sizes;
+        let held = &self.addresses[..number(self.state, 4) as usize * ROW];
+        if rows(held).filter(|row| is_dirty(row)).count() <= t {
+            return 0;
+        }
+        let k = rows(held).position(is_dirty).unwrap();
+        let oldest = *row(held, k);
+        let stored = rows(self.blocks).find(|row| is_used(row) && cached_fingerprint(row) == held_fingerprint(&oldest)).unwrap();
+        copy(self.flash, slot(stored), self.disk, address(&oldest) as usize, b);
+        self.addresses[k * ROW + 36] = 0;
+        1
+    }
 }
 
 pub fn open(state: &mut [u8], label: &[u8], disk: &[u8], flash: &[u8], addresses: &mut [u8], blocks: &mut [u8]) -> Result<(), u32> {
@@ -166,7 +182,7 @@ pub fn open(state: &mut [u8], label: &[u8], disk: &[u8], flash: &[u8], addresses
         return Err(2);
     }
     set_label(state, label);
-    state[FIRST_COUNTER * 8..STATE - LABEL].fill(0);
+    state[FIRST_COUNTER * 8..LABEL_START].fill(0);
     addresses.fill(0);
     blocks.fill(0);
     for (k, row) in blocks.chunks_exact_mut(ROW).enumerate() {
@@ -328,7 +344,8 @@ pub fn write<I: Index>(
     let unchanged = held.is_some_and(|k| !is_dirty(row(addresses, k)) && *held_fingerprint(row(addresses, k)) == g);
     let mut taken = Taken { sizes, index: &index, state, disk, flash, addresses, blocks };
     let (flash_writes, primary_writes) = taken.step(a, held, &g, cached, block, dirty && !unchanged, seat);
-    done(state, answer, word, flash_writes, primary_writes + !dirty as u64)
+    let more = if dirty { taken.keep_limit() } else { 1 };
+    done(state, answer, word, flash_writes, primary_writes + more)
 }
 
 #[allow(clippy::too_many_arguments)]

@@ -5,17 +5,19 @@ pub const ROW: usize = 40;
 pub type Row = [u8; ROW];
 pub type Fingerprint = [u8; 32];
 
-/// The state: nine numbers of 8 bytes, then the office's label.
-pub const STATE: usize = 136;
+/// The state: nine numbers of 8 bytes, the office's label, and one number more, the limit.
+pub const STATE: usize = 144;
+pub const LABEL_START: usize = 72;
+pub const LIMIT: usize = 17;
 pub const LABEL: usize = 64;
 pub type Label = [u8; LABEL];
 
 pub fn label(state: &[u8]) -> &Label {
-    state[STATE - LABEL..].try_into().unwrap()
+    state[LABEL_START..LABEL_START + LABEL].try_into().unwrap()
 }
 
 pub fn set_label(state: &mut [u8], label: &[u8]) {
-    state[STATE - LABEL..].copy_from_slice(label);
+    state[LABEL_START..LABEL_START + LABEL].copy_from_slice(label);
 }
 
 /// SHA-256 over the label followed by the block.
@@ -38,16 +40,21 @@ pub struct Sizes {
     pub m: usize,
     pub d: usize,
     pub n: usize,
+    pub t: usize,
 }
 
-/// The numbers of the box, where B, P, m and d are in their sets.
+/// The numbers of the box, where B, P, m, d and the limit are in their sets.
 pub fn sizes(state: &[u8]) -> Result<Sizes, u32> {
     let [b, p, m, d, n] = std::array::from_fn(|k| number(state, k));
     let good = b.is_power_of_two() && (64..=4096).contains(&b) && (1..=65_536).contains(&p) && (1..=1024).contains(&m) && (1..=256).contains(&d);
     if !good {
         return Err(1);
     }
-    Ok(Sizes { b: b as usize, p: p as usize, m: m as usize, d: d as usize, n: usize::try_from(n).unwrap_or(usize::MAX) })
+    let t = number(state, LIMIT);
+    if !(1..=m).contains(&t) {
+        return Err(12);
+    }
+    Ok(Sizes { b: b as usize, p: p as usize, m: m as usize, d: d as usize, n: usize::try_from(n).unwrap_or(usize::MAX), t: t as usize })
 }
 
 pub fn row(table: &[u8], k: usize) -> &Row {

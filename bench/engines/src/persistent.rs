@@ -19,10 +19,14 @@ struct Cached {
 pub struct Persistent {
     b: usize,
     m: usize,
+    /// The limit.
+    t: usize,
     label: Label,
     clock: u64,
     held: HashMap<u32, Held>,
     addresses: BTreeMap<u64, u32>,
+    /// The dirty ones among them.
+    dirty: BTreeMap<u64, u32>,
     /// The first free row comes last.
     free: Vec<u32>,
     cached: ByFingerprint<Cached>,
@@ -36,14 +40,16 @@ pub struct Persistent {
 }
 
 impl Persistent {
-    fn empty(b: usize, m: usize, label: Label, counters: [u64; 4]) -> Persistent {
+    fn empty(b: usize, m: usize, t: usize, label: Label, counters: [u64; 4]) -> Persistent {
         Persistent {
             b,
             m,
+            t,
             label,
             clock: 0,
             held: HashMap::new(),
             addresses: BTreeMap::new(),
+            dirty: BTreeMap::new(),
             free: Vec::new(),
             cached: ByFingerprint::default(),
             fingerprints: BTreeMap::new(),
@@ -55,8 +61,8 @@ impl Persistent {
     }
 
     pub fn load(state: &[u8], addresses: &[u8], blocks: &[u8]) -> Persistent {
-        let Sizes { b, m, d, n, .. } = sizes(state).expect("a box that the service takes");
-        let mut engine = Persistent::empty(b, m, *label(state), std::array::from_fn(|k| number(state, 5 + k)));
+        let Sizes { b, m, d, n, t, .. } = sizes(state).expect("a box that the service takes");
+        let mut engine = Persistent::empty(b, m, t, *label(state), std::array::from_fn(|k| number(state, 5 + k)));
         for k in (0..d).rev().filter(|k| !is_used(row(blocks, *k))) {
             engine.free.push(slot(row(blocks, k)) as u32);
         }
@@ -100,6 +106,9 @@ impl Persistent {
         let stamp = self.stamp();
         self.held.insert(a, Held { fingerprint: g, dirty, seat, stamp });
         self.addresses.insert(stamp, a);
+        if dirty {
+            self.dirty.insert(stamp, a);
+        }
         self.users.entry(g).or_default().push(a);
         match self.cached.get(&g) {
             Some(cached) => drop(self.unwanted.remove(&cached.stamp)),
@@ -110,6 +119,7 @@ impl Persistent {
     fn take_out(&mut self, a: u32) -> Fingerprint {
         let row = self.held.remove(&a).unwrap();
         self.addresses.remove(&row.stamp);
+        self.dirty.remove(&row.stamp);
         let users = self.users.get_mut(&row.fingerprint).unwrap();
         users.retain(|other| *other != a);
         let last = users.is_empty();
@@ -146,6 +156,7 @@ impl Persistent {
         let b = self.b;
         let row = self.held.get_mut(&a).unwrap();
         row.dirty = false;
+        self.dirty.remove(&row.stamp);
         let slot = self.cached[&row.fingerprint].slot as usize;
         disk[a as usize * b..(a as usize + 1) * b].copy_from_slice(&flash[slot * b..(slot + 1) * b]);
     }
@@ -236,8 +247,13 @@ impl Persistent {
         let g = fingerprint(&self.label, block);
         let word = self.same_or_new(&g);
         let unchanged = self.held.get(&a).is_some_and(|row| !row.dirty && row.fingerprint == g);
-        let writes = self.step(a, g, block, !unchanged, seat, disk, flash);
-        self.done(answer, word, writes)
+        let [flash_writes, mut primary_writes] = self.step(a, g, block, !unchanged, seat, disk, flash);
+        if self.dirty.len() > self.t {
+            let oldest = *self.dirty.first_key_value().unwrap().1;
+            self.clean(oldest, disk, flash);
+            primary_writes += 1;
+        }
+        self.done(answer, word, [flash_writes, primary_writes])
     }
 
     pub fn write_invalidate(&mut self, a: u32, disk: &mut [u8], block: &[u8], answer: &mut [u8]) -> u32 {
@@ -258,7 +274,7 @@ impl Persistent {
     }
 
     pub fn flush_some(&mut self, most: usize, disk: &mut [u8], flash: &[u8], answer: &mut [u8]) -> u32 {
-        let dirty: Vec<u32> = self.addresses.values().copied().filter(|a| self.held[a].dirty).take(most).collect();
+        let dirty: Vec<u32> = self.dirty.values().copied().take(most).collect();
         for a in &dirty {
             self.clean(*a, disk, flash);
         }

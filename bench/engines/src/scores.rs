@@ -1,5 +1,5 @@
 //! The counts of an exam question by a search in plain Rust: D-LRU's two lists of numbers are copied for each call of itself.
-use crate::layout::{fingerprint, set_number, sizes, Fingerprint, Label, LABEL, STATE};
+use crate::layout::{fingerprint, set_number, sizes, Fingerprint, Label, LABEL, LIMIT, STATE};
 
 const COUNTS: usize = 72;
 
@@ -46,9 +46,9 @@ fn search(q: &Question, state: &State, k: usize) -> [u64; 9] {
     counts
 }
 
-fn counted(numbers: [usize; 4], label: &[u8], disk: &[u8], k: usize, room: usize) -> Result<[u64; 9], u32> {
+fn counted(numbers: [usize; 5], label: &[u8], disk: &[u8], k: usize, room: usize) -> Result<[u64; 9], u32> {
     let mut state = [0; STATE];
-    numbers.iter().enumerate().for_each(|(place, number)| set_number(&mut state, place, *number as u64));
+    [0, 1, 2, 3, LIMIT].iter().zip(numbers).for_each(|(place, number)| set_number(&mut state, *place, number as u64));
     let s = sizes(&state)?;
     if disk.len() != s.p * s.b || label.len() != LABEL || room != COUNTS {
         return Err(2);
@@ -62,8 +62,8 @@ fn counted(numbers: [usize; 4], label: &[u8], disk: &[u8], k: usize, room: usize
     Ok(search(&Question { m: s.m, d: s.d, contents }, &State::default(), k))
 }
 
-/// The service's call: the numbers are B, P, m and d.
-pub fn scores(numbers: [usize; 4], label: &[u8], disk: &[u8], k: usize, counts: &mut [u8]) -> u32 {
+/// The service's call: the numbers are B, P, m, d and the limit.
+pub fn scores(numbers: [usize; 5], label: &[u8], disk: &[u8], k: usize, counts: &mut [u8]) -> u32 {
     let found = counted(numbers, label, disk, k, counts.len());
     if counts.len() == COUNTS {
         found.unwrap_or([0; 9]).iter().enumerate().for_each(|(place, count)| set_number(counts, place, *count));

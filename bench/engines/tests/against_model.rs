@@ -2,7 +2,8 @@
 use common::Random;
 use engines::persistent::Persistent;
 use engines::{array, maps};
-use model::{carry_out, carry_out_many, carry_out_report, Call, Folder, Label, Lent, ManyAnswer, Numbers, Report, CALLS, LABEL, REPORTS, ROW, STATE};
+use model::{carry_out, carry_out_many, carry_out_report, Call, Folder, Label, Lent, ManyAnswer, Numbers, Report};
+use model::{CALLS, LABEL, REPORTS, ROW, STATE, STATE_LABEL, STATE_LIMIT};
 
 /// A call by the functions of an engine's module.
 macro_rules! by {
@@ -78,9 +79,11 @@ fn label(random: &mut Random) -> Label {
     random.bytes(LABEL).try_into().unwrap()
 }
 
+/// With any limit, that of m as often as all others.
 fn unopened(random: &mut Random, b: usize, p: usize, m: usize, d: usize, contents: usize) -> Lent {
     let (n, counters) = (random.number(), [random.number(); 4]);
-    let state = Numbers { b: b as u64, p: p as u64, m: m as u64, d: d as u64, n, counters, label: label(random) };
+    let t = [m, 1 + random.below(m)][random.below(2)] as u64;
+    let state = Numbers { b: b as u64, p: p as u64, m: m as u64, d: d as u64, n, counters, label: label(random), t };
     Lent {
         state: state.to_bytes(),
         disk: (0..p).flat_map(|_| vec![random.below(contents) as u8; b]).collect(),
@@ -98,16 +101,23 @@ fn is(given: u32, lent: &Lent, number: u32, expected: &Lent, context: &str) {
     assert_eq!(lent.difference(expected), None, "{context}");
 }
 
-/// A copy of a box with a byte changed, the label's among them, or a length.
+/// A copy of a box with a byte changed, the label's among them, or a length, or another limit, which may be below the dirty rows.
 fn broken_copy(random: &mut Random, lent: &Lent) -> Lent {
     let mut bad = lent.clone();
     let Lent { state, disk, flash, addresses, blocks, block, answer, label } = &mut bad;
-    let changed = match random.below(10) {
+    let changed = match random.below(11) {
         0..=2 => &mut addresses[..],
         3..=5 => &mut blocks[..],
-        6 => &mut state[..STATE - LABEL],
-        7 => &mut state[STATE - LABEL..],
+        6 => &mut state[..STATE_LABEL.start],
+        7 => &mut state[STATE_LABEL],
         8 => {
+            // Also one less than the dirty rows.
+            let dirty = addresses.chunks_exact(ROW).filter(|row| row[36] == 1).count() as u64;
+            let t = [random.below(4) as u64, dirty.saturating_sub(1)][random.below(2)];
+            state[STATE_LIMIT].copy_from_slice(&t.to_le_bytes());
+            return bad;
+        }
+        9 => {
             label.resize([0, 63, 65, 128][random.below(4)], 0);
             return bad;
         }
@@ -124,7 +134,7 @@ fn broken_copy(random: &mut Random, lent: &Lent) -> Lent {
 fn lists_and_broken_boxes() {
     let seed = 21;
     let mut random = Random(seed);
-    let (mut calls, mut broken, mut numbers, mut reported) = (0, 0, [0; 10], [0; 10]);
+    let (mut calls, mut broken, mut numbers, mut reported) = (0, 0, [0; 14], [0; 14]);
     for round in 0..300 {
         let b = [64, 128, 256][random.below(3)];
         // A few large tables among the small ones.
@@ -139,7 +149,8 @@ fn lists_and_broken_boxes() {
         let mut three = expected.clone();
         let mut persistent = Persistent::load(&three.state, &three.addresses, &three.blocks);
         for turn in 0..200 {
-            let call = CALLS[1 + random.below(7)].by_seat(random.number() as u16);
+            // A write back more often than each of the others, so that more than one row is dirty.
+            let call = [CALLS[1 + random.below(7)], Call::Back(0)][random.below(4) / 3].by_seat(random.number() as u16);
             let a = random.below(p + 1) as u32;
             let context = format!("{call:?} {a}, turn {turn} of round {round}, seed {seed}");
             expected.block = vec![random.below(contents) as u8; b];
@@ -169,10 +180,11 @@ fn lists_and_broken_boxes() {
     }
     println!("{calls} calls by three engines and {broken} broken boxes by two agree with the model (seed {seed}); numbers {numbers:?}");
     println!("  reports after each call and on each broken box, by two engines: numbers {reported:?}");
-    assert!([0, 1, 2, 6, 7].iter().all(|number| reported[*number] > 100), "a refusal of a report is hardly met: {reported:?}");
+    assert!([0, 1, 2, 6, 7, 12, 13].iter().all(|number| reported[*number] > 100), "a refusal of a report is hardly met: {reported:?}");
 }
 
-/// A sound box of any fingerprints that agree in their first `same` bytes. About half of the held rows are dirty, and some clean ones have no block.
+/// A sound box of any fingerprints that agree in their first `same` bytes. About half of the held rows are dirty, and some clean ones have no block. Its limit
+/// is the number of dirty rows, or more.
 fn crafted(random: &mut Random, same: usize) -> Lent {
     let (b, p, m, d) = (64, 1 + random.below(60), 1 + random.below(40), 1 + random.below(40));
     let start = random.bytes(same);
@@ -180,7 +192,6 @@ fn crafted(random: &mut Random, same: usize) -> Lent {
     let used = random.below(d + 1);
     let mut lent = unopened(random, b, p, m, d, 2 * d);
     let n = random.below(m.min(p) + 1);
-    lent.state = Numbers { n: n as u64, counters: [7; 4], ..lent.numbers() }.to_bytes();
     lent.addresses.fill(0);
     for (k, row) in lent.addresses.chunks_exact_mut(ROW).take(n).enumerate() {
         let print = random.below(prints.len());
@@ -189,6 +200,9 @@ fn crafted(random: &mut Random, same: usize) -> Lent {
         row[36] = (print < used && random.below(2) == 0) as u8;
         row[37..39].copy_from_slice(&(random.number() as u16).to_le_bytes());
     }
+    let dirty = lent.addresses.chunks_exact(ROW).filter(|row| row[36] == 1).count().max(1);
+    let t = [dirty, dirty + random.below(m + 1 - dirty)][random.below(2)] as u64;
+    lent.state = Numbers { n: n as u64, counters: [7; 4], t, ..lent.numbers() }.to_bytes();
     lent.blocks.fill(0);
     for (k, row) in lent.blocks.chunks_exact_mut(ROW).enumerate() {
         row[32..36].copy_from_slice(&((d - 1 - k) as u32).to_le_bytes());
@@ -204,18 +218,19 @@ fn crafted(random: &mut Random, same: usize) -> Lent {
 fn fingerprints_with_one_beginning() {
     let seed = 22;
     let mut random = Random(seed);
-    let mut numbers = [0; 10];
+    let mut numbers = [0; 14];
     for round in 0..20_000 {
         let mut expected = crafted(&mut random, [2, 4, 8, 31][round % 4]);
-        // In some tables a block row gets the fingerprint of another, or another last byte, or a held row is dirty whatever it has.
+        // In some tables a block row gets the fingerprint of another, or another last byte, or a held row is dirty whatever it has, or the limit is less.
         let (m, d) = (expected.addresses.len() / ROW, expected.blocks.len() / ROW);
-        match random.below(6) {
+        match random.below(7) {
             0 => {
                 let (from, to) = (random.below(d) * ROW, random.below(d) * ROW);
                 expected.blocks.copy_within(from..from + 32, to);
             }
             1 => expected.blocks[random.below(d) * ROW + 31] ^= 1 << random.below(8),
             2 => expected.addresses[random.below(m) * ROW + 36] = 1,
+            3 => expected.state = Numbers { t: expected.numbers().t - 1, ..expected.numbers() }.to_bytes(),
             _ => {}
         }
         let call = CALLS[1 + random.below(7)].by_seat(random.number() as u16);
@@ -228,7 +243,7 @@ fn fingerprints_with_one_beginning() {
         numbers[number as usize] += 1;
     }
     println!("20000 calls on crafted tables by two engines agree with the model (seed {seed}); numbers {numbers:?}");
-    assert!([0, 3, 6, 7, 8].iter().all(|number| numbers[*number] > 100), "a refusal is hardly met: {numbers:?}");
+    assert!([0, 3, 6, 7, 8, 12, 13].iter().all(|number| numbers[*number] > 100), "a refusal is hardly met: {numbers:?}");
 }
 
 /// Folders on crafted tables, most of them sound: slots have other blocks than their rows say, so that a repeat that misses shows what it takes.
@@ -236,17 +251,18 @@ fn fingerprints_with_one_beginning() {
 fn folders() {
     let seed = 23;
     let mut random = Random(seed);
-    let (mut numbers, mut missed_repeats) = ([0; 11], 0);
+    let (mut numbers, mut missed_repeats) = ([0; 14], 0);
     for round in 0..20_000 {
         let mut expected = crafted(&mut random, [2, 4, 8, 31][round % 4]);
         let (p, d) = (expected.disk.len() / 64, expected.blocks.len() / ROW);
         match random.below(12) {
-            0 => expected.state[random.below(STATE - LABEL)] ^= 1 << random.below(8),
+            0 => expected.state[random.below(STATE_LABEL.start)] ^= 1 << random.below(8),
             1 => expected.blocks[random.below(d * ROW)] ^= 1,
             2 => {
                 let Lent { state, disk, flash, addresses, blocks, .. } = &mut expected;
                 [disk, flash, addresses, blocks, state][random.below(5)].pop();
             }
+            3 => expected.state = Numbers { t: expected.numbers().t - 1, ..expected.numbers() }.to_bytes(),
             _ => {}
         }
         let few = 1 + random.below(p.min(6));
@@ -271,7 +287,7 @@ fn folders() {
         }
     }
     println!("20000 folders on crafted tables by two engines agree with the model (seed {seed}); numbers {numbers:?}, {missed_repeats} repeats that miss");
-    assert!([0, 1, 2, 3, 6, 7, 10].iter().all(|number| numbers[*number] > 50) && missed_repeats > 1_000, "hardly met: {numbers:?}, {missed_repeats}");
+    assert!([0, 1, 2, 3, 6, 7, 10, 12, 13].iter().all(|number| numbers[*number] > 50) && missed_repeats > 1_000, "hardly met: {numbers:?}, {missed_repeats}");
 }
 
 /// Exam questions, right and wrong: the number and the counts are the model's.
@@ -285,10 +301,12 @@ fn exam_questions() {
         let disk = contents.iter().flat_map(|byte| vec![*byte; 64]).collect();
         let k = if random.below(20) == 0 { 9 } else { k };
         let [label, counts] = [64, 72].map(|length| vec![7; length - (random.below(20) == 0) as usize]);
-        let mut expected = model::exam::Question { b: 64, p, m, d, label, disk, k, counts };
+        // Mostly of 1 to m.
+        let t = if random.below(10) == 0 { [0, m + 1][random.below(2)] } else { 1 + random.below(m.max(1)) };
+        let mut expected = model::exam::Question { b: 64, p, m, d, t, label, disk, k, counts };
         let mut q = expected.clone();
         let number = model::exam::carry_out_question(&mut expected);
-        assert_eq!(engines::scores::scores([64, p, m, d], &q.label, &q.disk, k, &mut q.counts), number, "{expected:?}");
+        assert_eq!(engines::scores::scores([64, p, m, d, t], &q.label, &q.disk, k, &mut q.counts), number, "{expected:?}");
         assert_eq!(q, expected);
         refused += (number != 0) as usize;
     }

@@ -43,6 +43,10 @@ pub fn number(bytes: &[u8], k: usize) -> u64 {
     u64::from_le_bytes(bytes[k * 8..k * 8 + 8].try_into().unwrap())
 }
 
+fn set_number(bytes: &mut [u8], k: usize, number: usize) {
+    bytes[k * 8..k * 8 + 8].copy_from_slice(&(number as u64).to_le_bytes());
+}
+
 /// SplitMix64.
 pub struct Random(pub u64);
 
@@ -131,12 +135,15 @@ fn contents(shape: Shape) -> Vec<Vec<u8>> {
     (0..shape.d + shape.d / 2 + 1).map(|_| random.bytes(shape.b)).collect()
 }
 
-/// A fresh box over a disk of these contents.
+/// The place of the limit among the eights of the state.
+const LIMIT: usize = 17;
+
+/// A fresh box without a limit, which is a limit of m, over a disk of these contents.
 fn opened(shape: Shape, contents: &[Vec<u8>]) -> Lent {
     let Shape { b, p, m, d } = shape;
     let mut random = Random(3);
     let mut lent = Lent {
-        state: [b, p, m, d, 0, 0, 0, 0, 0].iter().flat_map(|number| (*number as u64).to_le_bytes()).chain([0; LABEL.len()]).collect(),
+        state: vec![0; 8 * LIMIT + 8],
         disk: (0..p).flat_map(|_| contents[random.below(contents.len())].iter().copied()).collect(),
         flash: vec![0; d * b],
         addresses: vec![0; m * ROW],
@@ -144,6 +151,7 @@ fn opened(shape: Shape, contents: &[Vec<u8>]) -> Lent {
         block: vec![0; b],
         answer: vec![0; 24],
     };
+    [(0, b), (1, p), (2, m), (3, d), (LIMIT, m)].iter().for_each(|(k, number)| set_number(&mut lent.state, *k, *number));
     assert_eq!(maps::open(&mut lent.state, &LABEL, &lent.disk, &lent.flash, &mut lent.addresses, &mut lent.blocks), 0);
     lent
 }
@@ -166,6 +174,15 @@ fn filled(words: &str, shape: Shape, contents: Vec<Vec<u8>>) -> Start {
 
 pub fn full(shape: Shape) -> Start {
     filled("full tables", shape, contents(shape))
+}
+
+/// The same with a limit of as many dirty rows as there are: a write back that makes one more dirty copies a block for the limit.
+pub fn at_limit(shape: Shape) -> Start {
+    let mut start = filled("full tables at the limit", shape, contents(shape));
+    let dirty = start.lent.addresses.chunks_exact(ROW).filter(|row| row[36] == 1).count();
+    assert!(0 < dirty && dirty < shape.m, "{dirty} dirty rows");
+    set_number(&mut start.lent.state, LIMIT, dirty);
+    start
 }
 
 /// Half of the rows of both tables are in use: there were calls on that many addresses, with that many contents.
@@ -228,7 +245,7 @@ pub fn crafted(shape: Shape, same: usize, held: Held) -> Start {
     let beginning = &hashed(&contents[0]).finalize()[..same];
     let mut print = || [beginning, &random.bytes(32 - same)].concat();
     let mut lent = opened(shape, &contents[..1]);
-    lent.state[32..40].copy_from_slice(&(m as u64).to_le_bytes());
+    set_number(&mut lent.state, 4, m);
     for row in lent.blocks.chunks_exact_mut(ROW) {
         row[..32].copy_from_slice(&print());
         row[36] = 1;

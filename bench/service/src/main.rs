@@ -7,8 +7,8 @@ mod scores;
 #[cfg(not(feature = "double"))]
 mod service;
 
-use boxes::{crafted, empty, full, half_full, one_bucket, Held, Shape, Start, LARGE};
-use measure::{best, speed, Row, Times, ENGINES, FLUSH, HIT, LOOK, MISS, MIXED, SCENARIOS};
+use boxes::{at_limit, crafted, empty, full, half_full, one_bucket, Held, Shape, Start, LARGE};
+use measure::{best, speed, Row, Times, BACK, ENGINES, FLUSH, HIT, LOOK, MISS, MIXED, SCENARIOS};
 
 /// The scenarios that are columns of the table.
 const COLUMNS: usize = 5;
@@ -133,6 +133,7 @@ fn print_what_is_measured() {
              addresses not held.");
     println!("A list has 64 calls or 65 (fewer where a kind empties the tables) and begins with the same tables; the first flush of a list finds \
              dirty rows, the others none.");
+    println!("The limit of a box is m, but that of the full tables at the limit is the number of their dirty rows: there most writes back copy a block more.");
     println!("On tables made by hand (bytes the same) a list is one call, on the newest held address; B is 64 there, so that the time is that of the \
              tables and not of the blocks.");
 }
@@ -140,9 +141,10 @@ fn print_what_is_measured() {
 // The places of the boxes in their groups.
 const FULL: usize = 0;
 const HALF_OF_THE_ROWS: usize = 1;
-const HALF_FULL: usize = 2;
-const EMPTY: usize = 3;
-const ONE_BUCKET: usize = 4;
+const AT_LIMIT: usize = 2;
+const HALF_FULL: usize = 3;
+const EMPTY: usize = 4;
+const ONE_BUCKET: usize = 5;
 const SMALL: usize = 0;
 const SINGLE: usize = 1;
 
@@ -153,7 +155,7 @@ const HELD: [Held; 3] = [Held::Newest, Held::Oldest, Held::Missing];
 fn main() {
     print_what_is_measured();
     let half = Shape { m: LARGE.m / 2, d: LARGE.d / 2, ..LARGE };
-    let large = Group::measured(vec![full(LARGE), full(half), half_full(LARGE), empty(LARGE), one_bucket(LARGE)], 2);
+    let large = Group::measured(vec![full(LARGE), full(half), at_limit(LARGE), half_full(LARGE), empty(LARGE), one_bucket(LARGE)], 3);
     let small = Group::measured(vec![full(Shape { b: 64, p: 4096, m: 16, d: 8 }), full(Shape { b: 64, p: 4096, m: 1, d: 1 })], 1);
     let by_hand = SAME.iter().flat_map(|same| HELD.map(|held| crafted(Shape { b: 64, ..LARGE }, *same, held))).collect();
     let by_hand = Group::measured(by_hand, 0);
@@ -196,11 +198,17 @@ fn main() {
 
     println!("\nMicroseconds of a call by the service / by {}, and how many times as fast the service is:\n", ENGINES[1]);
     println!("| a call, microseconds: service / peer (speed over the peer's) | {} |\n|---|{}", SCENARIOS[..COLUMNS].join(" | "), "---:|".repeat(COLUMNS));
-    let rows = [(&large, FULL), (&large, HALF_FULL), (&large, EMPTY), (&small, SMALL), (&small, SINGLE), (&large, ONE_BUCKET)];
+    let rows = [(&large, FULL), (&large, AT_LIMIT), (&large, HALF_FULL), (&large, EMPTY), (&small, SMALL), (&small, SINGLE), (&large, ONE_BUCKET)];
     rows.iter().for_each(|(group, place)| println!("{}", group.markdown(*place)));
     for (k, same) in SAME.iter().enumerate() {
         let places = k * HELD.len()..(k + 1) * HELD.len();
         println!("{}", markdown(&format!("B 64, m 1,024, d 256, {same} bytes the same"), |scenario| by_hand.slowest(scenario, places.clone())));
+    }
+    println!("\nMicroseconds of a write back, without a limit and at the limit:\n");
+    println!("| a write back, microseconds | service | {} | speed over that of {} |\n|---|---:|---:|---:|", ENGINES[1], ENGINES[1]);
+    for place in [FULL, AT_LIMIT] {
+        let times = large.at(BACK, place);
+        println!("| {} | {} | {} | {:.2} |", large.boxes[place].name, micro(times[0]), micro(times[1]), speed(&times));
     }
     println!("\nMicroseconds of 64 reads by the service:\n");
     println!("| {}: 64 reads, microseconds | one call | 64 calls | speed over that of 64 calls |\n|---|---:|---:|---:|", large.boxes[FULL].name);

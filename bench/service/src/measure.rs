@@ -113,6 +113,7 @@ pub const HIT: usize = 1;
 pub const MISS: usize = 2;
 pub const LOOK: usize = 3;
 pub const FLUSH: usize = 4;
+pub const BACK: usize = 7;
 
 /// The calls of a scenario. `None` where the box has no address for it, or its tables were made by hand and there is no one call for it.
 fn steps(scenario: usize, start: &Start) -> Option<Vec<Step>> {
@@ -144,7 +145,7 @@ fn steps(scenario: usize, start: &Start) -> Option<Vec<Step>> {
         FLUSH => (0..length).map(|_| (Kind::Flush, 0, 0)).collect(),
         5 => start.without_block.iter().take(few).map(|a| (Kind::Read, *a, 0)).collect(),
         6 => (0..length).map(|_| (Kind::Through, any(&mut random), random.below(count))).collect(),
-        7 => (0..length).map(|_| (Kind::Back, any(&mut random), random.below(count))).collect(),
+        BACK => (0..length).map(|_| (Kind::Back, any(&mut random), random.below(count))).collect(),
         _ => held.iter().step_by(2).take(few).map(|a| (Kind::Invalidate, *a, random.below(count))).collect(),
     };
     (!steps.is_empty()).then_some(steps)

@@ -41,8 +41,8 @@ fn measured(m: usize, d: usize) -> Times {
     let mut runs = 0;
     let begun = Instant::now();
     while runs < 15 || runs < 400 && begun.elapsed() < Duration::from_secs(2) {
-        best[0] = best[0].min(timed(|counts| scores([B, P, m, d], &label, &disk, K, counts), &mut one));
-        best[1] = best[1].min(timed(|counts| engines::scores::scores([B, P, m, d], &label, &disk, K, counts), &mut two));
+        best[0] = best[0].min(timed(|counts| scores([B, P, m, d, m], &label, &disk, K, counts), &mut one));
+        best[1] = best[1].min(timed(|counts| engines::scores::scores([B, P, m, d, m], &label, &disk, K, counts), &mut two));
         assert!(one == two, "m {m}, d {d}: plain Rust counts otherwise");
         runs += 1;
     }

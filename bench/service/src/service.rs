@@ -19,7 +19,7 @@ extern "C" {
     ) -> u32;
     fn mindavehu_flush(s: M, sl: usize, d: M, dl: usize, f: P, fl: usize, a: M, al: usize, b: P, bl: usize, w: M, wl: usize) -> u32;
     fn mindavehu_look(s: P, sl: usize, address: u32, d: P, dl: usize, f: P, fl: usize, a: P, al: usize, b: P, bl: usize, w: M, wl: usize) -> u32;
-    fn mindavehu_scores(b: usize, p: usize, m: usize, d: usize, l: P, ll: usize, disk: P, dl: usize, k: usize, c: M, cl: usize) -> u32;
+    fn mindavehu_scores(b: usize, p: usize, m: usize, d: usize, t: usize, l: P, ll: usize, disk: P, dl: usize, k: usize, c: M, cl: usize) -> u32;
 }
 
 /// Functions on slices, each slice given with its own length: those of the library.
@@ -54,7 +54,7 @@ pub fn read_many(s: &mut [u8], asked: &[u32], d: &mut [u8], f: &mut [u8], a: &mu
     unsafe { mindavehu_read_many(s.0, s.1, asked.as_ptr(), asked.len(), d.0, d.1, f.0, f.1, a.0, a.1, b.0, b.1, k.0, k.1, w.0, w.1) }
 }
 
-/// The one function that takes a box's numbers: B, P, m and d.
-pub fn scores([b, p, m, d]: [usize; 4], label: &[u8], disk: &[u8], k: usize, counts: &mut [u8]) -> u32 {
-    unsafe { mindavehu_scores(b, p, m, d, label.as_ptr(), label.len(), disk.as_ptr(), disk.len(), k, counts.as_mut_ptr(), counts.len()) }
+/// The one function that takes a box's numbers: B, P, m, d and the limit.
+pub fn scores([b, p, m, d, t]: [usize; 5], label: &[u8], disk: &[u8], k: usize, counts: &mut [u8]) -> u32 {
+    unsafe { mindavehu_scores(b, p, m, d, t, label.as_ptr(), label.len(), disk.as_ptr(), disk.len(), k, counts.as_mut_ptr(), counts.len()) }
 }

@@ -13,6 +13,6 @@ abbrev pub doneOf : Outcome → (disk flash addresses blocks : List ℕ) → Don
 doneOf r disk flash addresses blocks
     = record { answer = answerOf (r .answer); lent = lent (r .box_record) disk flash addresses blocks (countersOf (r .counters)) }
 
--- the box record of a box's numbers and label and its n
+-- the box record of a box's numbers, label and limit and its n
 abbrev pub recordOf : Numbers → ℕ → BoxRecord
-recordOf N n = record { size = N .B; blocks = N .P; rows = N .m; slots = N .d; held = n; label = N .label }
+recordOf N n = record { size = N .B; blocks = N .P; rows = N .m; slots = N .d; held = n; label = N .label; limit = N .t }

@@ -1,12 +1,13 @@
 -- The replay: from the whole input to the whole output. Assumes nothing.
-use mathlib.Core.Bool.{_||_, cond}
+use mathlib.Core.Path.{_≡_}
+use mathlib.Core.Bool.{false, _||_, cond}
 use mathlib.Core.List.{List, [], _∷_, _++_}
 use mathlib.Core.Option.{Option, none, some}
 use Prim.Native.Nat.{ℕ, zero, suc, _+_, _*_, _%_, _^_}
 use lib.Dec.{eqb, ltb}
 use lib.ListN.{replicate}
 use Rattle.paper.specs.Cache.{Numbers, noCounts}
-use Rattle.paper.specs.Lent.{Lent, Ask, Answer, refused, unfit, fresh, call}
+use Rattle.paper.specs.Lent.{Lent, Ask, Answer, refused, unfit, limitOutside, fresh, call}
 use Rattle.lines.specs.Lines.{lines, parsed}
 use Rattle.lines.specs.declared.Command.{Command}
 use Rattle.lines.specs.declared.Command.the-variants.{Box, Read, Look, Flush, Through, Back, Invalidate, Unformed}
@@ -14,9 +15,13 @@ use Rattle.print.specs.Texts.{answerText, countersText}
 
 -- ---- the box line
 
--- U6: "replay's label is all zeros"
+-- U6: "replay's label is all zeros"; U8: "a limit t from 1 to m (m in replay)"
 abbrev pub numbers : (B P m d : ℕ) → Numbers
-numbers B P m d = record { B = B; P = P; m = m; d = d; label = replicate 64 0 }
+numbers B P m d = record { B = B; P = P; m = m; d = d; label = replicate 64 0; t = m }
+
+-- numbers that pass 1 and 12
+abbrev pub Opening : Numbers → Type 0
+Opening N = (unfit N ≡ false) × (limitOutside N ≡ false)
 
 -- "5: replay only: P above 256, or P × B or d × B above 16,384."
 unfoldable pub large : Numbers → ℕ

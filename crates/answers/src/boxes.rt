@@ -13,9 +13,16 @@ pub fn box_of(c: Command) -> BoxRecord
 {
     match c {
         Command::Box(b, p, m, d) => {
-            parts::empty_box(b as usize, p as usize, m as usize, d as usize, [0u8; 64])
+            parts::empty_box(
+                b as usize,
+                p as usize,
+                m as usize,
+                d as usize,
+                m as usize,
+                [0u8; 64],
+            )
         }
-        _ => parts::empty_box(0, 0, 0, 0, [0u8; 64]),
+        _ => parts::empty_box(0, 0, 0, 0, 0, [0u8; 64]),
     }
 }
 
@@ -43,7 +50,14 @@ pub fn box_refusal(c: Command) -> u32
     let Command::Box(b, p, m, d) = c else {
         return 4;
     };
-    let x = parts::empty_box(b as usize, p as usize, m as usize, d as usize, [0u8; 64]);
+    let x = parts::empty_box(
+        b as usize,
+        p as usize,
+        m as usize,
+        d as usize,
+        m as usize,
+        [0u8; 64],
+    );
     if refusals::numbers_unfit(x) {
         return 1;
     }

@@ -3,13 +3,11 @@ use counters::Counters;
 use open::Begun;
 use parts::BoxRecord;
 ghost use mathlib.Core.Path.{_≡_};
-ghost use mathlib.Core.Bool.{false};
 ghost use Prim.Native.Nat.{_*_, _≤_};
 ghost use lib.ListN.{length, replicate};
-ghost use Rattle.paper.specs.Lent.{unfit};
 ghost use Rattle.parts.specs.Rep.{numbersOf};
 ghost use Rattle.refusals.specs.Given.{countersOf, lent};
-ghost use Rattle.answers.specs.Replay.{startDisk, started};
+ghost use Rattle.answers.specs.Replay.{Opening, startDisk, started};
 ghost use Rattle.tables.specs.Rows.{tableBytes};
 
 // Fills a slice with one byte.
@@ -45,7 +43,7 @@ pub fn start(
     addresses: &mut [u8],
     blocks: &mut [u8],
 ) -> Begun
-    requires { ⌜ (b .size ≤ 4096) × (b .blocks ≤ 256) × (unfit (numbersOf b) ≡ false) ⌝ }
+    requires { ⌜ (b .size ≤ 4096) × (b .blocks ≤ 256) × Opening (numbersOf b) ⌝ }
     requires { ⌜ (length (now disk) ≡ b .blocks * b .size) × (length (now flash) ≡ b .slots * b .size) × (length (now addresses) ≡ tableBytes (b .rows))
         × (length (now blocks) ≡ tableBytes (b .slots)) ⌝ }
     ensures { λ r. ⌜ numbersOf (r .box_record) ≡ numbersOf b ⌝ }
@@ -66,6 +64,7 @@ pub fn start(
         b.blocks,
         b.rows,
         b.slots,
+        b.limit,
         &label,
         disk,
         flash,

@@ -20,13 +20,15 @@ pub record Sizes : Type 0 where
   pub X : ℕ
   -- U6: the office label
   pub label : List ℕ
+  -- U8: "a limit t from 1 to m"
+  pub t : ℕ
 
 abbrev pub mOf : Sizes → ℕ
 mOf Z = Z .C + Z .C + Z .X
 
 -- the base's numbers of it
 abbrev pub baseNumbers : Sizes → Numbers
-baseNumbers Z = record { B = Z .B; P = Z .P; m = mOf Z; d = Z .C; label = Z .label }
+baseNumbers Z = record { B = Z .B; P = Z .P; m = mOf Z; d = Z .C; label = Z .label; t = Z .t }
 
 -- "Beside the tables .. lie its lists T1, T2, B1, B2, B3, oldest first", "and the number p, first 0"
 pub record Lists : Type 0 where
@@ -318,4 +320,4 @@ module _ {F X : Type 0} (H : Hashing F X) where
   arcStep Z l s q = arcStepAs Z l s q (listOf (q .address) l)
 
   abbrev pub arc : Sizes → Policy F X Lists
-  arc Z = record { run = arcStep Z; leave = left }
+  arc Z = record { run = arcStep Z; leave = left; limit = Z .t }

@@ -10,7 +10,7 @@ use lib.ListN.{length, getD}
 use Rattle.paper.specs.KeyedLaws.{All}
 use Rattle.paper.specs.Cache.{AddressRow, Box, held, rowWithBlock}
 use Rattle.paper.specs.Engine.{Fixed, labelled}
-use Rattle.paper.specs.Lent.{Ask, calling, callOf, aboutAsk, boxIn, join, split, oneOf}
+use Rattle.paper.specs.Lent.{Ask, calling, callOf, aboutAsk, boxIn, FewDirty, join, split, oneOf}
 use Rattle.paper.specs.BatchLent.{Asking, one, many, report}
 use Rattle.paper.specs.Machines.{plainNext, plainBlock, writtenBy, TrueFingerprints, NoTwoShare}
 use Rattle.arc.specs.Arc.{Sizes, baseNumbers, mOf, Lists, onTop}
@@ -57,7 +57,7 @@ unfoldable pub ArcEachServed : (Z : Sizes) (Q : ArcLent → List (Fixed (Z .B)) 
 ArcEachServed Z Q t plain [] = Unit {0}
 ArcEachServed Z Q t plain (q ∷ qs) = (arcNumber Z t q ≡ 0 → Q t plain q) × ArcEachServed Z Q (arcNext Z t q) (arcPlain Z t plain q) qs
 
--- "In such a list no call gets 6, 7 or 8.", nor 11
+-- "In such a list no call gets 6, 7 or 8.", nor 11, 12 or 13
 abbrev pub ArcInList : ℕ → Type 0
 ArcInList k = oneOf k (0 ∷ 2 ∷ 3 ∷ 9 ∷ 10 ∷ []) ≡ true
 
@@ -116,6 +116,8 @@ ArcPremise Z t qs = NoTwoShare (labelled (baseNumbers Z)) (diskOf Z t ++ arcWrit
 pub record ArcDemand (Z : Sizes) (t : ArcLent) (qs : List Asking) : Type 0 where
   pub numbers : All ArcInList (arcRefusals Z t qs)
   pub state : ArcThroughout Z (λ x plain. ArcStateLaw Z x) t (diskOf Z t) qs
+  -- U8: "Every reachable state has at most t dirty rows."
+  pub dirty : ArcThroughout Z (λ x plain. FewDirty (baseNumbers Z) (boxOf Z x)) t (diskOf Z t) qs
   pub fingerprints : ArcPremise Z t qs → ArcThroughout Z (λ x plain. TrueFingerprints (labelled (baseNumbers Z)) (boxOf Z x) plain) t (diskOf Z t) qs
   pub blocks : ArcPremise Z t qs → ArcEachServed Z (ArcShows Z) t (diskOf Z t) qs
   pub asReads : ArcPremise Z t qs → ArcEachServed Z (ArcAsReads Z) t (diskOf Z t) qs

@@ -8,22 +8,22 @@ use Prim.Native.Nat.{ℕ, _+_, _-_, _*_, _^_, _≤_, _<_}
 use native.Mathlib.Omega.{arith}
 use lib.Dec.{eqb, leb, ltb}
 use lib.ListN.{length, length-append}
-use borrow.Author.Tests.{eqb-true, eqb-false, eq-eqb, leb-true, leb-false, ltb-false, ne-eqb, not-false}
+use borrow.Author.Tests.{eqb-true, eqb-false, eq-eqb, leb-true, leb-false, ltb-false, le-ltb, ne-eqb, not-false}
 use Rattle.tables.specs.Rows.{zeros}
 use Rattle.tables.specs.ShiftLaws.{length-zeros}
 use Rattle.tables.specs.Records.{addressTable, blockTable, freeRow, slotsFrom, freshAddresses, freshBlocks}
 use Rattle.tables.specs.Unsound.{elem, addressesUnsound, dirtyUncached}
 use Rattle.paper.specs.Cache as Paper
-use Rattle.paper.specs.Cache.{Numbers, Hashing, Box, Below, Within, rowWithBlock, noCounts, Counters, counted, isRead, isHit}
+use Rattle.paper.specs.Cache.{Numbers, Hashing, Box, Below, Within, dirtyRows, rowWithBlock, noCounts, Counters, counted, isRead, isHit}
 use Rattle.paper.specs.KeyedLaws.{All, by-test, all-left, all-right, all-map, or-false-left, or-false-right, or-both, and-left, and-right}
 use Rattle.paper.specs.Engine.{Fixed, labelled}
 use Rattle.paper.specs.Lent as Base
 use Rattle.paper.specs.Lent.{Ask, opening, calling, callOf, addressOf, lentBlock, between, otherLength, wrongBuffers, wrongBlock, outside, over}
-use Rattle.paper.specs.Lent.{counts, boxIn, lentOf, blockAfter, partAfter, refused, join, split}
+use Rattle.paper.specs.Lent.{limitOutside, overLimit, FewDirty, counts, boxIn, lentOf, blockAfter, partAfter, refused, join, split}
 use Rattle.paper.specs.Machines.{plainNext, plainBlock, writtenBy, TrueFingerprints}
 use Rattle.paper.specs.Faithful.{at, BlockTrue, Faithful}
 use Rattle.paper.specs.PlainDisk.{clean-is-plain}
-use Rattle.paper.specs.FewWrites.{one-if-le}
+use Rattle.paper.specs.FewWrites.{one-if-le, few-by}
 use Rattle.paper.specs.Parts.{length-split, join-split}
 use Rattle.paper.specs.LentLaws.{Lengths, right-lengths, Passes, passes-sound, sound-passes, lent-back}
 use Rattle.paper.specs.CallLaws.{about-call, Grown, In64, not-over}
@@ -34,14 +34,13 @@ use Rattle.paper.specs.BatchLaws.{GrownBy}
 use Rattle.paper.specs.Reports as Reports
 use Rattle.arc.specs.Policy.{Served, serveBy}
 use Rattle.arc.specs.PlainRows.{Only}
-use Rattle.arc.specs.Promise.{Promise, inv-read, inv-serve, faithful-serves, flushes-one, all-mem}
+use Rattle.arc.specs.Promise.{Promise, inv-read, inv-serve, tally-reads, tally-serves, faithful-serves, flushes-one, all-mem}
 use Rattle.arc.specs.Arc.{Sizes, baseNumbers, mOf, Lists, noLists, arc}
 use Rattle.arc.specs.ArcStep.{ArcSound}
 use Rattle.arc.specs.ArcSays.{top-has-block, named-once}
 use Rattle.arc.specs.ArcLaws.{arc-promises, arc-fresh}
 use Rattle.arc.specs.Folder.{FolderBy, nextRead, folderRead, folder, ownRead, folderInTurn}
-use Rattle.arc.specs.FolderLaws.{folder-inv, folder-in-turn, folder-good, folder-blocks}
-use Rattle.arc.specs.ArcFew.{arc-read-few, arc-serve-few}
+use Rattle.arc.specs.FolderLaws.{folder-inv, folder-few-dirty, folder-in-turn, folder-good, folder-blocks}
 use Rattle.arc.specs.ArcLent.{ArcLent, wordBytes, endToEnd, listBytes, listRecord, unfitArc, listsUnsound, topUncached, topsIn, wrongArcBuffers}
 use Rattle.arc.specs.ArcLent.{arcRefusal, arcLentOf, arcServed, arcCall, arcOpened, noSizes}
 use Rattle.arc.specs.ArcLentLaws.{lists-back, lists-pass, tops-pass, passes-arc, total-end, length-words}
@@ -89,12 +88,13 @@ module _ (Z : Sizes) where
   abbrev M : Numbers
   M = baseNumbers Z
 
-  -- lent memory that passes 2, 6, 7 and 8
+  -- lent memory that passes 2, 6, 7, 8 and 13
   pub record ArcPasses (t : ArcLent) : Type 0 where
     pub base : Passes M (t .base)
     pub width : otherLength (t .lists) (mOf Z * 4) ≡ false
     pub six : listsUnsound Z ((boxOf Z t) .rows) (t .sizes) (t .lists) ≡ false
     pub eight : topUncached H (boxOf Z t) (topsIn (t .sizes) (t .lists)) ≡ false
+    pub few : FewDirty M (boxOf Z t)
 
   -- what a served call finds
   pub record Found (t : ArcLent) (q : Ask) : Type 0 where
@@ -107,12 +107,12 @@ module _ (Z : Sizes) where
   found t q e =
       let b = t .base in
       let x = arc-exactly Z t q .gives-0 .0 e in
-      let w = or-false-left (wrongArcBuffers Z t) (wrongBlock (Z .B) (lentBlock q)) (x .1 .0) in
+      let w = or-false-left (wrongArcBuffers Z t) (wrongBlock (Z .B) (lentBlock q)) (x .1 .1 .0) in
       let a6 = addressesUnsound (Z .P) (mOf Z) (b .n) (b .addresses) in
       let l6 = listsUnsound Z ((boxOf Z t) .rows) (t .sizes) (t .lists) in
       let d8 = dirtyUncached (b .n) (Z .C) (b .addresses) (b .blocks) in
       let l8 = topUncached H (boxOf Z t) (topsIn (t .sizes) (t .lists)) in
-      let y = x .1 .1 .1 in
+      let y = x .1 .1 .1 .1 in
       record {
         fits = arc-fits Z (x .0);
         passes = record {
@@ -125,9 +125,10 @@ module _ (Z : Sizes) where
           width = or-false-right (wrongBuffers M b) (otherLength (t .lists) (mOf Z * 4)) w;
           six = or-false-right a6 l6 (y .0);
           eight = or-false-right d8 l8 (y .1 .1 .0);
+          few = ltb-false (Z .t) (dirtyRows H ((boxOf Z t) .rows)) (y .1 .1 .1 .0);
         };
-        inside = within (Z .P) (Z .B) q (x .1 .1 .0);
-        counters = y .1 .1 .1 .0;
+        inside = within (Z .P) (Z .B) q (x .1 .1 .1 .0);
+        counters = y .1 .1 .1 .1 .0;
       }
 
   -- memory that passes is right, whatever bytes it has
@@ -159,13 +160,14 @@ module _ (Z : Sizes) where
         let z = length-zeros ((mOf Z - length (endToEnd l)) * 4) in
         omega (arith, e, w, f, g, n, z)
 
-    pub right-passes : ArcPasses out
-    right-passes =
+    pub right-passes : FewDirty M s → ArcPasses out
+    right-passes few =
         record {
           base = sound-passes M s (h .sound) k (f .P-most) (f .C-most);
           width = ap not (eq-eqb (length (listBytes (mOf Z) l)) (mOf Z * 4) list-width);
           six = subst (λ b. listsUnsound Z (b .rows) (listRecord l) (listBytes (mOf Z) l) ≡ false) (sym box-back) (lists-pass H Z low l s h (mOf Z));
           eight = subst (λ b. topUncached H b (topsIn (listRecord l) (listBytes (mOf Z) l)) ≡ false) (sym box-back) (tops-pass H Z low l s h (mOf Z));
+          few = subst (FewDirty M) (sym box-back) few;
         }
 
   -- the paper's outcome of a call on lent bytes
@@ -192,6 +194,12 @@ module _ (Z : Sizes) where
         inv-serve H M (arc H Z) (ArcSound H Z) (arc-promises H Z (x .fits .C-least)) (listsOf t) (boxOf Z t) (callOf (Z .B) q) (passes-right t (x .passes))
         (x .inside)
 
+    outcome-few : FewDirty M ((arcOutcome t q) .outcome .box)
+    outcome-few =
+        let x = found t q e in
+        (tally-serves H M (arc H Z) (ArcSound H Z) (arc-promises H Z (x .fits .C-least)) (listsOf t) (boxOf Z t) (callOf (Z .B) q)
+        (passes-right t (x .passes))) .few (x .passes .few)
+
     abbrev after : Counters
     after = counted (t .base .counters) (callOf (Z .B) q) ((arcOutcome t q) .outcome)
 
@@ -213,7 +221,8 @@ module _ (Z : Sizes) where
 
     pub served-passes : ArcPasses ((arcCall Z t q) .lent)
     served-passes =
-        subst ArcPasses (sym served-lent) (right-passes ((arcOutcome t q) .kept) ((arcOutcome t q) .outcome .box) outcome-right after (found t q e .fits))
+        subst ArcPasses (sym served-lent)
+        (right-passes ((arcOutcome t q) .kept) ((arcOutcome t q) .outcome .box) outcome-right after (found t q e .fits) outcome-few)
 
     pub served-counters : ((arcCall Z t q) .lent) .base .counters ≡ after
     unfolding lentOf
@@ -226,7 +235,9 @@ module _ (Z : Sizes) where
         let x = found t q e in
         let o = (arcOutcome t q) .outcome in
         let c = callOf (Z .B) q in
-        let few = arc-serve-few H Z (x .fits .C-least) (listsOf t) (boxOf Z t) c (passes-right t (x .passes)) in
+        let right = passes-right t (x .passes) in
+        let few = few-by H M (Z .t) (boxOf Z t) o (right .sound)
+        (tally-serves H M (arc H Z) (ArcSound H Z) (arc-promises H Z (x .fits .C-least)) (listsOf t) (boxOf Z t) c right) in
         let f : o .flashWrites ≤ 1 = few .0 in
         let p : o .primaryWrites ≤ mOf Z + 1 = few .1 in
         let r = one-if-le (isRead c) in
@@ -276,12 +287,12 @@ module _ (Z : Sizes) where
   folder-found t l buffer e =
       let b = t .base in
       let x = arc-exactly-folder Z t l buffer .gives-0 .0 e in
-      let w = or-false-left (wrongArcBuffers Z t) (otherLength buffer (length l * Z .B)) (x .1 .0) in
+      let w = or-false-left (wrongArcBuffers Z t) (otherLength buffer (length l * Z .B)) (x .1 .1 .0) in
       let a6 = addressesUnsound (Z .P) (mOf Z) (b .n) (b .addresses) in
       let l6 = listsUnsound Z ((boxOf Z t) .rows) (t .sizes) (t .lists) in
       let d8 = dirtyUncached (b .n) (Z .C) (b .addresses) (b .blocks) in
       let l8 = topUncached H (boxOf Z t) (topsIn (t .sizes) (t .lists)) in
-      let y = x .1 .1 .1 .1 in
+      let y = x .1 .1 .1 .1 .1 in
       record {
         fits = arc-fits Z (x .0);
         passes = record {
@@ -294,10 +305,11 @@ module _ (Z : Sizes) where
           width = or-false-right (wrongBuffers M b) (otherLength (t .lists) (mOf Z * 4)) w;
           six = or-false-right a6 l6 (y .0);
           eight = or-false-right d8 l8 (y .1 .1 .0);
+          few = ltb-false (Z .t) (dirtyRows H ((boxOf Z t) .rows)) (y .1 .1 .1 .0);
         };
-        inside = all-within (Z .P) l (x .1 .1 .1 .0);
-        count = x .1 .1 .0;
-        counters = y .1 .1 .1 .0;
+        inside = all-within (Z .P) l (x .1 .1 .1 .1 .0);
+        count = x .1 .1 .1 .0;
+        counters = y .1 .1 .1 .1 .0;
       }
 
   pub folder-served : (t : ArcLent) (l b : List ℕ) → arcFolderRefusal Z t l b ≡ 0 → arcFolderCall Z t l b ≡ arcServedFolder Z t l
@@ -318,6 +330,12 @@ module _ (Z : Sizes) where
     folder-right =
         let x = folder-found t l b e in
         folder-inv H M (arc H Z) (ArcSound H Z) (arc-promises H Z (x .fits .C-least)) (folderStart Z t) l (passes-right t (x .passes)) (x .inside)
+
+    folder-few : FewDirty M ((folderFrom Z t l) .batched .box)
+    folder-few =
+        let x = folder-found t l b e in
+        folder-few-dirty H M (arc H Z) (ArcSound H Z) (arc-promises H Z (x .fits .C-least)) (folderStart Z t) l (passes-right t (x .passes)) (x .inside)
+        (x .passes .few)
 
     pub folder-lent : (arcFolderCall Z t l b) .lent ≡ folderLent Z (folderFrom Z t l)
     unfolding arcServedFolder
@@ -346,7 +364,7 @@ module _ (Z : Sizes) where
     folder-passes =
         subst ArcPasses (sym folder-lent)
         (right-passes ((folderFrom Z t l) .kept) ((folderFrom Z t l) .batched .box) folder-right ((folderFrom Z t l) .batched .counters)
-        (folder-found t l b e .fits))
+        (folder-found t l b e .fits) folder-few)
 
   -- its counters: n reads add at most n to each of three, and n times 1,025 primary writes
   folder-grows : ArcFits Z → (r : FolderBy (Fixed 32) (Fixed (Z .B)) Lists) (l : List ℕ) → ArcSound H Z (r .kept) (r .batched .box) → All (λ a. a < Z .P) l
@@ -358,7 +376,8 @@ module _ (Z : Sizes) where
       let x = source H s a (firstRead a (r .batched .filled)) in
       let m = f .m-most in
       let o = (nextRead H (arc H Z) r a) .outcome in
-      let few = arc-read-few H Z (f .C-least) (r .kept) s a x (rowWithBlock H s a) h in
+      let few = few-by H M (Z .t) s o (h .sound)
+      (tally-reads H M (arc H Z) (ArcSound H Z) (arc-promises H Z (f .C-least)) (r .kept) s a x (rowWithBlock H s a) refl h) in
       let f₀ : o .flashWrites ≤ 1 = few .0 in
       let f₁ : o .primaryWrites ≤ mOf Z + 1 = few .1 in
       let hit = one-if-le (isHit (o .word)) in
@@ -416,7 +435,7 @@ module _ (Z : Sizes) where
 
   -- ---- what each call keeps with no premise
 
-  passes-next : (t : ArcLent) (q : Asking) → ArcPasses t → ArcPasses (arcNext Z t q)
+  pub passes-next : (t : ArcLent) (q : Asking) → ArcPasses t → ArcPasses (arcNext Z t q)
   passes-next t (one q) p =
       by-test (eqb (arcRefusal Z t (calling q)) 0)
       (λ y. served-passes t q (eqb-true (arcRefusal Z t (calling q)) 0 y))
@@ -438,49 +457,54 @@ module _ (Z : Sizes) where
         pLow = h .pLow;
       }
 
-  state-throughout : (t : ArcLent) (plain : List (Fixed (Z .B))) (qs : List Asking) → ArcPasses t → ArcThroughout Z (λ x p. ArcStateLaw Z x) t plain qs
+  -- a claim of each state
+  passing-throughout : (Q : ArcLent → Type 0) → ((t : ArcLent) → ArcPasses t → Q t) → (t : ArcLent) (plain : List (Fixed (Z .B))) (qs : List Asking)
+      → ArcPasses t → ArcThroughout Z (λ x p. Q x) t plain qs
   unfolding ArcThroughout
-  state-throughout t plain [] p = state-law t p
-  state-throughout t plain (q ∷ qs) p = (state-law t p, state-throughout (arcNext Z t q) (arcPlain Z t plain q) qs (passes-next t q p))
+  passing-throughout Q f t plain [] p = f t p
+  passing-throughout Q f t plain (q ∷ qs) p = (f t p, passing-throughout Q f (arcNext Z t q) (arcPlain Z t plain q) qs (passes-next t q p))
 
-  in-list : (t : ArcLent) (q : Asking) → unfitArc Z ≡ false → ArcPasses t → ArcInList (arcNumber Z t q)
+  -- the tests of the tables and the lists
+  pub no-6 : (t : ArcLent) → ArcPasses t
+      → (addressesUnsound (Z .P) (mOf Z) (t .base .n) (t .base .addresses) || listsUnsound Z ((boxOf Z t) .rows) (t .sizes) (t .lists)) ≡ false
+  no-6 t p = or-both (addressesUnsound (Z .P) (mOf Z) (t .base .n) (t .base .addresses)) (listsUnsound Z ((boxOf Z t) .rows) (t .sizes) (t .lists))
+      (p .base .addresses) (p .six)
+
+  pub no-8 : (t : ArcLent) → ArcPasses t
+      → (dirtyUncached (t .base .n) (Z .C) (t .base .addresses) (t .base .blocks) || topUncached H (boxOf Z t) (topsIn (t .sizes) (t .lists))) ≡ false
+  no-8 t p = or-both (dirtyUncached (t .base .n) (Z .C) (t .base .addresses) (t .base .blocks))
+      (topUncached H (boxOf Z t) (topsIn (t .sizes) (t .lists))) (p .base .dirty) (p .eight)
+
+  pub no-13 : (t : ArcLent) → ArcPasses t → overLimit M (t .base) ≡ false
+  no-13 t p = le-ltb (Z .t) (dirtyRows H ((boxOf Z t) .rows)) (p .few)
+
+  in-list : (t : ArcLent) (q : Asking) → unfitArc Z ≡ false → limitOutside M ≡ false → ArcPasses t → ArcInList (arcNumber Z t q)
   unfolding arcRefusal arcFolderRefusal arcReportRefusal
-  in-list t (one q) u p =
+  in-list t (one q) u k p =
       let b = t .base in
-      let t6 = or-both (addressesUnsound (Z .P) (mOf Z) (b .n) (b .addresses)) (listsUnsound Z ((boxOf Z t) .rows) (t .sizes) (t .lists))
-      (p .base .addresses) (p .six) in
-      let t8 = or-both (dirtyUncached (b .n) (Z .C) (b .addresses) (b .blocks)) (topUncached H (boxOf Z t) (topsIn (t .sizes) (t .lists))) (p .base .dirty)
-      (p .eight) in
-      rw u (by-test (wrongArcBuffers Z t || wrongBlock (Z .B) (lentBlock q))
+      rw (u, k) (by-test (wrongArcBuffers Z t || wrongBlock (Z .B) (lentBlock q))
       (λ e. rw e refl)
       (λ e. rw e (by-test (outside (Z .P) (addressOf q))
       (λ f. rw f refl)
-      (λ f. rw (f, t6, p .base .blocks, t8) (by-test (counts q && over (b .counters)) (λ g. rw g refl) (λ g. rw g refl))))))
-  in-list t (many l buffer) u p =
+      (λ f. rw (f, no-6 t p, p .base .blocks, no-8 t p, no-13 t p) (by-test (counts q && over (b .counters)) (λ g. rw g refl) (λ g. rw g refl))))))
+  in-list t (many l buffer) u k p =
       let b = t .base in
-      let t6 = or-both (addressesUnsound (Z .P) (mOf Z) (b .n) (b .addresses)) (listsUnsound Z ((boxOf Z t) .rows) (t .sizes) (t .lists))
-      (p .base .addresses) (p .six) in
-      let t8 = or-both (dirtyUncached (b .n) (Z .C) (b .addresses) (b .blocks)) (topUncached H (boxOf Z t) (topsIn (t .sizes) (t .lists))) (p .base .dirty)
-      (p .eight) in
-      rw u (by-test (wrongArcBuffers Z t || otherLength buffer (length l * Z .B))
+      rw (u, k) (by-test (wrongArcBuffers Z t || otherLength buffer (length l * Z .B))
       (λ e. rw e refl)
       (λ e. rw e (by-test (badCount l)
       (λ c. rw c refl)
       (λ c. rw c (by-test (anyOutside (Z .P) l)
       (λ f. rw f refl)
-      (λ f. rw (f, t6, p .base .blocks, t8) (by-test (over (b .counters)) (λ g. rw g refl) (λ g. rw g refl))))))))
-  in-list t (report w lent) u p =
-      let b = t .base in
-      let t6 = or-both (addressesUnsound (Z .P) (mOf Z) (b .n) (b .addresses)) (listsUnsound Z ((boxOf Z t) .rows) (t .sizes) (t .lists))
-      (p .base .addresses) (p .six) in
-      let t8 = or-both (dirtyUncached (b .n) (Z .C) (b .addresses) (b .blocks)) (topUncached H (boxOf Z t) (topsIn (t .sizes) (t .lists))) (p .base .dirty)
-      (p .eight) in
-      rw u (by-test (wrongArcBuffers Z t || otherLength lent (mOf Z * Reports.width w)) (λ e. rw e refl) (λ e. rw (e, t6, p .base .blocks, t8) refl))
+      (λ f. rw (f, no-6 t p, p .base .blocks, no-8 t p, no-13 t p) (by-test (over (b .counters)) (λ g. rw g refl) (λ g. rw g refl))))))))
+  in-list t (report w lent) u k p =
+      rw (u, k) (by-test (wrongArcBuffers Z t || otherLength lent (mOf Z * Reports.width w))
+      (λ e. rw e refl)
+      (λ e. rw (e, no-6 t p, p .base .blocks, no-8 t p, no-13 t p) refl))
 
-  numbers-are : (t : ArcLent) (qs : List Asking) → unfitArc Z ≡ false → ArcPasses t → All ArcInList (arcRefusals Z t qs)
+  numbers-are : (t : ArcLent) (qs : List Asking) → unfitArc Z ≡ false → limitOutside M ≡ false → ArcPasses t → All ArcInList (arcRefusals Z t qs)
   unfolding arcRefusals
-  numbers-are t [] u p = tt
-  numbers-are t (q ∷ qs) u p = (in-list t q u p, numbers-are (arcNext Z t q) qs u (passes-next t q p))
+  numbers-are t [] u l p = tt
+  numbers-are t (q ∷ qs) u l p = (in-list t q u l p, numbers-are (arcNext Z t q) qs u l (passes-next t q p))
 
   -- ---- what each call keeps under the premise, over any blocks of which no two different ones share a fingerprint
 
@@ -621,9 +645,12 @@ module _ (Z : Sizes) where
     fits-numbers : unfitArc Z ≡ false
     fits-numbers = (arc-exactly-opening Z t .gives-0 .0 opens) .0
 
+    fits-limit : limitOutside M ≡ false
+    fits-limit = (arc-exactly-opening Z t .gives-0 .0 opens) .1 .0
+
     lengths : Lengths M (t .base)
     lengths = right-lengths M (t .base) (or-false-left (wrongBuffers M (t .base)) (otherLength (t .lists) (mOf Z * 4))
-        ((arc-exactly-opening Z t .gives-0 .0 opens) .1 .0))
+        ((arc-exactly-opening Z t .gives-0 .0 opens) .1 .1 .0))
 
     flash : List (Fixed (Z .B))
     flash = split (Z .B) (Z .C) (t .base .flash)
@@ -657,8 +684,9 @@ module _ (Z : Sizes) where
     fresh-box : boxOf Z (arcOpened Z t) ≡ Paper.fresh (Z .C) flash disk
     fresh-box = ap (boxOf Z) fresh-lent ∙ box-back noLists (Paper.fresh (Z .C) flash disk) fresh-right noCounts (arc-fits Z fits-numbers)
 
-    fresh-passes : ArcPasses (arcOpened Z t)
-    fresh-passes = subst ArcPasses (sym fresh-lent) (right-passes noLists (Paper.fresh (Z .C) flash disk) fresh-right noCounts (arc-fits Z fits-numbers))
+    pub fresh-passes : ArcPasses (arcOpened Z t)
+    fresh-passes = subst ArcPasses (sym fresh-lent) (right-passes noLists (Paper.fresh (Z .C) flash disk) fresh-right noCounts (arc-fits Z fits-numbers)
+        (omega arith))
 
     fresh-disk : diskOf Z (arcOpened Z t) ≡ disk
     unfolding Base.fresh disk
@@ -686,8 +714,9 @@ module _ (Z : Sizes) where
         let i₀ = all-left In plain (arcWritten Z o qs) (all-mem all) in
         let i₁ = all-right In plain (arcWritten Z o qs) (all-mem all) in
         record {
-          numbers = numbers-are o qs fits-numbers fresh-passes;
-          state = state-throughout o plain qs fresh-passes;
+          numbers = numbers-are o qs fits-numbers fits-limit fresh-passes;
+          state = passing-throughout (ArcStateLaw Z) state-law o plain qs fresh-passes;
+          dirty = passing-throughout (λ x. FewDirty M (boxOf Z x)) (λ x p. p .few) o plain qs fresh-passes;
           fingerprints = λ only. throughout In only (λ x p. TrueFingerprints H (boxOf Z x) p) (fingerprints In only) o plain qs (fresh-held In only i₀) i₁;
           blocks = λ only. each-served In only (ArcShows Z) (shown In only) o plain qs (fresh-held In only i₀) i₁;
           asReads = λ only. each-served In only (ArcAsReads Z) (as-reads In only) o plain qs (fresh-held In only i₀) i₁;

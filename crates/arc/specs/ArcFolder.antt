@@ -6,7 +6,7 @@ use Prim.Native.Nat.{ℕ, _*_}
 use lib.Dec.{eqb}
 use lib.ListN.{length}
 use Rattle.paper.specs.Engine.{Fixed, labelled}
-use Rattle.paper.specs.Lent.{Ask, Test, test, first, otherLength, over, boxIn, lentOf, join}
+use Rattle.paper.specs.Lent.{Ask, Test, test, first, limitOutside, otherLength, over, boxIn, lentOf, join}
 use Rattle.paper.specs.Batch.{start, blocksIn}
 use Rattle.paper.specs.BatchLent.{badCount, anyOutside, BatchAnswer, refused, batched}
 use Rattle.arc.specs.Folder.{FolderBy, folder}
@@ -17,6 +17,7 @@ use Rattle.arc.specs.ArcLent.{ArcLent, listsIn, unfitArc, wrongArcBuffer
 abbrev pub arcFolderTests : Sizes → ArcLent → (asked buffer : List ℕ) → List Test
 arcFolderTests Z t l buffer =
     test (unfitArc Z) 11
+    ∷ test (limitOutside (baseNumbers Z)) 12
     ∷ test (wrongArcBuffers Z t || otherLength buffer (length l * Z .B)) 2
     ∷ test (badCount l) 10
     ∷ test (anyOutside (Z .P) l) 3

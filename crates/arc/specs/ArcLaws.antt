@@ -19,6 +19,7 @@ use Rattle.arc.specs.Arc.{Sizes, baseNumbers, Lists, noLists, onTop, Was
 use Rattle.arc.specs.Tally.{tally, tally-without-self, tally-without-other, length-without}
 use Rattle.arc.specs.ArcMid.{named, TopCached}
 use Rattle.arc.specs.ArcStep.{ArcSound, left-names, left-none, left-total, left-fit, left-few, left-top, mid-joined, upTo, ready}
+use Rattle.arc.specs.ArcFew.{arc-spends}
 use Rattle.arc.specs.ArcFair.{Fair, fair-out, fair-newest, fair-store, fair-joins}
 
 module _ {F X : Type 0} (H : Hashing F X) (Z : Sizes) where
@@ -149,6 +150,7 @@ module _ {F X : Type 0} (H : Hashing F X) (Z : Sizes) where
         shape = arc-shape;
         invalidates = arc-invalidated c1;
         steps = arc-steps c1;
+        spends = arc-spends H Z c1;
         faithful = λ In only plain l s q h f w t. arc-faithful c1 In only plain l s q h f t;
       }
 

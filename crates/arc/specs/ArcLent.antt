@@ -14,7 +14,7 @@ use Rattle.paper.specs.Cache.{Hashing, AddressRow, Box, cached, counted}
 use Rattle.paper.specs.Engine.{labelled}
 use Rattle.paper.specs.Lent as Base
 use Rattle.paper.specs.Lent.{Lent, Ask, Asked, opening, calling, callOf, addressOf, lentBlock, between, otherLength, wrongBuffers, wrongBlock, outside, over}
-use Rattle.paper.specs.Lent.{counts, boxIn, lentOf, Test, test, first, Answer, refused, answered, blockAfter, partAfter}
+use Rattle.paper.specs.Lent.{limitOutside, overLimit, counts, boxIn, lentOf, Test, test, first, Answer, refused, answered, blockAfter, partAfter}
 use Rattle.arc.specs.Policy.{serveBy}
 use Rattle.arc.specs.Arc.{Sizes, baseNumbers, mOf, Lists, isIn, arc}
 use Rattle.arc.specs.Tally.{count}
@@ -114,13 +114,16 @@ arcTableTests Z t rest =
     test (addressesUnsound (Z .P) (mOf Z) (b .n) (b .addresses) || listsUnsound Z (s .rows) (t .sizes) (t .lists)) 6
     ∷ test (blocksUnsound (Z .C) (b .blocks)) 7
     ∷ test (dirtyUncached (b .n) (Z .C) (b .addresses) (b .blocks) || topUncached (labelled (baseNumbers Z)) s (topsIn (t .sizes) (t .lists))) 8
+    ∷ test (overLimit (baseNumbers Z) b) 13
     ∷ rest
 
--- "Checked in the order 1, 2, 3, 6, 7, 8, 9, the first that applies. Flush has no 3, look no 9, opening only 1 and 2."; here 11 "in place of 1"
+-- "Checked in the order 1, 2, 3, 6, 7, 8, 9, the first that applies. Flush has no 3, look no 9, opening only 1 and 2."; here 11 "in place of 1",
+-- U8's 12 "right after 1 or 11" and 13 "right after 8"
 abbrev pub arcTests : Sizes → ArcLent → Asked → List Test
-arcTests Z t opening = test (unfitArc Z) 11 ∷ test (wrongArcBuffers Z t) 2 ∷ []
+arcTests Z t opening = test (unfitArc Z) 11 ∷ test (limitOutside (baseNumbers Z)) 12 ∷ test (wrongArcBuffers Z t) 2 ∷ []
 arcTests Z t (calling q) =
     test (unfitArc Z) 11
+    ∷ test (limitOutside (baseNumbers Z)) 12
     ∷ test (wrongArcBuffers Z t || wrongBlock (Z .B) (lentBlock q)) 2
     ∷ test (outside (Z .P) (addressOf q)) 3
     ∷ arcTableTests Z t (test (counts q && over (t .base .counters)) 9 ∷ [])

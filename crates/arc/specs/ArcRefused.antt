@@ -25,8 +25,9 @@ use Rattle.arc.specs.ArcFolder.{arcFolderRefusal}
 use Rattle.arc.specs.ArcReports.{arcReportRefusal, arcReported}
 use Rattle.arc.specs.ArcLent.{ListRecord, ArcLent, arcRefusal, arcCall, arcLabelAfter, wordBytes}
 
+-- with a limit of m
 abbrev numbers : ℕ → ℕ → ℕ → ℕ → Sizes
-numbers B P C X = record { B = B; P = P; C = C; X = X; label = replicate 64 0 }
+numbers B P C X = record { B = B; P = P; C = C; X = X; label = replicate 64 0; t = C + C + X }
 
 -- Blocks of 64 bytes, four on disk; C 2 and X 1, so m is 5.
 abbrev small : Sizes
@@ -34,7 +35,11 @@ small = numbers 64 4 2 1
 
 -- its label of so many bytes
 abbrev labelledBy : ℕ → Sizes
-labelledBy k = record { B = 64; P = 4; C = 2; X = 1; label = replicate k 7 }
+labelledBy k = record { B = 64; P = 4; C = 2; X = 1; label = replicate k 7; t = 5 }
+
+-- so many of its rows may be dirty
+abbrev upTo : ℕ → Sizes
+upTo limit = record { B = 64; P = 4; C = 2; X = 1; label = replicate 64 0; t = limit }
 
 abbrev filled : ℕ → List ℕ
 filled k = replicate 64 k
@@ -64,6 +69,10 @@ three = memory (row 0 (print 3) 0 ∷ row 1 (print 1) 1 ∷ row 3 (print 2) 0 �
 -- all four are held, with their blocks
 abbrev four : Lent
 four = memory (row 0 (print 1) 0 ∷ row 1 (print 1) 1 ∷ row 2 (print 2) 0 ∷ row 3 (print 2) 0 ∷ []) 4
+
+-- two of them dirty
+abbrev dirtyTwo : Lent
+dirtyTwo = memory (row 0 (print 1) 1 ∷ row 1 (print 1) 1 ∷ row 2 (print 2) 0 ∷ row 3 (print 2) 0 ∷ []) 4
 
 abbrev sizes : ℕ → ℕ → ℕ → ℕ → ℕ → ℕ → ListRecord
 sizes t1 t2 b1 b2 b3 p = record { t1 = t1; t2 = t2; b1 = b1; b2 = b2; b3 = b3; p = p }
@@ -119,6 +128,9 @@ pub record Case : Type 0 where
 abbrev asks : ArcLent → ℕ → Case
 asks t k = record { numbers = small; lent = t; asked = calling (Ask.read 1 (filled 0)); number = k }
 
+abbrev asksUpTo : ℕ → ArcLent → ℕ → Case
+asksUpTo limit t k = record { numbers = upTo limit; lent = t; asked = calling (Ask.read 1 (filled 0)); number = k }
+
 abbrev opens : ℕ → ℕ → ℕ → ℕ → ℕ → Case
 opens B P C X k = record { numbers = numbers B P C X; lent = right; asked = opening; number = k }
 
@@ -165,6 +177,18 @@ table =
     ∷ record { numbers = labelledBy 63; lent = right; asked = calling (Ask.read 1 (filled 0)); number = 2 }
     ∷ record { numbers = labelledBy 65; lent = right; asked = opening; number = 2 }
     ∷ record { numbers = labelledBy 64; lent = right; asked = opening; number = 0 }
+    -- 12: a limit outside 1 to m, which is 5; before 2, after 11
+    ∷ asksUpTo 0 right 12
+    ∷ asksUpTo 1 right 0
+    ∷ asksUpTo 6 right 12
+    ∷ asksUpTo 6 (record { base = three; sizes = sizes 1 1 1 0 0 1; lists = take 19 (right .lists) }) 12
+    ∷ record { numbers = upTo 0; lent = right; asked = opening; number = 12 }
+    ∷ record { numbers = upTo 1; lent = right; asked = opening; number = 0 }
+    ∷ record { numbers = record { B = 64; P = 4; C = 2; X = 1021; label = replicate 64 0; t = 0 }; lent = right; asked = opening; number = 11 }
+    -- 13: two dirty rows; after 8
+    ∷ asksUpTo 1 (box dirtyTwo (sizes 2 1 1 0 0 0) (0 ∷ 1 ∷ 2 ∷ 3 ∷ [])) 13
+    ∷ asksUpTo 2 (box dirtyTwo (sizes 2 1 1 0 0 0) (0 ∷ 1 ∷ 2 ∷ 3 ∷ [])) 0
+    ∷ asksUpTo 1 (box (memory (row 0 (print 3) 1 ∷ row 1 (print 1) 1 ∷ row 3 (print 2) 0 ∷ []) 3) (sizes 1 1 1 0 0 1) (1 ∷ 3 ∷ 0 ∷ [])) 8
     -- 11
     ∷ opens 64 4 2 1 0
     ∷ opens 96 4 2 1 11
@@ -191,13 +215,14 @@ labels-after = (refl, refl)
 
 -- folder reads of these addresses, with a buffer of so many blocks and bytes more
 pub record FolderCase : Type 0 where
+  pub numbers : Sizes
   pub lent : ArcLent
   pub asked : List ℕ
   pub buffer : List ℕ
   pub number : ℕ
 
 abbrev folderAsks : ArcLent → List ℕ → ℕ → ℕ → FolderCase
-folderAsks t l bytes k = record { lent = t; asked = l; buffer = replicate bytes 0; number = k }
+folderAsks t l bytes k = record { numbers = small; lent = t; asked = l; buffer = replicate bytes 0; number = k }
 
 abbrev pub folders : List FolderCase
 folders =
@@ -213,9 +238,12 @@ folders =
     ∷ folderAsks (byte 12 1) (1 ∷ 4 ∷ []) 128 3
     ∷ folderAsks (byte 12 1) (1 ∷ 3 ∷ []) 128 6
     ∷ folderAsks (box three (sizes 1 1 1 0 0 1) (0 ∷ 3 ∷ 1 ∷ [])) (1 ∷ 3 ∷ []) 128 8
+    -- 12 before 2, 13
+    ∷ record { numbers = upTo 0; lent = right; asked = []; buffer = 0 ∷ []; number = 12 }
+    ∷ record { numbers = upTo 1; lent = box dirtyTwo (sizes 2 1 1 0 0 0) (0 ∷ 1 ∷ 2 ∷ 3 ∷ []); asked = 1 ∷ []; buffer = filled 0; number = 13 }
     ∷ []
 
-pub folder-refusals-given : map (λ c. arcFolderRefusal small (c .lent) (c .asked) (c .buffer)) folders ≡ map (λ c. c .number) folders
+pub folder-refusals-given : map (λ c. arcFolderRefusal (c .numbers) (c .lent) (c .asked) (c .buffer)) folders ≡ map (λ c. c .number) folders
 unfolding arcFolderRefusal Bytes.unfitArc Bytes.words wordBytes Bytes.misnamed Bytes.oversized Bytes.listsUnsound Bytes.topUncached Lent.wrongBuffers
     Lent.over Lent.boxIn Lent.split Lent.freeSlots Lent.usedRows Engine.fit Rows.rows Rows.flat Rows.zeros Records.addressBytes Records.blockBytes
     Records.readAddress Records.readBlock addressTable blockTable Records.heldRows Records.blockRows Find.any Find.all Find.same Unsound.elem Unsound.twice
@@ -269,6 +297,9 @@ reportCases =
     -- "no 9"
     ∷ reports much manager 35 0
     ∷ reports much desk 25 0
+    -- 12 before 2, 13
+    ∷ record { numbers = upTo 0; lent = right; reader = desk; bytes = 24; number = 12 }
+    ∷ record { numbers = upTo 1; lent = box dirtyTwo (sizes 2 1 1 0 0 0) (0 ∷ 1 ∷ 2 ∷ 3 ∷ []); reader = desk; bytes = 25; number = 13 }
     -- 11 before 2
     ∷ record { numbers = numbers 64 4 2 1021; lent = right; reader = desk; bytes = 24; number = 11 }
     ∷ []

@@ -3,7 +3,7 @@
 use mathlib.Core.Path.{_≡_, refl}
 use mathlib.Core.Bool.{true, false}
 use mathlib.Core.List.{List, [], _∷_, map}
-use Prim.Native.Nat.{ℕ}
+use Prim.Native.Nat.{ℕ, _+_}
 use lib.ListN.{length, replicate}
 use Rattle.paper.specs.Cache.{AddressRow, Box, Outcome, newest, blockRow, before, Call, read, look, flush, fresh}
 use Rattle.paper.specs.Cache.{Word, hit, miss, sameBlock, newBlock, fromCache, fromDisk, done}
@@ -46,10 +46,11 @@ pub record State : Type 0 where
   pub lists : Lists
   pub box : Box ℕ ℕ
 
--- C and X, the lists and the box before the first call, and what is seen
+-- C, X and the limit, the lists and the box before the first call, and what is seen
 pub record Example : Type 0 where
   pub C : ℕ
   pub X : ℕ
+  pub t : ℕ
   pub from : Lists
   pub over : Box ℕ ℕ
   pub seen : State
@@ -68,7 +69,7 @@ plays Z l s [] = record { said = []; returned = []; lists = l; box = s }
 plays Z l s (c ∷ cs) = let o = serveBy labels (arc labels Z) l s c in after c (o .outcome) (plays Z (o .kept) (o .outcome .box) cs)
 
 abbrev pub play : Example → State
-play e = plays (record { B = 1; P = length (e .over .disk); C = e .C; X = e .X; label = [] }) (e .from) (e .over) (map (λ x. x .call) (e .seen .said))
+play e = plays (record { B = 1; P = length (e .over .disk); C = e .C; X = e .X; label = []; t = e .t }) (e .from) (e .over) (map (λ x. x .call) (e .seen .said))
 
 abbrev new : ℕ → List ℕ → Box ℕ ℕ
 new C disk = fresh C (replicate C 99) disk
@@ -79,6 +80,7 @@ table =
     record {
       C = 1;
       X = 0;
+      t = 2;
       from = noLists;
       over = new 1 (0 ∷ 1 ∷ 2 ∷ []);
       seen = record {
@@ -92,6 +94,7 @@ table =
     ∷ record {
       C = 1;
       X = 0;
+      t = 2;
       from = noLists;
       over = new 1 (0 ∷ 1 ∷ 2 ∷ []);
       seen = record {
@@ -105,6 +108,7 @@ table =
     ∷ record {
       C = 1;
       X = 0;
+      t = 2;
       from = noLists;
       over = new 1 (0 ∷ 1 ∷ 2 ∷ []);
       seen = record {
@@ -118,6 +122,7 @@ table =
     ∷ record {
       C = 1;
       X = 0;
+      t = 2;
       from = noLists;
       over = new 1 (0 ∷ 1 ∷ 2 ∷ []);
       seen = record {
@@ -131,6 +136,7 @@ table =
     ∷ record {
       C = 1;
       X = 0;
+      t = 2;
       from = noLists;
       over = new 1 (0 ∷ 1 ∷ 2 ∷ []);
       seen = record {
@@ -144,6 +150,7 @@ table =
     ∷ record {
       C = 1;
       X = 0;
+      t = 2;
       from = noLists;
       over = new 1 (0 ∷ 1 ∷ 2 ∷ []);
       seen = record {
@@ -157,6 +164,7 @@ table =
     ∷ record {
       C = 1;
       X = 0;
+      t = 2;
       from = noLists;
       over = new 1 (0 ∷ 1 ∷ 2 ∷ []);
       seen = record {
@@ -170,6 +178,7 @@ table =
     ∷ record {
       C = 1;
       X = 0;
+      t = 2;
       from = noLists;
       over = new 1 (0 ∷ 1 ∷ 2 ∷ []);
       seen = record {
@@ -183,6 +192,7 @@ table =
     ∷ record {
       C = 1;
       X = 0;
+      t = 2;
       from = noLists;
       over = new 1 (0 ∷ 1 ∷ 2 ∷ []);
       seen = record {
@@ -196,6 +206,7 @@ table =
     ∷ record {
       C = 1;
       X = 0;
+      t = 2;
       from = noLists;
       over = new 1 (0 ∷ 1 ∷ 2 ∷ []);
       seen = record {
@@ -209,6 +220,7 @@ table =
     ∷ record {
       C = 1;
       X = 0;
+      t = 2;
       from = noLists;
       over = new 1 (0 ∷ 1 ∷ 2 ∷ []);
       seen = record {
@@ -222,6 +234,7 @@ table =
     ∷ record {
       C = 1;
       X = 0;
+      t = 2;
       from = noLists;
       over = new 1 (0 ∷ 1 ∷ 2 ∷ []);
       seen = record {
@@ -235,6 +248,7 @@ table =
     ∷ record {
       C = 1;
       X = 0;
+      t = 2;
       from = noLists;
       over = new 1 (0 ∷ 1 ∷ 2 ∷ []);
       seen = record {
@@ -249,6 +263,7 @@ table =
     ∷ record {
       C = 1;
       X = 0;
+      t = 2;
       from = noLists;
       over = new 1 (0 ∷ 1 ∷ 2 ∷ []);
       seen = record {
@@ -262,6 +277,7 @@ table =
     ∷ record {
       C = 1;
       X = 0;
+      t = 2;
       from = noLists;
       over = new 1 (0 ∷ 1 ∷ 2 ∷ []);
       seen = record {
@@ -275,6 +291,7 @@ table =
     ∷ record {
       C = 1;
       X = 0;
+      t = 2;
       from = noLists;
       over = new 1 (0 ∷ 1 ∷ 2 ∷ []);
       seen = record {
@@ -288,6 +305,7 @@ table =
     ∷ record {
       C = 1;
       X = 0;
+      t = 2;
       from = noLists;
       over = new 1 (0 ∷ 1 ∷ 2 ∷ []);
       seen = record {
@@ -301,6 +319,7 @@ table =
     ∷ record {
       C = 2;
       X = 0;
+      t = 4;
       from = noLists;
       over = new 2 (0 ∷ 1 ∷ 2 ∷ 3 ∷ 4 ∷ []);
       seen = record {
@@ -320,6 +339,7 @@ table =
     ∷ record {
       C = 1;
       X = 0;
+      t = 2;
       from = noLists;
       over = new 1 (0 ∷ 1 ∷ 2 ∷ []);
       seen = record {
@@ -333,6 +353,7 @@ table =
     ∷ record {
       C = 1;
       X = 0;
+      t = 2;
       from = noLists;
       over = new 1 (0 ∷ 1 ∷ 2 ∷ []);
       seen = record {
@@ -346,6 +367,7 @@ table =
     ∷ record {
       C = 1;
       X = 0;
+      t = 2;
       from = noLists;
       over = new 1 (0 ∷ 1 ∷ 2 ∷ []);
       seen = record {
@@ -359,6 +381,7 @@ table =
     ∷ record {
       C = 1;
       X = 0;
+      t = 2;
       from = noLists;
       over = new 1 (0 ∷ 1 ∷ 2 ∷ []);
       seen = record {
@@ -372,6 +395,7 @@ table =
     ∷ record {
       C = 1;
       X = 0;
+      t = 2;
       from = noLists;
       over = new 1 (0 ∷ 1 ∷ 2 ∷ []);
       seen = record {
@@ -385,6 +409,7 @@ table =
     ∷ record {
       C = 1;
       X = 0;
+      t = 2;
       from = noLists;
       over = new 1 (0 ∷ 1 ∷ 2 ∷ []);
       seen = record {
@@ -398,6 +423,7 @@ table =
     ∷ record {
       C = 1;
       X = 0;
+      t = 2;
       from = noLists;
       over = new 1 (0 ∷ 1 ∷ 2 ∷ []);
       seen = record {
@@ -411,6 +437,7 @@ table =
     ∷ record {
       C = 2;
       X = 1;
+      t = 5;
       from = noLists;
       over = new 2 (0 ∷ 0 ∷ 1 ∷ 2 ∷ 3 ∷ 4 ∷ []);
       seen = record {
@@ -430,6 +457,7 @@ table =
     ∷ record {
       C = 2;
       X = 1;
+      t = 5;
       from = noLists;
       over = new 2 (0 ∷ 0 ∷ 1 ∷ 2 ∷ 3 ∷ 4 ∷ []);
       seen = record {
@@ -444,6 +472,7 @@ table =
     ∷ record {
       C = 1;
       X = 0;
+      t = 2;
       from = noLists;
       over = new 1 (0 ∷ 1 ∷ 2 ∷ []);
       seen = record {
@@ -458,6 +487,7 @@ table =
     ∷ record {
       C = 2;
       X = 1;
+      t = 5;
       from = noLists;
       over = new 2 (0 ∷ 0 ∷ 1 ∷ 2 ∷ 3 ∷ 4 ∷ []);
       seen = record {
@@ -478,6 +508,7 @@ table =
     ∷ record {
       C = 2;
       X = 2;
+      t = 6;
       from = lists (0 ∷ []) (1 ∷ []) ([]) ([]) (2 ∷ 3 ∷ []) 1;
       over = record {
         rows = clean 3 6 ∷ dirty 2 5 ∷ clean 0 5 ∷ clean 1 6 ∷ [];
@@ -503,6 +534,7 @@ table =
     ∷ record {
       C = 2;
       X = 2;
+      t = 6;
       from = lists (0 ∷ []) (1 ∷ []) ([]) ([]) (2 ∷ 3 ∷ []) 1;
       over = record {
         rows = clean 3 6 ∷ dirty 2 5 ∷ clean 0 5 ∷ clean 1 6 ∷ [];
@@ -528,6 +560,7 @@ table =
     ∷ record {
       C = 2;
       X = 2;
+      t = 6;
       from = lists (0 ∷ []) (1 ∷ []) ([]) ([]) (2 ∷ 3 ∷ []) 1;
       over = record {
         rows = clean 3 6 ∷ dirty 2 5 ∷ clean 0 5 ∷ clean 1 6 ∷ [];
@@ -553,6 +586,7 @@ table =
     ∷ record {
       C = 2;
       X = 2;
+      t = 6;
       from = lists (0 ∷ []) (1 ∷ []) ([]) ([]) (2 ∷ 3 ∷ []) 1;
       over = record {
         rows = clean 3 6 ∷ dirty 2 5 ∷ clean 0 5 ∷ clean 1 6 ∷ [];
@@ -578,6 +612,7 @@ table =
     ∷ record {
       C = 3;
       X = 0;
+      t = 6;
       from = lists (3 ∷ []) (4 ∷ []) (0 ∷ []) (1 ∷ 2 ∷ []) ([]) 0;
       over = record {
         rows = clean 0 0 ∷ clean 1 1 ∷ clean 2 2 ∷ clean 3 3 ∷ clean 4 4 ∷ [];
@@ -603,6 +638,7 @@ table =
     ∷ record {
       C = 3;
       X = 0;
+      t = 6;
       from = lists (3 ∷ []) (4 ∷ []) (0 ∷ 1 ∷ []) (2 ∷ []) ([]) 3;
       over = record {
         rows = clean 0 0 ∷ clean 1 1 ∷ clean 2 2 ∷ clean 3 3 ∷ clean 4 4 ∷ [];
@@ -628,6 +664,7 @@ table =
     ∷ record {
       C = 1;
       X = 1;
+      t = 3;
       from = noLists;
       over = new 1 (0 ∷ 1 ∷ 2 ∷ []);
       seen = record {
@@ -641,6 +678,7 @@ table =
     ∷ record {
       C = 1;
       X = 1;
+      t = 3;
       from = noLists;
       over = new 1 (0 ∷ 1 ∷ 2 ∷ []);
       seen = record {
@@ -654,6 +692,7 @@ table =
     ∷ record {
       C = 1;
       X = 0;
+      t = 2;
       from = noLists;
       over = new 1 (0 ∷ 1 ∷ 2 ∷ []);
       seen = record {
@@ -667,6 +706,7 @@ table =
     ∷ record {
       C = 2;
       X = 0;
+      t = 4;
       from = noLists;
       over = new 2 (0 ∷ 1 ∷ 2 ∷ []);
       seen = record {
@@ -686,6 +726,7 @@ table =
     ∷ record {
       C = 2;
       X = 0;
+      t = 4;
       from = lists (3 ∷ []) (4 ∷ []) (0 ∷ []) (1 ∷ []) ([]) 0;
       over = record {
         rows = clean 0 0 ∷ clean 1 1 ∷ clean 3 3 ∷ clean 4 4 ∷ [];
@@ -711,6 +752,7 @@ table =
     ∷ record {
       C = 2;
       X = 0;
+      t = 4;
       from = lists (3 ∷ []) (4 ∷ []) (0 ∷ []) ([]) ([]) 0;
       over = record {
         rows = clean 0 0 ∷ clean 3 3 ∷ clean 4 4 ∷ [];
@@ -736,6 +778,7 @@ table =
     ∷ record {
       C = 3;
       X = 0;
+      t = 6;
       from = lists (1 ∷ []) ([]) (0 ∷ []) ([]) ([]) 0;
       over = record {
         rows = clean 0 0 ∷ clean 1 1 ∷ [];
@@ -761,6 +804,7 @@ table =
     ∷ record {
       C = 1;
       X = 0;
+      t = 2;
       from = noLists;
       over = new 1 (0 ∷ 1 ∷ 2 ∷ []);
       seen = record {
@@ -774,6 +818,7 @@ table =
     ∷ record {
       C = 1;
       X = 0;
+      t = 2;
       from = noLists;
       over = new 1 (0 ∷ 1 ∷ 2 ∷ []);
       seen = record {
@@ -793,6 +838,7 @@ table =
     ∷ record {
       C = 1;
       X = 0;
+      t = 2;
       from = lists ([]) (0 ∷ []) (1 ∷ []) ([]) ([]) 0;
       over = record {
         rows = newest 1 1 false (3, 0) ∷ newest 0 5 false (7, 8) ∷ [];
@@ -812,6 +858,20 @@ table =
           flash = 5 ∷ [];
           disk = 5 ∷ 5 ∷ 2 ∷ [];
         };
+      };
+    }
+    -- U8: at a limit of 1 the second write back copies the first one's block; the lists are as without it
+    ∷ record {
+      C = 2;
+      X = 0;
+      t = 1;
+      from = noLists;
+      over = new 2 (0 ∷ 1 ∷ 2 ∷ []);
+      seen = record {
+        said = says (back 0 5) newBlock 1 0 ∷ says (back 1 6) newBlock 1 1 ∷ [];
+        returned = [];
+        lists = lists (0 ∷ 1 ∷ []) ([]) ([]) ([]) ([]) 0;
+        box = record { rows = clean 0 5 ∷ dirty 1 6 ∷ []; free = []; used = blockRow 5 0 ∷ blockRow 6 1 ∷ []; flash = 5 ∷ 6 ∷ []; disk = 5 ∷ 1 ∷ 2 ∷ [] };
       };
     }
     ∷ []
@@ -857,7 +917,7 @@ folderSeen t =
 
 abbrev pub playFolder : FolderExample → FolderSeen
 playFolder e =
-    let Z : Sizes = record { B = 1; P = length (e .over .disk); C = e .C; X = e .X; label = [] } in
+    let Z : Sizes = record { B = 1; P = length (e .over .disk); C = e .C; X = e .X; label = []; t = e .C + e .C + e .X } in
     folderSeen (folder labels (arc labels Z) (record { kept = e .from; batched = start (e .over) noCounts }) (e .asked))
 
 abbrev pub folders : List FolderExample

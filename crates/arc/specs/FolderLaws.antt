@@ -6,7 +6,7 @@ use mathlib.Core.Option.{Option, none, some, Option·some-injective, Option·non
 use Prim.Native.Nat.{ℕ, _≤_, _<_}
 use native.Mathlib.Omega.{arith}
 use lib.Dec.{eqb}
-use Rattle.paper.specs.Cache.{Numbers, Hashing, AddressRow, Box, Word, read, oneIf, rowWithBlock}
+use Rattle.paper.specs.Cache.{Numbers, Hashing, AddressRow, Box, Word, read, oneIf, dirtyRows, rowWithBlock}
 use Rattle.paper.specs.KeyedLaws.{by-test, All, all-append, eqb→≡}
 use Rattle.paper.specs.Faithful.{at}
 use Rattle.paper.specs.Batch.{Filled, Batched, addressesIn, blocksIn, isMiss, seen, firstRead, source, blockIn, added, batchRead, batch}
@@ -14,7 +14,7 @@ use Rattle.paper.specs.BatchLaws.{map-last, butFetches}
 use Rattle.arc.specs.Policy.{Policy, Served, readBy, serveBy, lru}
 use Rattle.arc.specs.LruServes.{lru-reads}
 use Rattle.arc.specs.PlainRows.{Only, miss-clean}
-use Rattle.arc.specs.Promise.{Promise, inv-read, inv-serve, faithful-serves, GoodBy}
+use Rattle.arc.specs.Promise.{Promise, inv-read, inv-serve, tally-reads, faithful-serves, GoodBy}
 use Rattle.arc.specs.Folder.{FolderBy, nextRead, folderRead, folder, ownRead, folderInTurn}
 
 -- for D-LRU it is the paper's folder read
@@ -65,6 +65,17 @@ module _ {F X S : Type 0} (H : Hashing F X) (N : Numbers) (pol : Policy F X S) (
       let b = t .batched in
       folder-inv (folderRead H pol t a) l
       (inv-read H N pol Inv pr (t .kept) (b .box) a (source H (b .box) a (firstRead a (b .filled))) (rowWithBlock H (b .box) a) i (w .0)) (w .1)
+
+  -- and no more rows are dirty than its limit
+  pub folder-few-dirty : (t : FolderBy F X S) (l : List ℕ) → Inv (t .kept) (t .batched .box) → All (λ a. a < N .P) l
+      → dirtyRows H (t .batched .box .rows) ≤ pol .limit → dirtyRows H ((folder H pol t l) .batched .box .rows) ≤ pol .limit
+  unfolding folder folderRead
+  folder-few-dirty t [] i w f = f
+  folder-few-dirty t (a ∷ l) i w f =
+      let s = t .batched .box in
+      let x = source H s a (firstRead a (t .batched .filled)) in
+      folder-few-dirty (folderRead H pol t a) l (inv-read H N pol Inv pr (t .kept) s a x (rowWithBlock H s a) i (w .0)) (w .1)
+      ((tally-reads H N pol Inv pr (t .kept) s a x (rowWithBlock H s a) refl i) .few f)
 
 module _ {F X S : Type 0} (H : Hashing F X) (N : Numbers) (pol : Policy F X S) (Inv : S → Box F X → Type 0) (pr : Promise H N pol Inv) (m1 : 1 ≤ N .m)
     (d1 : 1 ≤ N .d)

@@ -8,7 +8,7 @@ use Prim.Native.Nat.{ℕ}
 use lib.ListN.{getD}
 use Rattle.paper.specs.Cache.{Numbers, Hashing, Seat, AddressRow, Box, Request, Stepped, Outcome, Word, hit, miss, rowOf, seatIn, blockOf, step}
 use Rattle.paper.specs.Cache.{Call, read, through, back, invalidate, look, flush, rowWithBlock, answer, sameOrNew, onDisk, backRequest}
-use Rattle.paper.specs.Cache.{writeInvalidate, lookAs, flushed}
+use Rattle.paper.specs.Cache.{writeInvalidate, lookAs, flushed, limited}
 use Rattle.paper.specs.Machines.{plainNext, plainBlock, writtenBy}
 
 -- What a step leaves: the policy's state, the box, and the writes
@@ -16,10 +16,11 @@ pub record Ran (F X S : Type 0) : Type 0 where
   pub kept : S
   pub stepped : Stepped F X
 
--- A policy: its step, and what it does where a write invalidate takes an address's row out
+-- A policy: its step, what it does where a write invalidate takes an address's row out, and U8's limit, which the calls keep
 pub record Policy (F X S : Type 0) : Type 0 where
   pub run : S → Box F X → Request F X → Ran F X S
   pub leave : ℕ → S → S
+  pub limit : ℕ
 
 -- What a call leaves and answers
 pub record Served (F X S : Type 0) : Type 0 where
@@ -46,9 +47,12 @@ module _ {F X S : Type 0} (H : Hashing F X) (pol : Policy F X S) where
   throughBy k s a b z =
       answeredBy (sameOrNew H s b) none 1 (pol .run k (onDisk H s a b) (record { address = a; fingerprint = H .hash b; block = b; dirty = false; seat = z }))
 
-  -- "Write back: the step runs, dirty", but that "a write back to a held, clean address with the same fingerprint leaves the row clean"
+  -- "Write back: the step runs, dirty", but that "a write back to a held, clean address with the same fingerprint leaves the row clean". U8: "After the step
+  -- of a write back, if more than t rows are dirty, the oldest dirty one is copied to disk and made clean."
   unfoldable pub backBy : S → Box F X → ℕ → X → Seat → Served F X S
-  backBy k s a b z = answeredBy (sameOrNew H s b) none 0 (pol .run k s (backRequest H s a b z))
+  backBy k s a b z =
+      let o = answeredBy (sameOrNew H s b) none 0 (pol .run k s (backRequest H s a b z)) in
+      record { kept = o .kept; outcome = limited H (pol .limit) (o .outcome) }
 
   -- "All calls exist for it." Write invalidate, look and flush are those of the base; where a row is taken out, its address leaves the policy's state.
   unfoldable pub serveBy : S → Box F X → Call X → Served F X S
@@ -86,4 +90,4 @@ writtenIn (c ∷ cs) = writtenBy c ++ writtenIn cs
 
 -- D-LRU: it has no state of its own
 abbrev pub lru : {F X : Type 0} (H : Hashing F X) → Numbers → Policy F X (Unit {0})
-lru H N = record { run = λ k s q. record { kept = k; stepped = step H (N .m) s q }; leave = λ a k. k }
+lru H N = record { run = λ k s q. record { kept = k; stepped = step H (N .m) s q }; leave = λ a k. k; limit = N .t }

@@ -7,12 +7,15 @@ use Prim.Native.Nat.{ℕ, zero, suc, _≤_, _<_}
 use lib.Dec.{eqb}
 use lib.ListN.{length, set, getD}
 use Rattle.paper.specs.Cache.{Numbers, Hashing, AddressRow, Box, Request, blockOf, partly, reach, cleanTo, rowOf, seatIn, Call, read, through, back}
-use Rattle.paper.specs.Cache.{invalidate, look, flush, Within, onDisk, rowWithBlock, answer, backRequest, writeInvalidate, lookAs, flushed, serve, fresh}
+use Rattle.paper.specs.Cache.{invalidate, look, flush, Within, onDisk, rowWithBlock, answer, sameOrNew, backRequest, writeInvalidate, lookAs, flushed}
+use Rattle.paper.specs.Cache.{excess, serve, fresh}
 use Rattle.paper.specs.KeyedLaws.{eqb→≡, eqb-swap, All, all-left, all-right, all-map, find-some}
 use Rattle.paper.specs.Machines.{plainNext, plainBlock, writtenBy, TrueFingerprints, NoTwoShare}
 use Rattle.paper.specs.Sound.{Sound, sound-onDisk, sound-cleanTo, sound-step, sound-serve}
 use Rattle.paper.specs.Faithful.{at, at-set-same, at-set-other, all-at, RowTrue, BlockTrue, Faithful, FaithfulBut, faithful-step}
-use Rattle.paper.specs.PlainDisk.{ifCached-some, clean-is-plain, flush-whole, faithful-serve}
+use Rattle.paper.specs.PlainDisk.{ifCached-some, clean-is-plain, flush-whole, faithful-cleanTo, faithful-serve}
+use Rattle.paper.specs.FewWrites.{Spent, mayCopy, spent-step, Tally, tally-hit, tally-miss, tally-through, tally-back, tally-invalidate, tally-look}
+use Rattle.paper.specs.FewWrites.{tally-flush}
 use Rattle.arc.specs.PlainRows.{Only, row-clean, miss-clean, but, but-set, hit-block, still-clean}
 use Rattle.arc.specs.Policy.{Policy, serveBy, readBy, throughBy, backBy, answeredBy, ThroughoutBy, EachBy, ReturnsPlain}
 use Rattle.arc.specs.Policy.{FlushesPlain, writtenIn, lru}
@@ -52,7 +55,10 @@ pub record Promise {F X S : Type 0} (H : Hashing F X) (N : Numbers) (pol : Polic
   -- 4. and the step of any request within the disk.
   pub steps : (k : S) (s : Box F X) (q : Request F X) → Inv k s → q .address < N .P
       → Inv ((pol .run k s q) .kept) ((pol .run k s q) .stepped .box)
-  -- 5. The step of a true request, from a box that is faithful but at its address, leaves a faithful box.
+  -- 5. What the step copies and leaves dirty were dirty rows of other addresses, and its own.
+  pub spends : (k : S) (s : Box F X) (q : Request F X) → Inv k s
+      → Spent H (mayCopy H (s .rows) (q .address) (q .dirty)) ((pol .run k s q) .stepped)
+  -- 6. The step of a true request, from a box that is faithful but at its address, leaves a faithful box.
   pub faithful : (In : X → Type 0) → Only H In → (plain : List X) (k : S) (s : Box F X) (q : Request F X) → Inv k s
       → FaithfulBut H In (q .address) (N .P) plain s → q .address < N .P → True H In plain s q
       → Faithful H In (N .P) plain ((pol .run k s q) .stepped .box)
@@ -84,10 +90,39 @@ module _ {F X S : Type 0} (H : Hashing F X) (N : Numbers) (pol : Policy F X S) (
   inv-serve k s (read a) i w = inv-read k s a (getD (s .disk) a (H .blank)) (rowWithBlock H s a) i w
   inv-serve k s (through a b z) i w =
       pr .steps k (onDisk H s a b) (record { address = a; fingerprint = H .hash b; block = b; dirty = false; seat = z }) (inv-onDisk k s a b i) w
-  inv-serve k s (back a b z) i w = pr .steps k s (backRequest H s a b z) i w
+  inv-serve k s (back a b z) i w =
+      let r = pol .run k s (backRequest H s a b z) in
+      let rows = r .stepped .box .rows in
+      inv-cleanTo (r .kept) (r .stepped .box) (reach H (excess H (pol .limit) rows) rows) (pr .steps k s (backRequest H s a b z) i w)
   inv-serve k s (invalidate a b z) i w = pr .invalidates k s a b i w
   inv-serve k s (look a) i w = inv-look k s a (rowWithBlock H s a) i
   inv-serve k s (flush n) i w = inv-cleanTo k s (reach H n (s .rows)) i
+
+  -- what each call copies, and how many rows it leaves dirty
+  pub tally-reads : (k : S) (s : Box F X) (a : ℕ) (x : X) (o : Option (AddressRow F)) → rowWithBlock H s a ≡ o → Inv k s
+      → Tally H (pol .limit) (s .rows) ((readBy H pol k s a x o) .outcome)
+  unfolding readBy answeredBy
+  tally-reads k s a x (some r) e i =
+      let b = blockOf H (r .fingerprint) (s .used) (s .flash) in
+      let q : Request F X = record { address = a; fingerprint = r .fingerprint; block = b; dirty = r .dirty; seat = r .seat } in
+      tally-hit H (pol .limit) (s .rows) a ((pol .run k s q) .stepped) (some b) r ((ifCached-some H (s .used) (rowOf a (s .rows)) r e) .0) (pr .spends k s q i)
+  tally-reads k s a x none e i =
+      let q : Request F X = record { address = a; fingerprint = H .hash x; block = x; dirty = false; seat = seatIn (rowOf a (s .rows)) } in
+      tally-miss H (pol .limit) (s .rows) a ((pol .run k s q) .stepped) (some x) (pr .spends k s q i)
+
+  pub tally-serves : (k : S) (s : Box F X) (c : Call X) → Inv k s → Tally H (pol .limit) (s .rows) ((serveBy H pol k s c) .outcome)
+  unfolding serveBy throughBy backBy answeredBy
+  tally-serves k s (read a) i = tally-reads k s a (getD (s .disk) a (H .blank)) (rowWithBlock H s a) refl i
+  tally-serves k s (through a b z) i =
+      let q : Request F X = record { address = a; fingerprint = H .hash b; block = b; dirty = false; seat = z } in
+      tally-through H (pol .limit) (s .rows) a ((pol .run k (onDisk H s a b) q) .stepped) (sameOrNew H s b)
+      (pr .spends k (onDisk H s a b) q (inv-onDisk k s a b i))
+  tally-serves k s (back a b z) i =
+      let q : Request F X = backRequest H s a b z in
+      tally-back H (pol .limit) (s .rows) a ((pol .run k s q) .stepped) (sameOrNew H s b) (q .dirty) (pr .spends k s q i)
+  tally-serves k s (invalidate a b z) i = tally-invalidate H (pol .limit) s a b
+  tally-serves k s (look a) i = tally-look H (pol .limit) s a (rowWithBlock H s a)
+  tally-serves k s (flush n) i = tally-flush H (pol .limit) n s
 
   -- the invariant in every state that a list of calls reaches, with no premise
   pub inv-throughout : (k : S) (s : Box F X) (plain : List X) (cs : List (Call X)) → Inv k s → All (Within (N .P)) cs
@@ -135,7 +170,7 @@ module _ {F X S : Type 0} (H : Hashing F X) (N : Numbers) (pol : Policy F X S) (
   -- every call keeps the plain disk, and returns its blocks
   pub faithful-serves : (plain : List X) (k : S) (s : Box F X) (c : Call X) → Inv k s → Faithful H In (N .P) plain s → Within (N .P) c → All In (writtenBy c)
       → Faithful H In (N .P) (plainNext plain c) ((serveBy H pol k s c) .outcome .box) × ((serveBy H pol k s c) .outcome .block ≡ plainBlock (H .blank) plain c)
-  unfolding serveBy serve throughBy backBy answeredBy answer
+  unfolding serveBy serve throughBy backBy answeredBy answer flushed
   faithful-serves plain k s (read a) i f w j = faithful-read plain k s a (rowWithBlock H s a) refl i f w
   faithful-serves plain k s (through a b x) i f w j =
       let h = pr .sound k s i in
@@ -161,14 +196,19 @@ module _ {F X S : Type 0} (H : Hashing F X) (N : Numbers) (pol : Policy F X S) (
         refl,
       )
   faithful-serves plain k s (back a b x) i f w j =
-      let pl = subst (λ n. a < n) (sym (f .plainLength)) w in (
-        pr .faithful In only (set plain a b) k s (backRequest H s a b x) i (but-set H In a (N .P) b plain s f (j .0)) w
+      let pl = subst (λ n. a < n) (sym (f .plainLength)) w in
+      let q = backRequest H s a b x in
+      let r = pol .run k s q in
+      let rows = r .stepped .box .rows in (
+        faithful-cleanTo H In only N (set plain a b) (r .stepped .box) (reach H (excess H (pol .limit) rows) rows)
+            (pr .sound (r .kept) (r .stepped .box) (pr .steps k s q i w))
+            (pr .faithful In only (set plain a b) k s q i (but-set H In a (N .P) b plain s f (j .0)) w
             (record {
               print = refl;
               inSet = j .0;
               plainly = sym (at-set-same H plain a b pl);
               clean = λ z. still-clean H In only N plain s a b (rowOf a (s .rows)) refl (pr .sound k s i) f (j .0) w z ∙ sym (at-set-same H plain a b pl);
-            }),
+            })),
         refl,
       )
   faithful-serves plain k s (invalidate a b x) i f w j = faithful-serve H In only N plain s (invalidate a b x) (pr .sound k s i) f m1 d1 w j
@@ -272,5 +312,6 @@ lru-promises H N m1 d1 =
       shape = λ k s s′ al fr us h′ h. h′;
       invalidates = λ k s a b h w. sound-serve H N s (invalidate a b (0, 0)) h m1 d1 w;
       steps = λ k s q h w. sound-step H N s q h m1 d1 w;
+      spends = λ k s q h. spent-step H (N .m) s q;
       faithful = λ In only plain k s q h f w t. faithful-step H In only N plain s q h f m1 d1 w (t .print) (t .inSet) (t .plainly) (t .clean);
     }

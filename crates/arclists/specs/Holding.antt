@@ -79,7 +79,7 @@ abbrev pub Limits : Arc.Sizes → ListSizes → Type 0
 Limits Z s = (Z .C ≡ s .cached) × (Z .X ≡ s .extra)
 
 abbrev pub limitsOf : ListSizes → Arc.Sizes
-limitsOf s = record { B = 0; P = 0; C = s .cached; X = s .extra; label = [] }
+limitsOf s = record { B = 0; P = 0; C = s .cached; X = s .extra; label = []; t = 0 }
 
 -- What the paper's subroutines do to the lists (`KeptLaws`). roomInB: "Where B1 and B2 would pass C, B1's oldest, or B2's if B1 is empty, is evicted first."
 unfoldable pub roomed : ℕ → Lists → Lists

@@ -21,7 +21,7 @@ use Rattle.counting.specs.Told.{tellHit, tell}
 use Rattle.counting.specs.TellHit.{asked, contentIn, words, tell-hit}
 
 abbrev numbers : Numbers
-numbers = record { B = 64; P = 2; m = 2; d = 1; label = replicate 64 0 }
+numbers = record { B = 64; P = 2; m = 2; d = 1; label = replicate 64 0; t = 2 }
 
 abbrev memory : Lent
 memory =

@@ -6,7 +6,7 @@ use Prim.Native.Nat.{ℕ, _*_}
 use lib.Dec.{eqb, ltb}
 use Rattle.paper.specs.Cache.{Numbers}
 use Rattle.paper.specs.Engine.{labelled}
-use Rattle.paper.specs.Lent.{unfit, otherLength, split, Test, test, first}
+use Rattle.paper.specs.Lent.{unfit, limitOutside, otherLength, split, Test, test, first}
 use Rattle.paper.specs.Machines.{contentOf}
 use Rattle.exam.specs.declared.Tally.{Tally}
 use Rattle.exam.specs.Scores.{nineZeros, scores}
@@ -23,9 +23,9 @@ wrongLent N disk room = otherLength disk (N .P * N .B) || otherLength (N .label)
 unfoldable pub tooLarge : Numbers → (k : ℕ) → Bool
 tooLarge N k = ltb 4 (N .P) || not (eqb (N .B) 64) || ltb 8 k
 
--- "It refuses with 17 .., checked after 2."
+-- "It refuses with 17 .., checked after 2."; U8's 12 "in every call right after 1"
 abbrev pub questionTests : Numbers → (disk : List ℕ) (k room : ℕ) → List Test
-questionTests N disk k room = test (unfit N) 1 ∷ test (wrongLent N disk room) 2 ∷ test (tooLarge N k) 17 ∷ []
+questionTests N disk k room = test (unfit N) 1 ∷ test (limitOutside N) 12 ∷ test (wrongLent N disk room) 2 ∷ test (tooLarge N k) 17 ∷ []
 
 unfoldable pub questionRefusal : Numbers → (disk : List ℕ) (k room : ℕ) → ℕ
 questionRefusal N disk k room = first (questionTests N disk k room)

@@ -12,15 +12,15 @@ use borrow.Author.Tests.{le-ltb}
 use Rattle.paper.specs.KeyedLaws.{All, all-map}
 use Rattle.paper.specs.Cache.{Numbers, Word, hit, miss, sameBlock, newBlock, fromCache, fromDisk, done, Counters}
 use Rattle.paper.specs.Engine.{labelled}
-use Rattle.paper.specs.Lent.{Lent, Ask, opening, calling, unfit, over, refusal, call, opened, fresh}
+use Rattle.paper.specs.Lent.{Lent, Ask, opening, calling, unfit, limitOutside, FewDirty, boxIn, over, refusal, call, opened, fresh}
 use Rattle.paper.specs.LentLaws.{Passes, sound-passes}
 use Rattle.paper.specs.BatchLent.{one, servedInTurn}
 use Rattle.paper.specs.BatchLentLaws.{only-9-between}
 use Rattle.paper.specs.Machines.{Printed, printedNext, printedHit}
-use Rattle.paper.specs.Demand3.{refusals}
-use Rattle.paper.specs.Demand3Laws.{Written, opened-written, next-written}
+use Rattle.paper.specs.Demand3.{Throughout, refusals}
+use Rattle.paper.specs.Demand3Laws.{demand-3, Written, opened-written, next-written}
 use Rattle.paper.specs.RefusalLaws.{exactly-opening, opened-is}
-use Rattle.paper.specs.CallLaws.{fits, adds-few}
+use Rattle.paper.specs.CallLaws.{fits, outcome-few, served-box, adds-few}
 use Rattle.counting.specs.Told.{tell}
 use Rattle.counting.specs.TellHit.{Follows, printed-told, follows-next, follows-none, words, NoneRefused, contentIn, tell-hit}
 use Rattle.exam.specs.Scores.{lists, howMany, nine, start, hits, withHits, scores}
@@ -91,31 +91,42 @@ addresses-back : (block : List ℕ) (l : List ℕ) → map (λ (r : ℕ × List 
 addresses-back block [] = refl
 addresses-back block (a ∷ l) = ap (λ r. a ∷ r) (addresses-back block l)
 
-module _ (N : Numbers) (block : List ℕ) (fit : unfit N ≡ false) (label : length (N .label) ≡ 64) (whole : length block ≡ N .B) where
-  none-refused : (l : List ℕ) (u : Lent) (c : ℕ) → Written N u → AtMost c (u .counters) → All (λ a. a < N .P) l → c + length l * 1025 ≤ 2 ^ 63
+module _ (N : Numbers) (block : List ℕ) (fit : unfit N ≡ false) (limit : limitOutside N ≡ false)
+    (label : length (N .label) ≡ 64) (whole : length block ≡ N .B) where
+  none-refused : (l : List ℕ) (u : Lent) (c : ℕ) → Written N u → FewDirty N (boxIn N u) → AtMost c (u .counters) → All (λ a. a < N .P) l
+      → c + length l * 1025 ≤ 2 ^ 63
       → NoneRefused N u (readsOf block l)
   unfolding refusals servedInTurn
-  none-refused [] u c r w b h = tt
-  none-refused (a ∷ l) u c r w b h =
+  none-refused [] u c r d w b h = tt
+  none-refused (a ∷ l) u c r d w b h =
       let f = fits N fit in
       let p : Passes N u = subst (Passes N) (sym (r .3)) (sound-passes N (r .0) (r .2) (r .1) (f .P-most) (f .d-most)) in
       let m = f .m-most in
       let e : refusal N u (calling (Ask.read a block)) ≡ 0
-      = only-9-between N u [] a block fit label p tt (b .0) whole ∙ rw (not-full c (u .counters) (omega arith) w) refl in
+      = only-9-between N u [] a block fit limit label p d tt (b .0) whole ∙ rw (not-full c (u .counters) (omega arith) w) refl in
       let g = adds-few N u (Ask.read a block) e in
       let more : AtMost (c + 1025) ((call N u (Ask.read a block)) .lent .counters)
-      = (omega (arith, w .0, g .reads .1), omega (arith, w .1, g .hits .1), omega (arith, w .2, g .flashWrites .1), omega (arith, w .3, g .primaryWrites .1)) in
-      (e, none-refused l ((call N u (Ask.read a block)) .lent) (c + 1025) (next-written N u (one (Ask.read a block)) r) more (b .1) (omega arith))
+      = (
+        omega (arith, w .0, g .reads .1),
+        omega (arith, w .1, g .hits .1),
+        omega (arith, w .2, g .flashWrites .1),
+        omega (arith, w .3, g .primaryWrites .1),
+      ) in (
+        e,
+        none-refused l ((call N u (Ask.read a block)) .lent) (c + 1025) (next-written N u (one (Ask.read a block)) r)
+            (subst (FewDirty N) (sym (served-box N u (Ask.read a block) e)) (outcome-few N u (Ask.read a block) e)) more (b .1) (omega arith),
+      )
 
 -- no read of a list that is counted is refused: from a fresh box over the question's disk, over any flash and tables of their lengths, each read lent any
 -- block of B bytes
 pub list-served : (N : Numbers) (t : Lent) (k room : ℕ) (block : List ℕ) → questionRefusal N (t .disk) k room ≡ 0 → refusal N t opening ≡ 0
     → length block ≡ N .B → (l : List ℕ) → length l ≡ k → All (λ a. a < N .P) l → NoneRefused N (opened N t) (readsOf block l)
-unfolding fresh
+unfolding fresh Throughout
 list-served N t k room block z opens whole l e w =
     let p = posed N (t .disk) k room z in
     let k8 = p .short in
-    none-refused N block (exactly-opening N t .gives-0 .0 opens .0) (p .label) whole l (opened N t) 0 (opened-written N t opens)
+    let o = exactly-opening N t .gives-0 .0 opens in
+    none-refused N block (o .0) (o .1 .0) (p .label) whole l (opened N t) 0 (opened-written N t opens) ((demand-3 N t [] opens) .dirty)
     (rw (opened-is N t opens) (omega arith, omega arith, omega arith, omega arith)) w (omega arith)
 
 many-same : {A : Type 0} (s t : A → Bool) (xs : List A) → All (λ x. s x ≡ t x) xs → howMany s xs ≡ howMany t xs

@@ -10,7 +10,7 @@ use borrow.Author.Tests.{eqb-true, not-false, ltb-false, ne-eqb}
 use Rattle.paper.specs.KeyedLaws.{by-test, or-false-left, or-false-right}
 use Rattle.paper.specs.Cache.{Numbers}
 use Rattle.paper.specs.Engine.{labelled}
-use Rattle.paper.specs.Lent.{unfit, otherLength, split, test, oneOf}
+use Rattle.paper.specs.Lent.{unfit, limitOutside, otherLength, split, test, oneOf}
 use Rattle.paper.specs.Machines.{contentOf}
 use Rattle.paper.specs.RefusalLaws.{Apart, NoneOf, gives, gives-none, in-first}
 use Rattle.paper.specs.CallLaws.{fits}
@@ -25,20 +25,22 @@ module _ (N : Numbers) (disk : List ℕ) (k room : ℕ) where
   -- "It refuses with 17 if .., checked after 2."
   pub record ExactlyQuestion : Type 0 where
     pub gives-1 : number ≡ 1 ↔ (NoneOf [] × (unfit N ≡ true))
-    pub gives-2 : number ≡ 2 ↔ (NoneOf (unfit N ∷ []) × (wrongLent N disk room ≡ true))
-    pub gives-17 : number ≡ 17 ↔ (NoneOf (unfit N ∷ wrongLent N disk room ∷ []) × (tooLarge N k ≡ true))
-    pub gives-0 : number ≡ 0 ↔ NoneOf (unfit N ∷ wrongLent N disk room ∷ tooLarge N k ∷ [])
-    pub no-other : oneOf number (0 ∷ 1 ∷ 2 ∷ 17 ∷ []) ≡ true
+    pub gives-12 : number ≡ 12 ↔ (NoneOf (unfit N ∷ []) × (limitOutside N ≡ true))
+    pub gives-2 : number ≡ 2 ↔ (NoneOf (unfit N ∷ limitOutside N ∷ []) × (wrongLent N disk room ≡ true))
+    pub gives-17 : number ≡ 17 ↔ (NoneOf (unfit N ∷ limitOutside N ∷ wrongLent N disk room ∷ []) × (tooLarge N k ≡ true))
+    pub gives-0 : number ≡ 0 ↔ NoneOf (unfit N ∷ limitOutside N ∷ wrongLent N disk room ∷ tooLarge N k ∷ [])
+    pub no-other : oneOf number (0 ∷ 1 ∷ 12 ∷ 2 ∷ 17 ∷ []) ≡ true
 
   pub exactly-question : ExactlyQuestion
   unfolding questionRefusal
   exactly-question =
       let l = questionTests N disk k room in
-      let d : Apart l = (refl, (refl, (refl, (refl, tt)))) in
+      let d : Apart l = (refl, (refl, (refl, (refl, (refl, tt))))) in
       record {
         gives-1 = gives [] (test (unfit N) 1) (drop 1 l) d;
-        gives-2 = gives (take 1 l) (test (wrongLent N disk room) 2) (drop 2 l) d;
-        gives-17 = gives (take 2 l) (test (tooLarge N k) 17) [] d;
+        gives-12 = gives (take 1 l) (test (limitOutside N) 12) (drop 2 l) d;
+        gives-2 = gives (take 2 l) (test (wrongLent N disk room) 2) (drop 3 l) d;
+        gives-17 = gives (take 3 l) (test (tooLarge N k) 17) [] d;
         gives-0 = gives-none l d;
         no-other = in-first l;
       }
@@ -65,8 +67,8 @@ module _ (N : Numbers) (disk : List ℕ) (k room : ℕ) where
       let above = ltb 4 (N .P) in
       let other = not (eqb (N .B) 64) in
       let long = ltb 8 k in
-      let w = or-false-left (disk′ || label′) room′ (x .1 .0) in
-      let v = or-false-left (above || other) long (x .1 .1 .0) in
+      let w = or-false-left (disk′ || label′) room′ (x .1 .1 .0) in
+      let v = or-false-left (above || other) long (x .1 .1 .1 .0) in
       let b : N .B ≡ 64 = eqb-true (N .B) 64 (not-false (eqb (N .B) 64) (or-false-right above other v)) in
       record {
         size = b;
@@ -75,8 +77,8 @@ module _ (N : Numbers) (disk : List ℕ) (k room : ℕ) where
         slots = f .d-least;
         whole = eqb-true (length disk) (N .P * N .B) (not-false (eqb (length disk) (N .P * N .B)) (or-false-left disk′ label′ w)) ∙ ap (λ x. N .P * x) b;
         label = eqb-true (length (N .label)) 64 (not-false (eqb (length (N .label)) 64) (or-false-right disk′ label′ w));
-        lent = eqb-true room countsBytes (not-false (eqb room countsBytes) (or-false-right (disk′ || label′) room′ (x .1 .0)));
-        short = ltb-false 8 k (or-false-right (above || other) long (x .1 .1 .0));
+        lent = eqb-true room countsBytes (not-false (eqb room countsBytes) (or-false-right (disk′ || label′) room′ (x .1 .1 .0)));
+        short = ltb-false 8 k (or-false-right (above || other) long (x .1 .1 .1 .0));
       }
 
   -- "0 .. in a refusal"

@@ -26,35 +26,39 @@ pub of-three : (scores eqb 2 1 shared 3 3 ≡ 10 ∷ 14 ∷ 3 ∷ 0 ∷ 0 ∷ 0 
 unfolding scores withHits lists hits printedHit printedNext put
 of-three = (refl, refl)
 
--- a question as it is asked: the numbers with a label of so many bytes, the bytes of the disk, k, and the bytes lent for the counts
+-- a question as it is asked: the numbers with a label of so many bytes and a limit, the bytes of the disk, k, and the bytes lent for the counts
 pub record Asked : Type 0 where
   pub B : ℕ
   pub P : ℕ
+  pub t : ℕ
   pub label : ℕ
   pub disk : ℕ
   pub k : ℕ
   pub room : ℕ
 
-abbrev asked : (B P label disk k room : ℕ) → Asked
-asked B P label disk k room = record { B = B; P = P; label = label; disk = disk; k = k; room = room }
+abbrev asked : (B P t label disk k room : ℕ) → Asked
+asked B P t label disk k room = record { B = B; P = P; t = t; label = label; disk = disk; k = k; room = room }
 
 -- its number, of a box that holds three addresses and two blocks
 abbrev gets : Asked → ℕ
 gets q =
-    questionRefusal (record { B = q .B; P = q .P; m = 3; d = 2; label = replicate (q .label) 0 }) (replicate (q .disk) 0) (q .k) (q .room)
+    questionRefusal (record { B = q .B; P = q .P; m = 3; d = 2; label = replicate (q .label) 0; t = q .t }) (replicate (q .disk) 0) (q .k) (q .room)
 
 -- "It refuses with 17 if P is above 4, B isn't 64 or k is above 8, checked after 2."
 pub of-refusals :
     map gets
-    (asked 64 4 64 256 8 72
-    ∷ asked 64 5 64 320 8 72
-    ∷ asked 128 4 64 512 8 72
-    ∷ asked 64 4 64 256 9 72
-    ∷ asked 64 5 64 256 9 72
-    ∷ asked 64 4 63 256 9 72
-    ∷ asked 64 4 64 256 9 64
-    ∷ asked 96 5 63 256 9 64
+    (asked 64 4 3 64 256 8 72
+    ∷ asked 64 4 1 64 256 8 72
+    ∷ asked 64 5 3 64 320 8 72
+    ∷ asked 128 4 3 64 512 8 72
+    ∷ asked 64 4 3 64 256 9 72
+    ∷ asked 64 5 3 64 256 9 72
+    ∷ asked 64 4 3 63 256 9 72
+    ∷ asked 64 4 3 64 256 9 64
+    ∷ asked 64 5 4 63 256 9 64
+    ∷ asked 64 5 0 63 256 9 64
+    ∷ asked 96 5 0 63 256 9 64
     ∷ [])
-    ≡ 0 ∷ 17 ∷ 17 ∷ 17 ∷ 2 ∷ 2 ∷ 2 ∷ 1 ∷ []
+    ≡ 0 ∷ 0 ∷ 17 ∷ 17 ∷ 17 ∷ 2 ∷ 2 ∷ 2 ∷ 12 ∷ 12 ∷ 1 ∷ []
 unfolding questionRefusal unfit wrongLent tooLarge elem
 of-refusals = refl

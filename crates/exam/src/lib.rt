@@ -54,12 +54,15 @@ pub(crate) fn too_large(b: BoxRecord, k: usize) -> bool
     8 < k
 }
 
-// Refusals 1, 2 and 17.
+// Refusals 1, 12, 2 and 17.
 pub(crate) fn refusal(b: BoxRecord, label: &[u8], disk: &[u8], k: usize, room: usize) -> u32
     ensures { λ r. ⌜ r ≡ questionRefusal (withLabel (numbersOf b) (now (label .entry))) (now (disk .entry)) k room ⌝ }
 {
     if refusals::numbers_unfit(b) {
         return 1;
+    }
+    if refusals::limit_unfit(b) {
+        return 12;
     }
     if lengths_wrong(b, label, disk, room) {
         return 2;
@@ -109,15 +112,16 @@ pub fn scores(
     blocks: usize,
     rows: usize,
     slots: usize,
+    limit: usize,
     label: &[u8],
     disk: &[u8],
     k: usize,
     room: usize,
 ) -> Tally
     ensures { λ r. ⌜ told r
-        ≡ question (record { B = size; P = blocks; m = rows; d = slots; label = now (label .entry) }) (now (disk .entry)) k room ⌝ }
+        ≡ question (record { B = size; P = blocks; m = rows; d = slots; label = now (label .entry); t = limit }) (now (disk .entry)) k room ⌝ }
 {
-    let b = parts::empty_box(size, blocks, rows, slots, [0u8; 64]);
+    let b = parts::empty_box(size, blocks, rows, slots, limit, [0u8; 64]);
     let no = refusal(b, label, disk, k, room);
     if no != 0 {
         return Tally {

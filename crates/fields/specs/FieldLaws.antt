@@ -162,6 +162,16 @@ module _ (n : ℕ) (k : Counters) (s : List ℕ) (h : length s ≡ stateBytes) w
       ∙ part-past 40 8 (lowBytes 8 (k .reads)) s₁ refl (omega (arith, l₁)) 72 64 (omega arith)
       ∙ part-past 32 8 (lowBytes 8 n) s refl (omega arith) 72 64 (omega arith)
 
+  -- and the limit
+  limit-kept : get8 (putState n k s) 136 ≡ get8 s 136
+  unfolding putState
+  limit-kept =
+      get8-after 64 (k .primaryWrites) s₄ (omega (arith, l₄)) 136 (omega arith)
+      ∙ get8-after 56 (k .flashWrites) s₃ (omega (arith, l₃)) 136 (omega arith)
+      ∙ get8-after 48 (k .hits) s₂ (omega (arith, l₂)) 136 (omega arith)
+      ∙ get8-after 40 (k .reads) s₁ (omega (arith, l₁)) 136 (omega arith)
+      ∙ get8-after 32 n s (omega arith) 136 (omega arith)
+
   held-read : n < 2 ^ 64 → get8 (putState n k s) 32 ≡ n
   unfolding putState
   held-read b =
@@ -180,6 +190,7 @@ module _ (n : ℕ) (k : Counters) (s : List ℕ) (h : length s ≡ stateBytes) w
     slots = kept 24 (omega arith) i;
     held = held-read b i;
     label = label-kept i;
+    limit = limit-kept i;
   }
 
   reads-read : k .reads < 2 ^ 64 → get8 (putState n k s) 40 ≡ k .reads
@@ -219,7 +230,7 @@ module _ (label s : List ℕ) (h : length s ≡ stateBytes) (l : length label �
   unfolding putLabel
   length-putLabel = length-splice 72 label s room ∙ h
 
-  -- it is read where it is written, and the numbers before it stay
+  -- it is read where it is written, and the numbers before it and after it stay
   pub label-back : part 72 64 (putLabel label s) ≡ label
   unfolding putLabel
   label-back = part-splice 72 64 label s l (omega arith)
@@ -227,6 +238,14 @@ module _ (label s : List ℕ) (h : length s ≡ stateBytes) (l : length label �
   pub get8-label : (i : ℕ) → i + 8 ≤ 72 → get8 (putLabel label s) i ≡ get8 s i
   unfolding get8 putLabel
   get8-label i k = same-read (splice 72 label s) s i i (λ j b. before-splice 72 label s room (i + j) (omega arith))
+
+  pub limit-past : get8 (putLabel label s) 136 ≡ get8 s 136
+  unfolding get8 putLabel
+  limit-past =
+      same-read (splice 72 label s) s 136 136
+      (λ j b.
+      let e : 136 + j ≡ 72 + (length label + j) = omega arith in
+      ap (λ (n : ℕ). getD (splice 72 label s) n 0) e ∙ after-splice 72 label s room j ∙ ap (λ (n : ℕ). getD s n 0) (sym e))
 
 -- ---- the answer
 

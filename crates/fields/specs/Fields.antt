@@ -24,18 +24,26 @@ get8 s at = le8 s at
 unfoldable pub put8 : (at v : ℕ) → List ℕ → List ℕ
 put8 at v s = splice at (lowBytes 8 v) s
 
--- the state: B, P, m, d, n, then the counters: reads, hits, flash writes, primary writes, and at last the label
+-- the state: B, P, m, d, n, then the counters: reads, hits, flash writes, primary writes, then the label, and at last the limit
 abbrev pub stateBytes : ℕ
-stateBytes = 136
+stateBytes = 144
 
 abbrev pub recordIn : List ℕ → BoxRecord
 recordIn s =
-    record { size = get8 s 0; blocks = get8 s 8; rows = get8 s 16; slots = get8 s 24; held = get8 s 32; label = part 72 64 s }
+    record {
+      size = get8 s 0;
+      blocks = get8 s 8;
+      rows = get8 s 16;
+      slots = get8 s 24;
+      held = get8 s 32;
+      label = part 72 64 s;
+      limit = get8 s 136;
+    }
 
 abbrev pub countersIn : List ℕ → Code.Counters
 countersIn s = record { reads = get8 s 40; hits = get8 s 48; flash = get8 s 56; primary = get8 s 64 }
 
--- n and the counters written into the state; B, P, m, d and the label stay
+-- n and the counters written into the state; B, P, m, d, the label and the limit stay
 unfoldable pub putState : ℕ → Counters → List ℕ → List ℕ
 putState n k s = put8 64 (k .primaryWrites) (put8 56 (k .flashWrites) (put8 48 (k .hits) (put8 40 (k .reads) (put8 32 n s))))
 

@@ -19,7 +19,8 @@ ghost use Rattle.policy.specs.Contract.{wordOf, answerOf, manyAnswerOf};
 ghost use Rattle.open.specs.Contract.{openingNumber};
 ghost use Rattle.block.specs.Blocks.{part, splice};
 ghost use Rattle.tables.specs.Rows.{le8};
-ghost use Rattle.fields.specs.Fields.{lowBytes, stateBytes, recordIn, countersIn, put8, putState, putLabel, putAnswer, putMany, countsAfter, wordNumber, fitting};
+ghost use Rattle.fields.specs.Fields.{lowBytes, stateBytes, recordIn, countersIn, put8, putState, putLabel, putAnswer, putMany, countsAfter};
+ghost use Rattle.fields.specs.Fields.{wordNumber, fitting};
 ghost use Rattle.fields.specs.Noted.{noted, notedMany, stateOpened, startOf, notedPlace};
 
 // A byte, widened.
@@ -63,7 +64,7 @@ pub fn put8(s: &mut [u8], at: usize, v: u64)
 }
 
 // The bytes of the state.
-pub const STATE: usize = 136;
+pub const STATE: usize = 144;
 
 // Whether the state has its bytes and the answer `n`.
 pub fn fit(n: usize, state: &[u8], answer: &[u8]) -> bool
@@ -98,6 +99,7 @@ pub fn record_in(state: &[u8]) -> BoxRecord
         slots: get8(state, 24) as usize,
         held: get8(state, 32) as usize,
         label: label,
+        limit: get8(state, 136) as usize,
     }
 }
 

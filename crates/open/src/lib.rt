@@ -3,7 +3,7 @@ use counters::Counters;
 use parts::BoxRecord;
 ghost use mathlib.Core.Path.{_≡_};
 ghost use lib.ListN.{length};
-ghost use Rattle.parts.specs.Rep.{emptyBox};
+ghost use Rattle.parts.specs.Rep.{emptyBox, relabelled};
 ghost use Rattle.refusals.specs.Given.{countersOf};
 ghost use Rattle.open.specs.Contract.{begun, opens};
 ghost use Rattle.open.specs.declared.Opening.the-variants.{Refused};
@@ -47,14 +47,7 @@ pub(crate) fn unopened(number: u32, b: BoxRecord, c: Counters) -> Begun
 // The record with the label `label`.
 pub fn with_label(b: BoxRecord, label: &[u8]) -> BoxRecord
     requires { ⌜ length (now label) ≡ 64 ⌝ }
-    ensures { λ r. ⌜ r ≡ record {
-      size = b .size;
-      blocks = b .blocks;
-      rows = b .rows;
-      slots = b .slots;
-      held = b .held;
-      label = now (label .entry);
-    } ⌝ }
+    ensures { λ r. ⌜ r ≡ relabelled b (now (label .entry)) ⌝ }
 {
     let mut own = [0u8; 64];
     block::copy_all(label, &mut own);
@@ -63,12 +56,13 @@ pub fn with_label(b: BoxRecord, label: &[u8]) -> BoxRecord
     r
 }
 
-// Opens a box of these numbers and this label over lent memory: the tables and the counters become fresh, flash and disk keep their bytes.
+// Opens a box of these numbers, this limit and this label over lent memory: the tables and the counters become fresh, flash and disk keep their bytes.
 pub fn open(
     size: usize,
     blocks: usize,
     rows: usize,
     slots: usize,
+    limit: usize,
     label: &[u8],
     disk: &[u8],
     flash: &[u8],
@@ -77,10 +71,10 @@ pub fn open(
     c: Counters,
 ) -> Begun
     ensures { λ r. ⌜ begun r (now (disk .entry)) (now (flash .entry)) (now (addresses .exit)) (now (table .exit))
-        ≡ opens (emptyBox size blocks rows slots (now (label .entry))) (now (disk .entry)) (now (flash .entry))
+        ≡ opens (emptyBox size blocks rows slots limit (now (label .entry))) (now (disk .entry)) (now (flash .entry))
         (now (addresses .entry)) (now (table .entry)) (countersOf c) ⌝ }
 {
-    let b = parts::empty_box(size, blocks, rows, slots, [0u8; 64]);
+    let b = parts::empty_box(size, blocks, rows, slots, limit, [0u8; 64]);
     let no = refusals::of_opening(b, disk, flash, addresses, table);
     if no != 0 {
         return unopened(no, b, c);

@@ -9,13 +9,13 @@ use lib.Dec.{eqb}
 use lib.ListN.{length}
 use Rattle.paper.specs.KeyedLaws.{by-test, All, all-append, eqb→≡}
 use Rattle.paper.specs.Cache.{Numbers, Hashing, AddressRow, Box, Outcome, Word, hit, miss, Call, read, Counters, counted, oneIf, isHit}
-use Rattle.paper.specs.Cache.{rowWithBlock, answer, readAs, serve}
+use Rattle.paper.specs.Cache.{rowWithBlock, answer, readAs, dirtyRows, serve}
 use Rattle.paper.specs.Sound.{Sound, sound-readAs, sound-serve}
 use Rattle.paper.specs.Orphans.{NoWaste}
 use Rattle.paper.specs.OrphanList.{noWaste-readAs}
 use Rattle.paper.specs.Faithful.{at}
 use Rattle.paper.specs.PlainDisk.{Good, faithful-serve}
-use Rattle.paper.specs.FewWrites.{one-if-le, FewBy, readAs-few}
+use Rattle.paper.specs.FewWrites.{one-if-le, few-by, tally-readAs}
 use Rattle.paper.specs.Batch.{Filled, Batched, addressesIn, blocksIn, isMiss, seen, firstRead, start, source, blockIn, added, batchRead, batch, inTurn}
 
 pub map-last : {X Y : Type 0} (f : X → Y) (xs : List X) (y : X) → map f (xs ++ (y ∷ [])) ≡ map f xs ++ (f y ∷ [])
@@ -98,6 +98,14 @@ module _ {F X : Type 0} (H : Hashing F X) (N : Numbers) where
       let r = batch-sound m1 d1 (batchRead H N t a) l (w .1) (sound-readAs H N (t .box) a b o h m1 d1 (w .0)) in
       (r .0, λ n. r .1 (noWaste-readAs H (N .m) (t .box) a b o (h .addresses) n))
 
+  -- nor do its reads make more rows dirty
+  pub batch-few : (t : Batched F X) (l : List ℕ) → dirtyRows H (t .box .rows) ≤ N .t → dirtyRows H ((batch H N t l) .box .rows) ≤ N .t
+  unfolding batch batchRead
+  batch-few t [] f = f
+  batch-few t (a ∷ l) f =
+      batch-few (batchRead H N t a) l
+      ((tally-readAs H (N .t) (N .m) (t .box) a (source H (t .box) a (firstRead a (t .filled))) (rowWithBlock H (t .box) a) refl) .few f)
+
   pub batch-grows : 1 ≤ N .m → 1 ≤ N .d → N .m ≤ 1024 → (t : Batched F X) (l : List ℕ) → Sound H N (t .box) → All (λ a. a < N .P) l
       → GrownBy (length l) (t .counters) ((batch H N t l) .counters)
   unfolding batch batchRead counted
@@ -105,7 +113,7 @@ module _ {F X : Type 0} (H : Hashing F X) (N : Numbers) where
   batch-grows m1 d1 mm t (a ∷ l) h w =
       let b = source H (t .box) a (firstRead a (t .filled)) in
       let r = rowWithBlock H (t .box) a in
-      let few = readAs-few H N (t .box) a b r h m1 in
+      let few = few-by H N (N .t) (t .box) (turnOf t a) h (tally-readAs H (N .t) (N .m) (t .box) a b r refl) in
       let f₀ = few .0 in
       let f₁ = few .1 in
       let hit = one-if-le (isHit (turnOf t a .word)) in

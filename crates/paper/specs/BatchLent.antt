@@ -7,7 +7,7 @@ use lib.Dec.{eqb, leb, ltb}
 use lib.ListN.{length}
 use Rattle.paper.specs.Cache.{Numbers}
 use Rattle.paper.specs.Engine.{Fixed, labelled}
-use Rattle.paper.specs.Lent.{Lent, Ask, Test, test, first, tableTests, unfit, wrongBuffers, otherLength, over, boxIn, lentOf, join, served}
+use Rattle.paper.specs.Lent.{Lent, Ask, Test, test, first, tableTests, unfit, limitOutside, wrongBuffers, otherLength, over, boxIn, lentOf, join, served}
 use Rattle.paper.specs.Reports.{Reader}
 use Rattle.paper.specs.Batch as Paper
 use Rattle.paper.specs.Batch.{Batched, start, blocksIn}
@@ -26,6 +26,7 @@ anyOutside P (a ∷ l) = leb P a || anyOutside P l
 abbrev pub batchTests : Numbers → Lent → (asked buffer : List ℕ) → List Test
 batchTests N t l buffer =
     test (unfit N) 1
+    ∷ test (limitOutside N) 12
     ∷ test (wrongBuffers N t || otherLength buffer (length l * N .B)) 2
     ∷ test (badCount l) 10
     ∷ test (anyOutside (N .P) l) 3

@@ -7,20 +7,22 @@ use Prim.Native.Nat.{ℕ, _≤_, _<_, _*_}
 use native.Mathlib.Omega.{arith}
 use lib.Dec.{eqb, leb, ltb}
 use lib.ListN.{length, take, drop}
-use borrow.Author.Tests.{eqb-true, eqb-false, leb-false, ltb-false, ne-eqb, lt-leb, not-false}
+use borrow.Author.Tests.{eqb-true, eqb-false, leb-false, ltb-false, ne-eqb, lt-leb, le-ltb, not-false}
 use Rattle.tables.specs.Rows.{tableBytes}
 use Rattle.tables.specs.Unsound.{addressesUnsound, blocksUnsound, dirtyUncached}
-use Rattle.paper.specs.Cache.{Numbers, Call, counted, serve}
+use Rattle.paper.specs.Cache.{Numbers, Call, dirtyRows, counted, serve}
 use Rattle.paper.specs.KeyedLaws.{eqb-self, All, or-false-left, or-false-right}
 use Rattle.paper.specs.Engine.{Fixed, labelled}
-use Rattle.paper.specs.Lent.{Lent, Ask, test, oneOf, calling, callOf, refusal, unfit, wrongBuffers, otherLength, over, boxIn, lentOf, served}
+use Rattle.paper.specs.Lent.{Lent, Ask, test, oneOf, calling, callOf, refusal, unfit, limitOutside, wrongBuffers, otherLength}
+use Rattle.paper.specs.Lent.{overLimit, FewDirty, over, boxIn, lentOf, served}
 use Rattle.paper.specs.Sound.{Sound, sound-serve}
 use Rattle.paper.specs.Orphans.{NoWaste}
 use Rattle.paper.specs.LentLaws.{Passes, right-lengths, passes-sound, sound-passes, lent-back}
 use Rattle.paper.specs.RefusalLaws.{Apart, NoneOf, gives, gives-none, in-first}
 use Rattle.paper.specs.CallLaws.{Fits, fits, In64, not-over}
+use Rattle.paper.specs.FewWrites.{tally-serve}
 use Rattle.paper.specs.Batch.{Batched, start, added, inTurn}
-use Rattle.paper.specs.BatchLaws.{batch-sound, batch-grows}
+use Rattle.paper.specs.BatchLaws.{batch-sound, batch-few, batch-grows}
 use Rattle.paper.specs.BatchLent.{badCount, anyOutside, batchTests, batchRefusal, BatchAnswer, refused, batchedFrom, servedBatch, callBatch, servedInTurn}
 
 -- ---- the refusals
@@ -29,6 +31,9 @@ use Rattle.paper.specs.BatchLent.{badCount, anyOutside, batchTests, batc
 module _ (N : Numbers) (t : Lent) (l buffer : List ℕ) where
   abbrev pub test1 : Bool
   test1 = unfit N
+
+  abbrev pub test12 : Bool
+  test12 = limitOutside N
 
   abbrev pub test2 : Bool
   test2 = wrongBuffers N t || otherLength buffer (length l * N .B)
@@ -48,6 +53,9 @@ module _ (N : Numbers) (t : Lent) (l buffer : List ℕ) where
   abbrev pub test8 : Bool
   test8 = dirtyUncached (t .n) (N .d) (t .addresses) (t .blocks)
 
+  abbrev pub test13 : Bool
+  test13 = overLimit N t
+
   abbrev pub test9 : Bool
   test9 = over (t .counters)
 
@@ -57,30 +65,34 @@ module _ (N : Numbers) (t : Lent) (l buffer : List ℕ) where
   -- a folder read gets a number exactly when its test holds and none before it does
   pub record ExactlyBatch : Type 0 where
     pub gives-1 : number ≡ 1 ↔ (NoneOf [] × (test1 ≡ true))
-    pub gives-2 : number ≡ 2 ↔ (NoneOf (test1 ∷ []) × (test2 ≡ true))
-    pub gives-10 : number ≡ 10 ↔ (NoneOf (test1 ∷ test2 ∷ []) × (test10 ≡ true))
-    pub gives-3 : number ≡ 3 ↔ (NoneOf (test1 ∷ test2 ∷ test10 ∷ []) × (test3 ≡ true))
-    pub gives-6 : number ≡ 6 ↔ (NoneOf (test1 ∷ test2 ∷ test10 ∷ test3 ∷ []) × (test6 ≡ true))
-    pub gives-7 : number ≡ 7 ↔ (NoneOf (test1 ∷ test2 ∷ test10 ∷ test3 ∷ test6 ∷ []) × (test7 ≡ true))
-    pub gives-8 : number ≡ 8 ↔ (NoneOf (test1 ∷ test2 ∷ test10 ∷ test3 ∷ test6 ∷ test7 ∷ []) × (test8 ≡ true))
-    pub gives-9 : number ≡ 9 ↔ (NoneOf (test1 ∷ test2 ∷ test10 ∷ test3 ∷ test6 ∷ test7 ∷ test8 ∷ []) × (test9 ≡ true))
-    pub gives-0 : number ≡ 0 ↔ NoneOf (test1 ∷ test2 ∷ test10 ∷ test3 ∷ test6 ∷ test7 ∷ test8 ∷ test9 ∷ [])
-    pub no-other : oneOf number (0 ∷ 1 ∷ 2 ∷ 10 ∷ 3 ∷ 6 ∷ 7 ∷ 8 ∷ 9 ∷ []) ≡ true
+    pub gives-12 : number ≡ 12 ↔ (NoneOf (test1 ∷ []) × (test12 ≡ true))
+    pub gives-2 : number ≡ 2 ↔ (NoneOf (test1 ∷ test12 ∷ []) × (test2 ≡ true))
+    pub gives-10 : number ≡ 10 ↔ (NoneOf (test1 ∷ test12 ∷ test2 ∷ []) × (test10 ≡ true))
+    pub gives-3 : number ≡ 3 ↔ (NoneOf (test1 ∷ test12 ∷ test2 ∷ test10 ∷ []) × (test3 ≡ true))
+    pub gives-6 : number ≡ 6 ↔ (NoneOf (test1 ∷ test12 ∷ test2 ∷ test10 ∷ test3 ∷ []) × (test6 ≡ true))
+    pub gives-7 : number ≡ 7 ↔ (NoneOf (test1 ∷ test12 ∷ test2 ∷ test10 ∷ test3 ∷ test6 ∷ []) × (test7 ≡ true))
+    pub gives-8 : number ≡ 8 ↔ (NoneOf (test1 ∷ test12 ∷ test2 ∷ test10 ∷ test3 ∷ test6 ∷ test7 ∷ []) × (test8 ≡ true))
+    pub gives-13 : number ≡ 13 ↔ (NoneOf (test1 ∷ test12 ∷ test2 ∷ test10 ∷ test3 ∷ test6 ∷ test7 ∷ test8 ∷ []) × (test13 ≡ true))
+    pub gives-9 : number ≡ 9 ↔ (NoneOf (test1 ∷ test12 ∷ test2 ∷ test10 ∷ test3 ∷ test6 ∷ test7 ∷ test8 ∷ test13 ∷ []) × (test9 ≡ true))
+    pub gives-0 : number ≡ 0 ↔ NoneOf (test1 ∷ test12 ∷ test2 ∷ test10 ∷ test3 ∷ test6 ∷ test7 ∷ test8 ∷ test13 ∷ test9 ∷ [])
+    pub no-other : oneOf number (0 ∷ 1 ∷ 12 ∷ 2 ∷ 10 ∷ 3 ∷ 6 ∷ 7 ∷ 8 ∷ 13 ∷ 9 ∷ []) ≡ true
 
   pub exactly-batch : ExactlyBatch
   unfolding batchRefusal
   exactly-batch =
       let x = batchTests N t l buffer in
-      let d : Apart x = (refl, (refl, (refl, (refl, (refl, (refl, (refl, (refl, (refl, tt))))))))) in
+      let d : Apart x = (refl, (refl, (refl, (refl, (refl, (refl, (refl, (refl, (refl, (refl, (refl, tt))))))))))) in
       record {
         gives-1 = gives [] (test test1 1) (drop 1 x) d;
-        gives-2 = gives (take 1 x) (test test2 2) (drop 2 x) d;
-        gives-10 = gives (take 2 x) (test test10 10) (drop 3 x) d;
-        gives-3 = gives (take 3 x) (test test3 3) (drop 4 x) d;
-        gives-6 = gives (take 4 x) (test test6 6) (drop 5 x) d;
-        gives-7 = gives (take 5 x) (test test7 7) (drop 6 x) d;
-        gives-8 = gives (take 6 x) (test test8 8) (drop 7 x) d;
-        gives-9 = gives (take 7 x) (test test9 9) [] d;
+        gives-12 = gives (take 1 x) (test test12 12) (drop 2 x) d;
+        gives-2 = gives (take 2 x) (test test2 2) (drop 3 x) d;
+        gives-10 = gives (take 3 x) (test test10 10) (drop 4 x) d;
+        gives-3 = gives (take 4 x) (test test3 3) (drop 5 x) d;
+        gives-6 = gives (take 5 x) (test test6 6) (drop 6 x) d;
+        gives-7 = gives (take 6 x) (test test7 7) (drop 7 x) d;
+        gives-8 = gives (take 7 x) (test test8 8) (drop 8 x) d;
+        gives-13 = gives (take 8 x) (test test13 13) (drop 9 x) d;
+        gives-9 = gives (take 9 x) (test test9 9) [] d;
         gives-0 = gives-none x d;
         no-other = in-first x;
       }
@@ -89,7 +101,9 @@ module _ (N : Numbers) (t : Lent) (l buffer : List ℕ) where
 pub record Finds (N : Numbers) (t : Lent) (l buffer : List ℕ) : Type 0 where
   pub numbers : unfit N ≡ false
   pub fits : Fits N
+  pub limit : limitOutside N ≡ false
   pub passes : Passes N t
+  pub few : FewDirty N (boxIn N t)
   pub some-address : 0 < length l
   pub count : length l ≤ 64
   pub long : length buffer ≡ length l * N .B
@@ -103,13 +117,15 @@ all-within P (a ∷ l) e = (leb-false P a (or-false-left (leb P a) (anyOutside P
 pub batch-finds : (N : Numbers) (t : Lent) (l buffer : List ℕ) → batchRefusal N t l buffer ≡ 0 → Finds N t l buffer
 batch-finds N t l buffer e =
     let x = exactly-batch N t l buffer .gives-0 .0 e in
-    let y = x .1 .1 .1 .1 in
-    let right = x .1 .0 in
-    let counted = x .1 .1 .0 in
+    let y = x .1 .1 .1 .1 .1 in
+    let right = x .1 .1 .0 in
+    let counted = x .1 .1 .1 .0 in
     let n0 = eqb-false (length l) 0 (or-false-left (eqb (length l) 0) (ltb 64 (length l)) counted) in
     record {
       numbers = x .0;
       fits = fits N (x .0);
+      limit = x .1 .0;
+      few = ltb-false (N .t) (dirtyRows (labelled N) ((boxIn N t) .rows)) (y .1 .1 .1 .0);
       passes = record {
         lengths = right-lengths N t (or-false-left (wrongBuffers N t) (otherLength buffer (length l * N .B)) right);
         addresses = y .0;
@@ -120,8 +136,8 @@ batch-finds N t l buffer e =
       count = ltb-false 64 (length l) (or-false-right (eqb (length l) 0) (ltb 64 (length l)) counted);
       long = eqb-true (length buffer) (length l * N .B)
           (not-false (eqb (length buffer) (length l * N .B)) (or-false-right (wrongBuffers N t) (otherLength buffer (length l * N .B)) right));
-      within = all-within (N .P) l (x .1 .1 .1 .0);
-      counters = y .1 .1 .1 .0;
+      within = all-within (N .P) l (x .1 .1 .1 .1 .0);
+      counters = y .1 .1 .1 .1 .0;
     }
 
 -- ---- what it leaves
@@ -163,6 +179,9 @@ module _ (N : Numbers) (t : Lent) (l buffer : List ℕ) (e : batchRefusal N t l 
   batch-passes =
       let f = (batch-finds N t l buffer e) .fits in
       subst (Passes N) (sym batch-lent) (sound-passes N (left .box) (batch-leaves .0) (left .counters) (f .P-most) (f .d-most))
+
+  pub batch-few-dirty : FewDirty N (left .box)
+  batch-few-dirty = batch-few (labelled N) N (start (boxIn N t) (t .counters)) l ((batch-finds N t l buffer e) .few)
 
   -- its counters stay in 64 bits, though 9 is checked only before its first read
   pub batch-fits : In64 ((callBatch N t l buffer) .lent .counters)
@@ -213,12 +232,21 @@ module _ (N : Numbers) (f : Fits N) where
       sound-passes N (o .box) (sound-serve (labelled N) N (boxIn N t) (Call.read a) (passes-sound N t p) (f .m-least) (f .d-least) w)
       (counted (t .counters) (Call.read a) o) (f .P-most) (f .d-most)
 
-  passes-in-turn : (t : Lent) (l : List ℕ) → Passes N t → All (λ a. a < N .P) l → Passes N (servedInTurn N t l)
-  unfolding servedInTurn
-  passes-in-turn t [] p w = p
-  passes-in-turn t (a ∷ l) p w = passes-in-turn ((served N t (Ask.read a [])) .lent) l (read-passes t a p (w .0)) (w .1)
+  read-few : (t : Lent) (a : ℕ) → Passes N t → a < N .P → FewDirty N (boxIn N t) → FewDirty N (boxIn N ((served N t (Ask.read a [])) .lent))
+  unfolding served callOf
+  read-few t a p w few =
+      let o = serve (labelled N) N (boxIn N t) (Call.read a) in
+      let h = sound-serve (labelled N) N (boxIn N t) (Call.read a) (passes-sound N t p) (f .m-least) (f .d-least) w in
+      subst (FewDirty N) (sym (lent-back N (o .box) h (counted (t .counters) (Call.read a) o) (f .P-most) (f .d-most)))
+      ((tally-serve (labelled N) N (boxIn N t) (Call.read a)) .few few)
 
-right-buffers : (N : Numbers) (t : Lent) → length (N .label) ≡ 64 → Passes N t → wrongBuffers N t ≡ false
+  passes-in-turn : (t : Lent) (l : List ℕ) → Passes N t → FewDirty N (boxIn N t) → All (λ a. a < N .P) l
+      → Passes N (servedInTurn N t l) × FewDirty N (boxIn N (servedInTurn N t l))
+  unfolding servedInTurn
+  passes-in-turn t [] p few w = (p, few)
+  passes-in-turn t (a ∷ l) p few w = passes-in-turn ((served N t (Ask.read a [])) .lent) l (read-passes t a p (w .0)) (read-few t a p (w .0) few) (w .1)
+
+pub right-buffers : (N : Numbers) (t : Lent) → length (N .label) ≡ 64 → Passes N t → wrongBuffers N t ≡ false
 unfolding wrongBuffers
 right-buffers N t l p =
     let x = p .lengths in
@@ -236,10 +264,13 @@ right-buffers N t l p =
     refl
 
 -- "with 9 checked only before the first": between the reads done in turn a single read would get 9 where a counter is over, and no other number
-pub only-9-between : (N : Numbers) (t : Lent) (l : List ℕ) (a : ℕ) (x : List ℕ) → unfit N ≡ false → length (N .label) ≡ 64 → Passes N t
-    → All (λ b. b < N .P) l → a < N .P → length x ≡ N .B → let u = servedInTurn N t l in refusal N u (calling (Ask.read a x)) ≡ cond (over (u .counters)) 9 0
+pub only-9-between : (N : Numbers) (t : Lent) (l : List ℕ) (a : ℕ) (x : List ℕ) → unfit N ≡ false → limitOutside N ≡ false → length (N .label) ≡ 64
+    → Passes N t → FewDirty N (boxIn N t) → All (λ b. b < N .P) l → a < N .P → length x ≡ N .B
+    → let u = servedInTurn N t l in refusal N u (calling (Ask.read a x)) ≡ cond (over (u .counters)) 9 0
 unfolding refusal
-only-9-between N t l a x nu nl p w wa lx =
+only-9-between N t l a x nu lu nl p few w wa lx =
     let u = servedInTurn N t l in
-    let q = passes-in-turn N (fits N nu) t l p w in
-    rw (nu, right-buffers N u nl q, lx, eqb-self (N .B), lt-leb (N .P) a wa, q .addresses, q .blocks, q .dirty) refl
+    let y = passes-in-turn N (fits N nu) t l p few w in
+    let q = y .0 in
+    let no-13 = le-ltb (N .t) (dirtyRows (labelled N) ((boxIn N u) .rows)) (y .1) in
+    rw (nu, lu, right-buffers N u nl q, lx, eqb-self (N .B), lt-leb (N .P) a wa, q .addresses, q .blocks, q .dirty, no-13) refl

@@ -7,7 +7,7 @@ use Prim.Native.Nat.{ℕ, _+_, _^_}
 use lib.ListN.{replicate, set}
 use Rattle.tables.specs.Rows as Rows
 use Rattle.tables.specs.Records as Records
-use Rattle.tables.specs.Records.{addressRow, paddingByte, addressTable}
+use Rattle.tables.specs.Records.{addressTable}
 use Rattle.tables.specs.Find as Find
 use Rattle.tables.specs.Unsound as Unsound
 use Rattle.paper.specs.Cache as Cache
@@ -15,7 +15,7 @@ use Rattle.paper.specs.Cache.{Numbers, Box, AddressRow, newest, back, Co
 use Rattle.paper.specs.Worked.{labels}
 use Rattle.paper.specs.Lent as Lent
 use Rattle.paper.specs.Lent.{Lent}
-use Rattle.paper.specs.Refused.{numbers, counters, small, two, rows, blocks, sound, counting, worst}
+use Rattle.paper.specs.Refused.{numbers, counters, small, upTo, blocks, sound, counting, worst, uncached, crowded, single, damaged, much}
 use Rattle.paper.specs.Batch.{Batched, blocksIn, start, batch, inTurn, batchRead}
 use Rattle.paper.specs.BatchLent.{batchRefusal}
 
@@ -104,7 +104,7 @@ folders =
 
 pub worked-folders : map (λ f. shown (batch labels tiny (start (f .box) noCounts) (f .asked))) folders ≡ map (λ f. f .after) folders
 unfolding batch batchRead Cache.oldestOut Cache.step1 Cache.freed Cache.step3 Cache.oldestUnknown Cache.victim Cache.takenUsed Cache.taken Cache.stored
-    Cache.step4 Cache.step Cache.ifCached Cache.answer Cache.readAs Cache.writeBack Cache.serve Cache.counted
+    Cache.step4 Cache.step Cache.ifCached Cache.answer Cache.readAs Cache.writeBack Cache.flushed Cache.serve Cache.counted
 worked-folders = refl
 
 -- there the reads done in turn return the disk's block
@@ -134,15 +134,8 @@ pub record Case : Type 0 where
 abbrev asks : List ℕ → ℕ → Lent → ℕ → Case
 asks l n t k = record { numbers = small; lent = t; asked = l; length = n; number = k }
 
--- address 1 is without its block; a byte of padding is 1; a counter is too large
-abbrev uncached : List ℕ
-uncached = addressTable 2 (addressRow 1 two 1 (0, 0) ∷ [])
-
-abbrev damaged : List ℕ → List ℕ
-damaged t = set t (paddingByte 0 2) 1
-
-abbrev much : Counters
-much = counters (2 ^ 63 + 1) 0 0 0
+abbrev asksUpTo : ℕ → List ℕ → ℕ → Lent → ℕ → Case
+asksUpTo limit l n t k = record { numbers = upTo 64 limit; lent = t; asked = l; length = n; number = k }
 
 abbrev pub table : List Case
 table =
@@ -164,21 +157,25 @@ table =
     -- 9 is checked before the first read alone: 2^63 reads are not above it, though the second read would find them so
     ∷ asks (1 ∷ 1 ∷ []) 128 (counting (2 ^ 63) 0 0 0) 0
     ∷ asks (1 ∷ 1 ∷ []) 128 (counting (2 ^ 63 + 1) 0 0 0) 9
-    -- The order 1, 2, 10, 3, 6, 7, 8, 9: in the first case all apply, and in each later case one less.
-    ∷ record { numbers = numbers 32 2 2 2; lent = worst 127 (damaged uncached) (damaged blocks) much; asked = replicate 65 2; length = 0; number = 1 }
-    ∷ asks (replicate 65 2) 0 (worst 127 (damaged uncached) (damaged blocks) much) 2
-    ∷ asks (replicate 65 2) 0 (worst 128 (damaged uncached) (damaged blocks) much) 2
-    ∷ asks (replicate 65 2) 4160 (worst 128 (damaged uncached) (damaged blocks) much) 10
-    ∷ asks (1 ∷ 2 ∷ []) 128 (worst 128 (damaged uncached) (damaged blocks) much) 3
-    ∷ asks (1 ∷ 1 ∷ []) 128 (worst 128 (damaged uncached) (damaged blocks) much) 6
-    ∷ asks (1 ∷ 1 ∷ []) 128 (worst 128 uncached (damaged blocks) much) 7
-    ∷ asks (1 ∷ 1 ∷ []) 128 (worst 128 uncached blocks much) 8
-    ∷ asks (1 ∷ 1 ∷ []) 128 (worst 128 rows blocks much) 9
-    ∷ asks (1 ∷ 1 ∷ []) 128 (worst 128 rows blocks noCounts) 0
+    -- The order 1, 12, 2, 10, 3, 6, 7, 8, 13, 9: in the first case all apply, and in each later case one less.
+    ∷ record { numbers = upTo 32 0; lent = worst 127 (damaged uncached) (damaged blocks) much; asked = replicate 65 2; length = 0; number = 1 }
+    ∷ asksUpTo 0 (replicate 65 2) 0 (worst 127 (damaged uncached) (damaged blocks) much) 12
+    ∷ asksUpTo 1 (replicate 65 2) 0 (worst 127 (damaged uncached) (damaged blocks) much) 2
+    ∷ asksUpTo 1 (replicate 65 2) 0 (worst 128 (damaged uncached) (damaged blocks) much) 2
+    ∷ asksUpTo 1 (replicate 65 2) 4160 (worst 128 (damaged uncached) (damaged blocks) much) 10
+    ∷ asksUpTo 1 (1 ∷ 2 ∷ []) 128 (worst 128 (damaged uncached) (damaged blocks) much) 3
+    ∷ asksUpTo 1 (1 ∷ 1 ∷ []) 128 (worst 128 (damaged uncached) (damaged blocks) much) 6
+    ∷ asksUpTo 1 (1 ∷ 1 ∷ []) 128 (worst 128 uncached (damaged blocks) much) 7
+    ∷ asksUpTo 1 (1 ∷ 1 ∷ []) 128 (worst 128 uncached blocks much) 8
+    ∷ asksUpTo 1 (1 ∷ 1 ∷ []) 128 (worst 128 crowded blocks much) 13
+    ∷ asksUpTo 1 (1 ∷ 1 ∷ []) 128 (worst 128 single blocks much) 9
+    ∷ asksUpTo 1 (1 ∷ 1 ∷ []) 128 (worst 128 single blocks noCounts) 0
+    ∷ asksUpTo 2 (1 ∷ 1 ∷ []) 128 (worst 128 crowded blocks noCounts) 0
+    ∷ asksUpTo 3 (1 ∷ 1 ∷ []) 128 (worst 128 single blocks noCounts) 12
     ∷ []
 
 pub folders-refused-with : map (λ c. batchRefusal (c .numbers) (c .lent) (c .asked) (replicate (c .length) 5)) table ≡ map (λ c. c .number) table
-unfolding batchRefusal Lent.unfit Lent.wrongBuffers Lent.over Rows.rows Rows.flat Rows.zeros Records.addressBytes Records.blockBytes Records.readAddress
-    Records.readBlock addressTable Records.blockTable Find.any Find.all Find.same Unsound.elem Unsound.twice Unsound.count Unsound.addressesUnsound
-    Unsound.freeAfterUsed Unsound.eachOnce Unsound.usedTwice Unsound.blocksUnsound Unsound.dirtyUncached
+unfolding batchRefusal Lent.unfit Lent.wrongBuffers Lent.over Lent.boxIn Records.heldRows Rows.rows Rows.flat Rows.zeros Records.addressBytes Records.blockBytes
+    Records.readAddress Records.readBlock addressTable Records.blockTable Find.any Find.all Find.same Unsound.elem Unsound.twice Unsound.count
+    Unsound.addressesUnsound Unsound.freeAfterUsed Unsound.eachOnce Unsound.usedTwice Unsound.blocksUnsound Unsound.dirtyUncached
 folders-refused-with = refl

@@ -5,7 +5,7 @@ use mathlib.Core.Bool.{Bool, true, false, not, _&&_, _||_, cond}
 use mathlib.Core.List.{List, [], _∷_, _++_}
 use mathlib.Core.Option.{Option, none, some, Option·map}
 use Prim.Native.Nat.{ℕ, zero, suc, _+_, _<_}
-use lib.Dec.{eqb}
+use lib.Dec.{eqb, ltb}
 use lib.ListN.{length, getD, set, take, drop}
 use Rattle.tables.specs.Records.{slotsFrom}
 pub use Rattle.tables.specs.Records.{Seat}
@@ -19,6 +19,8 @@ pub record Numbers : Type 0 where
   pub d : ℕ
   -- U6: "The box record carries the label": "a 64-byte office label"
   pub label : List ℕ
+  -- U8: "The box record gains a limit t from 1 to m"
+  pub t : ℕ
 
 -- What the cache needs to know of blocks: the fingerprint of one, when two fingerprints are the same, and a block to stand for none.
 pub record Hashing (F X : Type 0) : Type 0 where
@@ -384,10 +386,19 @@ module _ {F X : Type 0} (H : Hashing F X) where
       let i = reach H k (s .rows) in
       record { box = cleanTo H i s; word = done; block = none; flashWrites = 0; primaryWrites = dirtyRows H (take i (s .rows)) }
 
+  -- U8: "After the step of a write back, if more than t rows are dirty, the oldest dirty one is copied to disk and made clean.": as by a flush of one row
+  abbrev pub excess : ℕ → List (AddressRow F) → ℕ
+  excess t rows = cond (ltb t (dirtyRows H rows)) 1 0
+
+  abbrev pub limited : ℕ → Outcome F X → Outcome F X
+  limited t o =
+      let f = flushed (excess t (o .box .rows)) (o .box) in
+      record { box = f .box; word = o .word; block = o .block; flashWrites = o .flashWrites; primaryWrites = o .primaryWrites + f .primaryWrites }
+
   unfoldable pub serve : Numbers → Box F X → Call X → Outcome F X
   serve N s (read a) = readAs (N .m) s a (getD (s .disk) a (H .blank)) (rowWithBlock s a)
   serve N s (through a b z) = writeThrough (N .m) s a b z
-  serve N s (back a b z) = writeBack (N .m) s a b z
+  serve N s (back a b z) = limited (N .t) (writeBack (N .m) s a b z)
   serve N s (invalidate a b z) = writeInvalidate s a b
   serve N s (look a) = lookAs s a (rowWithBlock s a)
   serve N s (flush k) = flushed k s

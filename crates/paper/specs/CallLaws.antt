@@ -15,8 +15,9 @@ use Rattle.paper.specs.Cache.{Numbers, About, about, Below, Outcome, Wit
 use Rattle.paper.specs.Cache.{flushed, dirtyRows, done}
 use Rattle.paper.specs.KeyedLaws.{All, clash, by-test, or-false-left, or-false-right, and-left, and-right}
 use Rattle.paper.specs.Engine.{Fixed, fit, labelled}
-use Rattle.paper.specs.Lent.{Lent, Ask, calling, callOf, aboutAsk, addressOf, lentBlock, between, unfit, wrongBuffers, wrongBlock, outside, over, counts}
-use Rattle.paper.specs.Lent.{answered, refusal, served, call, boxIn, lentOf}
+use Rattle.paper.specs.Lent.{Lent, Ask, calling, callOf, aboutAsk, addressOf, lentBlock, between, unfit, limitOutside, wrongBuffers, wrongBlock}
+use Rattle.paper.specs.Lent.{outside, over}
+use Rattle.paper.specs.Lent.{FewDirty, counts, answered, refusal, served, call, boxIn, lentOf}
 use Rattle.paper.specs.Sound.{Sound, sound-serve}
 use Rattle.paper.specs.Partly.{dirtyOf, count-is, left-dirty, newest-stay, dirty-few, none-dirty}
 use Rattle.paper.specs.Quiet.{look-same}
@@ -24,7 +25,7 @@ use Rattle.paper.specs.RowBytes.{Bytes}
 use Rattle.paper.specs.LentLaws.{Passes, right-lengths, passes-sound, sound-passes, lent-back}
 use Rattle.paper.specs.LentForth.{lent-forth}
 use Rattle.paper.specs.RefusalLaws.{exactly, served-is, keeps}
-use Rattle.paper.specs.FewWrites.{one-if-le, serve-few, look-nothing}
+use Rattle.paper.specs.FewWrites.{one-if-le, tally-serve, serve-few, look-nothing}
 
 -- a number of a list is its first or one of the others
 elem-either : (x y : ℕ) (ys : List ℕ) → elem x (y ∷ ys) ≡ true → (x ≡ y) ⊎ (elem x ys ≡ true)
@@ -79,6 +80,12 @@ fits N h =
       d-most = leb-true (N .d) 256 (and-right (leb 1 (N .d)) (leb (N .d) 256) d′);
     }
 
+-- a limit that passes 12
+pub limit-fits : (N : Numbers) → limitOutside N ≡ false → (1 ≤ N .t) × (N .t ≤ N .m)
+limit-fits N h =
+    let b = not-false (between 1 (N .m) (N .t)) h in
+    (leb-true 1 (N .t) (and-left (leb 1 (N .t)) (leb (N .t) (N .m)) b), leb-true (N .t) (N .m) (and-right (leb 1 (N .t)) (leb (N .t) (N .m)) b))
+
 -- the call on paper is about what is asked, its block cut to size
 abbrev sized : (B : ℕ) → About (List ℕ) → About (Fixed B)
 sized B x =
@@ -104,23 +111,27 @@ within P B q e = subst (λ x. Below P (x .address)) (sym (about-call B q)) (belo
 pub record Served (N : Numbers) (t : Lent) (q : Ask) : Type 0 where
   pub fits : Fits N
   pub passes : Passes N t
+  pub limit : limitOutside N ≡ false
+  pub few : FewDirty N (boxIn N t)
   pub within : Within (N .P) (callOf (N .B) q)
   pub counters : (counts q && over (t .counters)) ≡ false
 
 pub served-finds : (N : Numbers) (t : Lent) (q : Ask) → refusal N t (calling q) ≡ 0 → Served N t q
 served-finds N t q e =
     let x = exactly N t q .gives-0 .0 e in
-    let y = x .1 .1 .1 in
+    let y = x .1 .1 .1 .1 in
     record {
       fits = fits N (x .0);
+      limit = x .1 .0;
+      few = ltb-false (N .t) (dirtyRows (labelled N) ((boxIn N t) .rows)) (y .1 .1 .1 .0);
       passes = record {
-        lengths = right-lengths N t (or-false-left (wrongBuffers N t) (wrongBlock (N .B) (lentBlock q)) (x .1 .0));
+        lengths = right-lengths N t (or-false-left (wrongBuffers N t) (wrongBlock (N .B) (lentBlock q)) (x .1 .1 .0));
         addresses = y .0;
         blocks = y .1 .0;
         dirty = y .1 .1 .0;
       };
-      within = within (N .P) (N .B) q (x .1 .1 .0);
-      counters = y .1 .1 .1 .0;
+      within = within (N .P) (N .B) q (x .1 .1 .1 .0);
+      counters = y .1 .1 .1 .1 .0;
     }
 
 -- the paper's outcome of a call on lent bytes
@@ -132,6 +143,9 @@ module _ (N : Numbers) (t : Lent) (q : Ask) (e : refusal N t (calling q) ≡ 0) 
   outcome-sound =
       let x = served-finds N t q e in
       sound-serve (labelled N) N (boxIn N t) (callOf (N .B) q) (passes-sound N t (x .passes)) (x .fits .m-least) (x .fits .d-least) (x .within)
+
+  pub outcome-few : FewDirty N ((outcome N t q) .box)
+  outcome-few = (tally-serve (labelled N) N (boxIn N t) (callOf (N .B) q)) .few ((served-finds N t q e) .few)
 
   pub served-lent : (call N t q) .lent ≡ lentOf N ((outcome N t q) .box) (counted (t .counters) (callOf (N .B) q) (outcome N t q))
   unfolding served
@@ -169,7 +183,7 @@ adds-few N t q e =
     let o = outcome N t q in
     let k = t .counters in
     let c = callOf (N .B) q in
-    let few = serve-few (labelled N) N (boxIn N t) c (passes-sound N t (x .passes)) (x .fits .m-least) in
+    let few = serve-few (labelled N) N (boxIn N t) c (passes-sound N t (x .passes)) in
     let f : o .flashWrites ≤ 1 = few .0 in
     let p : o .primaryWrites ≤ N .m + 1 = few .1 in
     let r = one-if-le (isRead c) in

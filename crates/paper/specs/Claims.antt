@@ -143,9 +143,9 @@ premise-by-example only =
     let e : _≡_ {A = ℕ} 4 5 = only 4 5 (List·Memᴰ·head refl) (List·Memᴰ·tail (List·Memᴰ·head refl)) refl in
     absurd (omega arith)
 
--- 1, 6, 7 and 8 are none of the numbers of a list
-pub numbers-by-example : (InList 1 → ⊥) × (InList 6 → ⊥) × (InList 7 → ⊥) × (InList 8 → ⊥)
-numbers-by-example = (λ h. false≢true h, λ h. false≢true h, λ h. false≢true h, λ h. false≢true h)
+-- 1, 6, 7, 8, 12 and 13 are none of the numbers of a list
+pub numbers-by-example : (InList 1 → ⊥) × (InList 6 → ⊥) × (InList 7 → ⊥) × (InList 8 → ⊥) × (InList 12 → ⊥) × (InList 13 → ⊥)
+numbers-by-example = (λ h. false≢true h, λ h. false≢true h, λ h. false≢true h, λ h. false≢true h, λ h. false≢true h, λ h. false≢true h)
 
 -- a read, a look and a flush write no block, so that a list of them is compared with printed D-LRU
 pub reads-are-compared : (B a k : ℕ) (l : List ℕ) → NoWrite (callOf B (Ask.read a l)) × NoWrite (callOf B (Ask.look a)) × NoWrite (callOf B (Ask.flush k))

@@ -10,7 +10,8 @@ use lib.ListN.{getD, take}
 use Rattle.paper.specs.KeyedLaws.{All}
 use Rattle.paper.specs.Cache.{Numbers, Word}
 use Rattle.paper.specs.Engine.{Fixed, labelled}
-use Rattle.paper.specs.Lent.{Lent, Ask, Answer, refused, answered, After, calling, oneOf, aboutAsk, refusal, call, callOf, boxIn, join, split}
+use Rattle.paper.specs.Lent.{Lent, Ask, Answer, refused, answered, After, calling, oneOf, aboutAsk, refusal, call, callOf}
+use Rattle.paper.specs.Lent.{boxIn, FewDirty, join, split}
 use Rattle.paper.specs.BatchLent.{Asking, one, many, report, batchRefusal, batchedFrom, callBatch, servedInTurn}
 use Rattle.paper.specs.Reports.{reportRefusal}
 use Rattle.paper.specs.Machines.{plainNext, plainBlock, writtenBy, NoWrite, Read, Compared, ifRead, seenIn, printedTrace, contentOf}
@@ -45,7 +46,8 @@ unfoldable pub EachServed : (N : Numbers) (Q : Lent → List (Fixed (N .B)) → 
 EachServed N Q t plain [] = Unit {0}
 EachServed N Q t plain (q ∷ qs) = (numberOf N t q ≡ 0 → Q t plain q) × EachServed N Q (next N t q) (plainStep N t plain q) qs
 
--- "In such a list no call gets 6, 7 or 8." (Nor 1: the numbers are those of the opening.)
+-- "In such a list no call gets 6, 7 or 8." (Nor 1 or 12: the numbers are those of the opening.) Nor 13: U8: "Every reachable state has at most t dirty
+-- rows."
 abbrev pub InList : ℕ → Type 0
 InList k = oneOf k (0 ∷ 2 ∷ 3 ∷ 9 ∷ 10 ∷ []) ≡ true
 
@@ -124,6 +126,8 @@ Premise N t qs = NoTwoShare (labelled N) (firstPlain N t ++ written N t qs)
 -- `printed` is of a list of single calls with no write in it: of reads alone, or with looks and flushes among them.
 pub record Demand3 (N : Numbers) (t : Lent) (qs : List Asking) : Type 0 where
   pub numbers : All InList (refusals N t qs)
+  -- U8: "Every reachable state has at most t dirty rows."
+  pub dirty : Throughout N (λ x plain. FewDirty N (boxIn N x)) t (firstPlain N t) qs
   pub orphans : Throughout N (λ x plain. OrphanLaw (labelled N) (boxIn N x)) t (firstPlain N t) qs
   pub orphansWithin : EachServed N (OrphansWithin N) t (firstPlain N t) qs
   pub fingerprints : Premise N t qs → Throughout N (λ x plain. TrueFingerprints (labelled N) (boxIn N x) plain) t (firstPlain N t) qs

@@ -5,16 +5,17 @@ use mathlib.Core.List.{List, [], _∷_, _++_, map, append-nil, List·Memᴰ, Lis
 use mathlib.Core.Logic.{inl}
 use mathlib.Core.Option.{Option, none, some}
 use Prim.Native.Nat.{ℕ, _<_, _*_}
+use native.Mathlib.Omega.{arith}
 use lib.Dec.{eqb}
 use lib.ListN.{length, take, drop, take-append-drop}
-use borrow.Author.Tests.{eqb-true, eqb-false, not-false}
+use borrow.Author.Tests.{eqb-true, eqb-false, le-ltb, not-false}
 use Rattle.tables.specs.Records.{addressTable, blockTable, freeRow, slotsFrom, freshAddresses, freshBlocks}
 use Rattle.paper.specs.Cache as Paper
-use Rattle.paper.specs.Cache.{Numbers, Hashing, Box, Counters, noCounts}
+use Rattle.paper.specs.Cache.{Numbers, Hashing, Box, Counters, dirtyRows, noCounts}
 use Rattle.paper.specs.KeyedLaws.{All, all-left, all-right, all-map, by-test}
 use Rattle.paper.specs.Engine.{Fixed, labelled}
 use Rattle.paper.specs.Lent.{Lent, Ask, opening, calling, callOf, lentBlock, addressOf, wrongBuffers, wrongBlock, otherLength, outside, counts}
-use Rattle.paper.specs.Lent.{over, unfit, refusal}
+use Rattle.paper.specs.Lent.{over, unfit, limitOutside, overLimit, FewDirty, refusal}
 use Rattle.paper.specs.Lent.{served, call, boxIn, lentOf, join, split, fresh, opened, blockAfter, partAfter}
 use Rattle.paper.specs.Batch.{Batched, start}
 use Rattle.paper.specs.BatchLent.{Asking, one, many, report, badCount, anyOutside, batchRefusal, batchedFrom, servedBatch, callBatch}
@@ -34,10 +35,13 @@ use Rattle.paper.specs.Quiet.{traceOf, printed-quiet}
 use Rattle.paper.specs.Parts.{length-split, join-split}
 use Rattle.paper.specs.LentLaws.{Lengths, right-lengths, Passes, passes-sound, sound-passes, lent-back}
 use Rattle.paper.specs.RefusalLaws.{exactly-opening, served-is, keeps, opened-is}
-use Rattle.paper.specs.CallLaws.{fits, served-finds, outcome, outcome-sound, served-lent, served-box, served-passes, look-counts, In64, counters-stay}
+use Rattle.paper.specs.CallLaws.{fits, served-finds, outcome, outcome-sound, outcome-few, served-lent, served-box, served-passes, look-counts, In64}
+use Rattle.paper.specs.CallLaws.{counters-stay}
 use Rattle.paper.specs.BatchLaws.{batch-sound, batch-good, batch-in-turn, batch-blocks}
 use Rattle.paper.specs.Reports.{width, reportRefusal}
-use Rattle.paper.specs.BatchLentLaws.{batch-finds, batch-served, batch-keeps, batch-lent, batch-leaves, batch-box, batch-passes, batch-fits, in-turn-is}
+use Rattle.paper.specs.BatchLentLaws.{batch-finds, batch-served, batch-keeps, batch-lent, batch-leaves, batch-box, batch-few-dirty, batch-passes}
+use Rattle.paper.specs.BatchLentLaws.{batch-fits}
+use Rattle.paper.specs.BatchLentLaws.{in-turn-is}
 
 pub head-≡ : {A : Type 0} {x y : A} {l k : List A} → _≡_ {A = List A} (x ∷ l) (y ∷ k) → x ≡ y
 head-≡ e = cc
@@ -60,18 +64,20 @@ module _ (N : Numbers) where
   abbrev H : Hashing (Fixed 32) (Fixed (N .B))
   H = labelled N
 
-  -- ---- what each call keeps with no premise: the bytes pass, and nothing is wasted
+  -- ---- what each call keeps with no premise: the bytes pass, few rows are dirty, and nothing is wasted
 
   pub record Kept (t : Lent) : Type 0 where
     pub passes : Passes N t
+    pub few : FewDirty N (boxIn N t)
     pub noWaste : NoWaste H ((boxIn N t) .rows) ((boxIn N t) .used)
 
-  kept-next : (t : Lent) (q : Asking) → Kept t → Kept (next N t q)
+  pub kept-next : (t : Lent) (q : Asking) → Kept t → Kept (next N t q)
   kept-next t (one q) k =
       by-test (eqb (refusal N t (calling q)) 0)
       (λ y. let e = eqb-true (refusal N t (calling q)) 0 y in
       record {
         passes = served-passes N t q e;
+        few = subst (FewDirty N) (sym (served-box N t q e)) (outcome-few N t q e);
         noWaste = subst (λ s. NoWaste H (s .rows) (s .used)) (sym (served-box N t q e))
             (noWaste-serve H N (boxIn N t) (callOf (N .B) q) ((passes-sound N t (k .passes)) .addresses) (k .noWaste));
       })
@@ -81,6 +87,7 @@ module _ (N : Numbers) where
       (λ y. let e = eqb-true (batchRefusal N t l b) 0 y in
       record {
         passes = batch-passes N t l b e;
+        few = subst (FewDirty N) (sym (batch-box N t l b e)) (batch-few-dirty N t l b e);
         noWaste = subst (λ s. NoWaste H (s .rows) (s .used)) (sym (batch-box N t l b e)) (batch-leaves N t l b e .1 (k .noWaste));
       })
       (λ y. subst Kept (sym (batch-keeps N t l b (eqb-false (batchRefusal N t l b) 0 y) .lent)) k)
@@ -115,29 +122,37 @@ module _ (N : Numbers) where
   within-each t plain (q ∷ qs) k = (orphans-within t plain q k, within-each (next N t q) (plainStep N t plain q) qs (kept-next t q k))
 
   -- the numbers
-  in-list : (t : Lent) (q : Asking) → unfit N ≡ false → Passes N t → InList (numberOf N t q)
+  pub no-13 : (t : Lent) → Kept t → overLimit N t ≡ false
+  no-13 t k = le-ltb (N .t) (dirtyRows H ((boxIn N t) .rows)) (k .few)
+
+  in-list : (t : Lent) (q : Asking) → unfit N ≡ false → limitOutside N ≡ false → Kept t → InList (numberOf N t q)
   unfolding refusal batchRefusal reportRefusal
-  in-list t (one q) u p =
-      rw u (by-test (wrongBuffers N t || wrongBlock (N .B) (lentBlock q))
+  in-list t (one q) u l k =
+      let p = k .passes in
+      rw (u, l) (by-test (wrongBuffers N t || wrongBlock (N .B) (lentBlock q))
       (λ e. rw e refl)
       (λ e. rw e (by-test (outside (N .P) (addressOf q))
       (λ f. rw f refl)
-      (λ f. rw (f, p .addresses, p .blocks, p .dirty) (by-test (counts q && over (t .counters)) (λ g. rw g refl) (λ g. rw g refl))))))
-  in-list t (many l b) u p =
-      rw u (by-test (wrongBuffers N t || otherLength b (length l * N .B))
+      (λ f. rw (f, p .addresses, p .blocks, p .dirty, no-13 t k) (by-test (counts q && over (t .counters)) (λ g. rw g refl) (λ g. rw g refl))))))
+  in-list t (many list b) u l k =
+      let p = k .passes in
+      rw (u, l) (by-test (wrongBuffers N t || otherLength b (length list * N .B))
       (λ e. rw e refl)
-      (λ e. rw e (by-test (badCount l)
+      (λ e. rw e (by-test (badCount list)
       (λ c. rw c refl)
-      (λ c. rw c (by-test (anyOutside (N .P) l)
+      (λ c. rw c (by-test (anyOutside (N .P) list)
       (λ f. rw f refl)
-      (λ f. rw (f, p .addresses, p .blocks, p .dirty) (by-test (over (t .counters)) (λ g. rw g refl) (λ g. rw g refl))))))))
-  in-list t (report w lent) u p =
-      rw u (by-test (wrongBuffers N t || otherLength lent (N .m * width w)) (λ e. rw e refl) (λ e. rw (e, p .addresses, p .blocks, p .dirty) refl))
+      (λ f. rw (f, p .addresses, p .blocks, p .dirty, no-13 t k) (by-test (over (t .counters)) (λ g. rw g refl) (λ g. rw g refl))))))))
+  in-list t (report w lent) u l k =
+      let p = k .passes in
+      rw (u, l) (by-test (wrongBuffers N t || otherLength lent (N .m * width w))
+      (λ e. rw e refl)
+      (λ e. rw (e, p .addresses, p .blocks, p .dirty, no-13 t k) refl))
 
-  numbers-are : (t : Lent) (qs : List Asking) → unfit N ≡ false → Kept t → All InList (refusals N t qs)
+  numbers-are : (t : Lent) (qs : List Asking) → unfit N ≡ false → limitOutside N ≡ false → Kept t → All InList (refusals N t qs)
   unfolding refusals
-  numbers-are t [] u k = tt
-  numbers-are t (q ∷ qs) u k = (in-list t q u (k .passes), numbers-are (next N t q) qs u (kept-next t q k))
+  numbers-are t [] u l k = tt
+  numbers-are t (q ∷ qs) u l k = (in-list t q u l k, numbers-are (next N t q) qs u l (kept-next t q k))
 
   -- ---- what each call keeps under the premise, over any blocks of which no two different ones share a fingerprint
 
@@ -312,8 +327,11 @@ module _ (N : Numbers) where
     fits-numbers : unfit N ≡ false
     fits-numbers = (exactly-opening N t .gives-0 .0 opens) .0
 
+    fits-limit : limitOutside N ≡ false
+    fits-limit = (exactly-opening N t .gives-0 .0 opens) .1 .0
+
     lengths : Lengths N t
-    lengths = right-lengths N t ((exactly-opening N t .gives-0 .0 opens) .1 .0)
+    lengths = right-lengths N t ((exactly-opening N t .gives-0 .0 opens) .1 .1 .0)
 
     fresh-lent : opened N t ≡ lentOf N (Paper.fresh (N .d) flash disk) noCounts
     unfolding fresh lentOf freshAddresses freshBlocks flash disk
@@ -339,10 +357,11 @@ module _ (N : Numbers) where
     unfolding fresh disk
     fresh-disk = ap (λ x. split (N .B) (N .P) (x .disk)) (opened-is N t opens)
 
-    fresh-kept : Kept (opened N t)
+    pub fresh-kept : Kept (opened N t)
     fresh-kept =
         record {
           passes = fresh-passes;
+          few = subst (FewDirty N) (sym fresh-box) (omega arith);
           noWaste = subst (λ s. NoWaste H (s .rows) (s .used)) (sym fresh-box) (inl (λ f h. absurd (false≢true h)));
         }
 
@@ -386,7 +405,8 @@ module _ (N : Numbers) where
           let i₀ = all-left In plain (written N (opened N t) qs) (all-mem all) in
           let i₁ = all-right In plain (written N (opened N t) qs) (all-mem all) in
           record {
-            numbers = numbers-are (opened N t) qs fits-numbers fresh-kept;
+            numbers = numbers-are (opened N t) qs fits-numbers fits-limit fresh-kept;
+            dirty = kept-throughout (λ x. FewDirty N (boxIn N x)) (λ x k. k .few) (opened N t) plain qs fresh-kept;
             orphans = kept-throughout (λ x. OrphanLaw H (boxIn N x)) orphan (opened N t) plain qs fresh-kept;
             orphansWithin = within-each (opened N t) plain qs fresh-kept;
             fingerprints = λ only. throughout In only (λ x p. TrueFingerprints H (boxIn N x) p) (fingerprints In only) (opened N t) plain qs

@@ -3,19 +3,19 @@
 use mathlib.Core.Bool.{Bool, true, false, not, _&&_, _||_, cond}
 use mathlib.Core.List.{List, [], _∷_, _++_, map}
 use mathlib.Core.Option.{Option, none, some, Option·map}
-use Prim.Native.Nat.{ℕ, zero, suc, _*_, _^_}
+use Prim.Native.Nat.{ℕ, zero, suc, _≤_, _*_, _^_}
 use lib.Dec.{eqb, leb, ltb}
 use lib.ListN.{length, drop}
 use Rattle.tables.specs.Records as Table
 use Rattle.tables.specs.Records.{addressTable, heldRows, blockTable, blockRows, freeRow, freshAddresses, freshBlocks}
 use Rattle.tables.specs.Unsound.{elem, addressesUnsound, blocksUnsound, dirtyUncached}
 use Rattle.paper.specs.Keyed.{has}
-use Rattle.paper.specs.Cache.{Numbers, AddressRow, BlockRow, Box, Call, About, about, Word, Counters, noCounts, counted, serve}
+use Rattle.paper.specs.Cache.{Numbers, AddressRow, BlockRow, Box, Call, About, about, Word, Counters, noCounts, counted, dirtyRows, serve}
 use Rattle.paper.specs.Engine.{Fixed, fit, labelled}
 use Rattle.tables.specs.Rows.{tableBytes, zeros}
 
 -- What is lent and passes from call to call: "n is the number of addresses held now", "disk (P × B bytes), flash (d × B), address table
--- (m × 40), block table (d × 40) .. and the counters record". The box record is the four numbers, the label and n.
+-- (m × 40), block table (d × 40) .. and the counters record". The box record is the four numbers, the label, the limit and n.
 pub record Lent : Type 0 where
   pub n : ℕ
   pub disk : List ℕ
@@ -132,6 +132,10 @@ unfit N =
     || not (between 1 1024 (N .m))
     || not (between 1 256 (N .d))
 
+-- U8: "a limit t from 1 to m"; "It refuses with 12 a limit outside its range, in every call right after 1 or 11"
+abbrev pub limitOutside : Numbers → Bool
+limitOutside N = not (between 1 (N .m) (N .t))
+
 -- "2: a lent length isn't the one above."; U6: "a 64-byte office label"
 abbrev pub otherLength : List ℕ → ℕ → Bool
 otherLength l k = not (eqb (length l) k)
@@ -160,6 +164,13 @@ over k = ltb (2 ^ 63) (k .reads) || ltb (2 ^ 63) (k .hits) || ltb (2 ^ 63) (k .f
 abbrev pub counts : Ask → Bool
 counts q = aboutAsk q .counts
 
+-- U8: "and with 13 a state with more than t dirty rows, right after 8"
+abbrev pub overLimit : Numbers → Lent → Bool
+overLimit N t = ltb (N .t) (dirtyRows (labelled N) ((boxIn N t) .rows))
+
+abbrev pub FewDirty : (N : Numbers) → Box (Fixed 32) (Fixed (N .B)) → Type 0
+FewDirty N s = dirtyRows (labelled N) (s .rows) ≤ N .t
+
 -- a test and the number of its refusal
 pub record Test : Type 0 where
   pub holds : Bool
@@ -182,13 +193,15 @@ tableTests N t rest =
     test (addressesUnsound (N .P) (N .m) (t .n) (t .addresses)) 6
     ∷ test (blocksUnsound (N .d) (t .blocks)) 7
     ∷ test (dirtyUncached (t .n) (N .d) (t .addresses) (t .blocks)) 8
+    ∷ test (overLimit N t) 13
     ∷ rest
 
--- "Checked in the order 1, 2, 3, 6, 7, 8, 9, the first that applies. Flush has no 3, look no 9, opening only 1 and 2."
+-- "Checked in the order 1, 2, 3, 6, 7, 8, 9, the first that applies. Flush has no 3, look no 9, opening only 1 and 2."; U8's 12 and 13 in their places
 abbrev pub tests : Numbers → Lent → Asked → List Test
-tests N t opening = test (unfit N) 1 ∷ test (wrongBuffers N t) 2 ∷ []
+tests N t opening = test (unfit N) 1 ∷ test (limitOutside N) 12 ∷ test (wrongBuffers N t) 2 ∷ []
 tests N t (calling q) =
     test (unfit N) 1
+    ∷ test (limitOutside N) 12
     ∷ test (wrongBuffers N t || wrongBlock (N .B) (lentBlock q)) 2
     ∷ test (outside (N .P) (addressOf q)) 3
     ∷ tableTests N t (test (counts q && over (t .counters)) 9 ∷ [])
@@ -258,4 +271,4 @@ labelAfter N t = cond (eqb (refusal N t opening) 0) (N .label) (zeros 64)
 
 -- numbers with another label
 abbrev pub withLabel : Numbers → List ℕ → Numbers
-withLabel N l = record { B = N .B; P = N .P; m = N .m; d = N .d; label = l }
+withLabel N l = record { B = N .B; P = N .P; m = N .m; d = N .d; label = l; t = N .t }

@@ -86,7 +86,7 @@ rows-blocks : (d : ℕ) (free : List ℕ) (used : List (BlockRow (Fixed 32))) �
 rows-blocks d free used e = block-rows (tableRows free used) (table-wide free used) d (table-length free used ∙ e)
 
 -- what the tables that are written hold
-held-read : (m : ℕ) (rs : List (AddressRow (Fixed 32))) → All (λ r. r .address < 2 ^ 32) rs
+pub held-read : (m : ℕ) (rs : List (AddressRow (Fixed 32))) → All (λ r. r .address < 2 ^ 32) rs
     → map asHeld (heldRows (length rs) (addressTable m (map heldRow rs))) ≡ rs
 unfolding heldRows
 held-read m rs q = ap (λ l. map asHeld (map readAddress l)) (rows-held m rs) ∙ back rs q
@@ -120,7 +120,8 @@ unfolding all
 held-each P p [] q = refl
 held-each P p (r ∷ rs) q =
     both (addressOk P (addressBytes (heldRow r))) (all (addressOk P) (map addressBytes (map heldRow rs)))
-    (addressOk-of P (r .address) (r .fingerprint .0) (bit (r .dirty)) (r .seat) (q .0) (omega arith) (bit-low (r .dirty)) (r .fingerprint .1)) (held-each P p rs (q .1))
+    (addressOk-of P (r .address) (r .fingerprint .0) (bit (r .dirty)) (r .seat) (q .0) (omega arith) (bit-low (r .dirty)) (r .fingerprint .1))
+    (held-each P p rs (q .1))
 
 all-used : (used : List (BlockRow (Fixed 32))) → all isUsed (map blockBytes (map usedRow used)) ≡ true
 unfolding all

@@ -9,7 +9,8 @@ use lib.Dec.{eqb}
 use lib.ListN.{length, getD}
 use Rattle.paper.specs.Cache.{Numbers, Hashing, AddressRow, BlockRow, Box, BlockRows, rowOf, withoutAddress, known, cached, blockOf}
 use Rattle.paper.specs.Cache.{someUncached, Call, read, through, back, invalidate, look, flush, onDisk, rowWithBlock, answer, readAs, writeThrough}
-use Rattle.paper.specs.Cache.{seatIn, backRequest, writeBack, dropped, writeInvalidate, lookAs, flushed, reach, partly, serve, fresh, freed}
+use Rattle.paper.specs.Cache.{seatIn, backRequest, writeBack, dropped, writeInvalidate, lookAs, flushed, excess}
+use Rattle.paper.specs.Cache.{step, reach, partly, serve, fresh, freed}
 use Rattle.paper.specs.KeyedLaws.{by-test, either, clash, or-left, or-right, or-both, eqb→≡, eqb-self, All, Distinct, has-without-other}
 use Rattle.paper.specs.KeyedLaws.{has-without, has-without-self, lost-with}
 use Rattle.paper.specs.Machines.{someUnknown, OrphanLaw, plainNext}
@@ -22,7 +23,8 @@ module _ {F X : Type 0} (H : Hashing F X) where
       → NoWaste H ((readAs H m s a x o) .box .rows) ((readAs H m s a x o) .box .used)
   unfolding readAs answer
   noWaste-readAs m s a x (some r) d l =
-      noWaste-step H m s (record { address = a; fingerprint = r .fingerprint; block = blockOf H (r .fingerprint) (s .used) (s .flash); dirty = r .dirty; seat = r .seat }) d l
+      let b = blockOf H (r .fingerprint) (s .used) (s .flash) in
+      noWaste-step H m s (record { address = a; fingerprint = r .fingerprint; block = b; dirty = r .dirty; seat = r .seat }) d l
   noWaste-readAs m s a x none d l =
       noWaste-step H m s (record { address = a; fingerprint = H .hash x; block = x; dirty = false; seat = seatIn (rowOf a (s .rows)) }) d l
 
@@ -74,7 +76,10 @@ module _ {F X : Type 0} (H : Hashing F X) where
   noWaste-serve N s (look a) d l = noWaste-lookAs s a (rowWithBlock H s a) l
   noWaste-serve N s (through a b z) d l =
       noWaste-step H (N .m) (onDisk H s a b) (record { address = a; fingerprint = H .hash b; block = b; dirty = false; seat = z }) d l
-  noWaste-serve N s (back a b z) d l = noWaste-step H (N .m) s (backRequest H s a b z) d l
+  noWaste-serve N s (back a b z) d l =
+      let t = step H (N .m) s (backRequest H s a b z) in
+      noWaste-partly (reach H (excess H (N .t) (t .box .rows)) (t .box .rows)) (t .box .rows) (t .box .used)
+      (noWaste-step H (N .m) s (backRequest H s a b z) d l)
   noWaste-serve N s (invalidate a b z) d l = noWaste-invalidate s a b d l
   noWaste-serve N s (flush k) d l = noWaste-partly (reach H k (s .rows)) (s .rows) (s .used) l
 

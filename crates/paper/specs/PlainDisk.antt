@@ -12,12 +12,13 @@ use lib.Seq.{ext-getD}
 use borrow.Author.Tests.{not-false}
 use Rattle.paper.specs.Cache.{Numbers, Hashing, AddressRow, BlockRow, Box, BlockRows, held, rowOf, withoutAddress, known, cached, blockOf, copied, Call}
 use Rattle.paper.specs.Cache.{read, through, back, invalidate, look, flush, Within, onDisk, rowWithBlock, ifCached, answer, readAs, writeThrough}
-use Rattle.paper.specs.Cache.{seatIn, dirtied, backRequest, writeBack, dropped, writeInvalidate, lookAs, flushed, reach, partly, cleanTo, serve, fresh, freed}
+use Rattle.paper.specs.Cache.{seatIn, dirtied, backRequest, writeBack, dropped, writeInvalidate, lookAs, flushed, excess}
+use Rattle.paper.specs.Cache.{step, reach, partly, cleanTo, serve, fresh, freed}
 use Rattle.paper.specs.KeyedLaws.{by-test, either, clash, or-both, or-false-left, or-false-right, and-left, eqb→≡, eqb-swap, All, Distinct}
 use Rattle.paper.specs.KeyedLaws.{all-left, all-right, all-map, all-without, all-both, find-some, find-none}
 use Rattle.paper.specs.Machines.{plainNext, plainBlock, writtenBy}
 use Rattle.paper.specs.Events.{Event}
-use Rattle.paper.specs.Sound.{Sound, DirtyCached, sound-onDisk, sound-cleanTo, sound-fresh}
+use Rattle.paper.specs.Sound.{Sound, DirtyCached, sound-step, sound-onDisk, sound-cleanTo, sound-fresh}
 use Rattle.paper.specs.Partly.{all-partly, all-take, left-dirty, dirty-few, none-dirty}
 use Rattle.paper.specs.Faithful.{at, at-set-same, at-set-other, any, dirtyAt, dirty-without, copied-good, CopyTrue, all-at, all-set}
 use Rattle.paper.specs.Faithful.{all-without-strict, RowTrue, BlockTrue, Faithful, FaithfulBut, row-block, faithful-step}
@@ -59,7 +60,7 @@ module _ {F X : Type 0} (H : Hashing F X) where
       (λ c. rw c (λ e. inr (x, refl, c)))
 
   -- an address that is not dirty in the first i rows, and not when these are clean
-  dirty-behind : (x i : ℕ) (rows : List (AddressRow F)) → dirtyAt any x (take i rows) ≡ false → dirtyAt any x (partly H i rows) ≡ false
+  pub dirty-behind : (x i : ℕ) (rows : List (AddressRow F)) → dirtyAt any x (take i rows) ≡ false → dirtyAt any x (partly H i rows) ≡ false
       → dirtyAt any x rows ≡ false
   dirty-behind x zero rows y z = z
   dirty-behind x (suc i) [] y z = refl
@@ -208,7 +209,7 @@ module _ {F X : Type 0} (H : Hashing F X) (In : X → Type 0) (only : (b c : X) 
       (all-both (RowTrue H In plain) (λ r. r .address < N .P) (s .rows) (f .rowsTrue) (h .below)) (h .dirtyCached))))
       (by-test (dirtyAt any x (take i (s .rows))) (λ z. inr z) (λ z. inl (f .current x (dirty-behind H x i (s .rows) z y))))
 
-  faithful-cleanTo : (N : Numbers) (plain : List X) (s : Box F X) (i : ℕ) → Sound H N s → Faithful H In (N .P) plain s
+  pub faithful-cleanTo : (N : Numbers) (plain : List X) (s : Box F X) (i : ℕ) → Sound H N s → Faithful H In (N .P) plain s
       → Faithful H In (N .P) plain (cleanTo H i s)
   faithful-cleanTo N plain s i h f =
       record {
@@ -266,10 +267,13 @@ module _ {F X : Type 0} (H : Hashing F X) (In : X → Type 0) (only : (b c : X) 
         refl,
       )
   faithful-serve N plain s (back a b z) h f m1 d1 w i =
-      let pl = subst (λ n. a < n) (sym (f .plainLength)) w in (
-        faithful-step H In only N (set plain a b) s (backRequest H s a b z) h (but-set H In a (N .P) b plain s f (i .0))
+      let pl = subst (λ n. a < n) (sym (f .plainLength)) w in
+      let q = backRequest H s a b z in
+      let t = step H (N .m) s q in (
+        faithful-cleanTo N (set plain a b) (t .box) (reach H (excess H (N .t) (t .box .rows)) (t .box .rows)) (sound-step H N s q h m1 d1 w)
+            (faithful-step H In only N (set plain a b) s q h (but-set H In a (N .P) b plain s f (i .0))
             m1 d1 w refl (i .0) (sym (at-set-same H plain a b pl))
-            (λ k. still-clean N plain s a b (rowOf a (s .rows)) refl h f (i .0) w k ∙ sym (at-set-same H plain a b pl)),
+            (λ k. still-clean N plain s a b (rowOf a (s .rows)) refl h f (i .0) w k ∙ sym (at-set-same H plain a b pl))),
         refl,
       )
   faithful-serve N plain s (invalidate a b z) h f m1 d1 w i = (faithful-invalidate N plain s a b h f (i .0) w, refl)

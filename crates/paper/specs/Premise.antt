@@ -26,7 +26,7 @@ use Rattle.paper.specs.Demand3Laws.{head-≡, demand-3}
 
 -- one disk block, filled with 0; one address held, one block cached
 abbrev numbers : Numbers
-numbers = record { B = 64; P = 1; m = 1; d = 1; label = replicate 64 0 }
+numbers = record { B = 64; P = 1; m = 1; d = 1; label = replicate 64 0; t = 1 }
 
 abbrev filled : ℕ → List ℕ
 filled k = replicate 64 k

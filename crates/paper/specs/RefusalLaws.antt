@@ -11,7 +11,8 @@ use Rattle.tables.specs.Rows.{zeros}
 use Rattle.tables.specs.Unsound.{addressesUnsound, blocksUnsound, dirtyUncached}
 use Rattle.paper.specs.KeyedLaws.{All, Distinct, by-test, either, clash, eqb→≡, eqb-self, or-cases, or-left, or-right, or-false-left, or-false-right}
 use Rattle.paper.specs.Cache.{Numbers}
-use Rattle.paper.specs.Lent.{Lent, Ask, opening, calling, addressOf, lentBlock, unfit, wrongBuffers, wrongBlock, outside, over, counts}
+use Rattle.paper.specs.Lent.{Lent, Ask, opening, calling, addressOf, lentBlock, unfit, limitOutside, wrongBuffers, wrongBlock, outside, overLimit, over}
+use Rattle.paper.specs.Lent.{counts}
 use Rattle.paper.specs.Lent.{Test, test, first, oneOf, tests, refusal, refused}
 use Rattle.paper.specs.Lent.{served, kept, call, fresh, unopened, opened, labelAfter}
 
@@ -83,6 +84,9 @@ module _ (N : Numbers) (t : Lent) (q : Ask) where
   abbrev pub test1 : Bool
   test1 = unfit N
 
+  abbrev pub test12 : Bool
+  test12 = limitOutside N
+
   abbrev pub test2 : Bool
   test2 = wrongBuffers N t || wrongBlock (N .B) (lentBlock q)
 
@@ -98,37 +102,45 @@ module _ (N : Numbers) (t : Lent) (q : Ask) where
   abbrev pub test8 : Bool
   test8 = dirtyUncached (t .n) (N .d) (t .addresses) (t .blocks)
 
+  abbrev pub test13 : Bool
+  test13 = overLimit N t
+
   abbrev pub test9 : Bool
   test9 = counts q && over (t .counters)
 
   abbrev pub number : ℕ
   number = refusal N t (calling q)
 
-  -- "Checked in the order 1, 2, 3, 6, 7, 8, 9, the first that applies": a call gets a number exactly when its test holds and none before it does
+  -- "Checked in the order 1, 2, 3, 6, 7, 8, 9, the first that applies", 12 "right after 1" and 13 "right after 8": a call gets a number exactly when its
+  -- test holds and none before it does
   pub record Exactly : Type 0 where
     pub gives-1 : number ≡ 1 ↔ (NoneOf [] × (test1 ≡ true))
-    pub gives-2 : number ≡ 2 ↔ (NoneOf (test1 ∷ []) × (test2 ≡ true))
-    pub gives-3 : number ≡ 3 ↔ (NoneOf (test1 ∷ test2 ∷ []) × (test3 ≡ true))
-    pub gives-6 : number ≡ 6 ↔ (NoneOf (test1 ∷ test2 ∷ test3 ∷ []) × (test6 ≡ true))
-    pub gives-7 : number ≡ 7 ↔ (NoneOf (test1 ∷ test2 ∷ test3 ∷ test6 ∷ []) × (test7 ≡ true))
-    pub gives-8 : number ≡ 8 ↔ (NoneOf (test1 ∷ test2 ∷ test3 ∷ test6 ∷ test7 ∷ []) × (test8 ≡ true))
-    pub gives-9 : number ≡ 9 ↔ (NoneOf (test1 ∷ test2 ∷ test3 ∷ test6 ∷ test7 ∷ test8 ∷ []) × (test9 ≡ true))
-    pub gives-0 : number ≡ 0 ↔ NoneOf (test1 ∷ test2 ∷ test3 ∷ test6 ∷ test7 ∷ test8 ∷ test9 ∷ [])
-    pub no-other : oneOf number (0 ∷ 1 ∷ 2 ∷ 3 ∷ 6 ∷ 7 ∷ 8 ∷ 9 ∷ []) ≡ true
+    pub gives-12 : number ≡ 12 ↔ (NoneOf (test1 ∷ []) × (test12 ≡ true))
+    pub gives-2 : number ≡ 2 ↔ (NoneOf (test1 ∷ test12 ∷ []) × (test2 ≡ true))
+    pub gives-3 : number ≡ 3 ↔ (NoneOf (test1 ∷ test12 ∷ test2 ∷ []) × (test3 ≡ true))
+    pub gives-6 : number ≡ 6 ↔ (NoneOf (test1 ∷ test12 ∷ test2 ∷ test3 ∷ []) × (test6 ≡ true))
+    pub gives-7 : number ≡ 7 ↔ (NoneOf (test1 ∷ test12 ∷ test2 ∷ test3 ∷ test6 ∷ []) × (test7 ≡ true))
+    pub gives-8 : number ≡ 8 ↔ (NoneOf (test1 ∷ test12 ∷ test2 ∷ test3 ∷ test6 ∷ test7 ∷ []) × (test8 ≡ true))
+    pub gives-13 : number ≡ 13 ↔ (NoneOf (test1 ∷ test12 ∷ test2 ∷ test3 ∷ test6 ∷ test7 ∷ test8 ∷ []) × (test13 ≡ true))
+    pub gives-9 : number ≡ 9 ↔ (NoneOf (test1 ∷ test12 ∷ test2 ∷ test3 ∷ test6 ∷ test7 ∷ test8 ∷ test13 ∷ []) × (test9 ≡ true))
+    pub gives-0 : number ≡ 0 ↔ NoneOf (test1 ∷ test12 ∷ test2 ∷ test3 ∷ test6 ∷ test7 ∷ test8 ∷ test13 ∷ test9 ∷ [])
+    pub no-other : oneOf number (0 ∷ 1 ∷ 12 ∷ 2 ∷ 3 ∷ 6 ∷ 7 ∷ 8 ∷ 13 ∷ 9 ∷ []) ≡ true
 
   pub exactly : Exactly
   unfolding refusal
   exactly =
       let l = tests N t (calling q) in
-      let d : Apart l = (refl, (refl, (refl, (refl, (refl, (refl, (refl, (refl, tt)))))))) in
+      let d : Apart l = (refl, (refl, (refl, (refl, (refl, (refl, (refl, (refl, (refl, (refl, tt)))))))))) in
       record {
         gives-1 = gives [] (test test1 1) (drop 1 l) d;
-        gives-2 = gives (take 1 l) (test test2 2) (drop 2 l) d;
-        gives-3 = gives (take 2 l) (test test3 3) (drop 3 l) d;
-        gives-6 = gives (take 3 l) (test test6 6) (drop 4 l) d;
-        gives-7 = gives (take 4 l) (test test7 7) (drop 5 l) d;
-        gives-8 = gives (take 5 l) (test test8 8) (drop 6 l) d;
-        gives-9 = gives (take 6 l) (test test9 9) [] d;
+        gives-12 = gives (take 1 l) (test test12 12) (drop 2 l) d;
+        gives-2 = gives (take 2 l) (test test2 2) (drop 3 l) d;
+        gives-3 = gives (take 3 l) (test test3 3) (drop 4 l) d;
+        gives-6 = gives (take 4 l) (test test6 6) (drop 5 l) d;
+        gives-7 = gives (take 5 l) (test test7 7) (drop 6 l) d;
+        gives-8 = gives (take 6 l) (test test8 8) (drop 7 l) d;
+        gives-13 = gives (take 7 l) (test test13 13) (drop 8 l) d;
+        gives-9 = gives (take 8 l) (test test9 9) [] d;
         gives-0 = gives-none l d;
         no-other = in-first l;
       }
@@ -140,21 +152,23 @@ flush-no-3 N t k e = false≢true ((exactly N t (Ask.flush k) .gives-3 .0 e) .1)
 pub look-no-9 : (N : Numbers) (t : Lent) (a : ℕ) → refusal N t (calling (Ask.look a)) ≢ 9
 look-no-9 N t a e = false≢true ((exactly N t (Ask.look a) .gives-9 .0 e) .1)
 
--- "opening only 1 and 2"
+-- "opening only 1 and 2", and 12
 pub record ExactlyOpening (N : Numbers) (t : Lent) : Type 0 where
   pub gives-1 : refusal N t opening ≡ 1 ↔ (NoneOf [] × (unfit N ≡ true))
-  pub gives-2 : refusal N t opening ≡ 2 ↔ (NoneOf (unfit N ∷ []) × (wrongBuffers N t ≡ true))
-  pub gives-0 : refusal N t opening ≡ 0 ↔ NoneOf (unfit N ∷ wrongBuffers N t ∷ [])
-  pub no-other : oneOf (refusal N t opening) (0 ∷ 1 ∷ 2 ∷ []) ≡ true
+  pub gives-12 : refusal N t opening ≡ 12 ↔ (NoneOf (unfit N ∷ []) × (limitOutside N ≡ true))
+  pub gives-2 : refusal N t opening ≡ 2 ↔ (NoneOf (unfit N ∷ limitOutside N ∷ []) × (wrongBuffers N t ≡ true))
+  pub gives-0 : refusal N t opening ≡ 0 ↔ NoneOf (unfit N ∷ limitOutside N ∷ wrongBuffers N t ∷ [])
+  pub no-other : oneOf (refusal N t opening) (0 ∷ 1 ∷ 12 ∷ 2 ∷ []) ≡ true
 
 pub exactly-opening : (N : Numbers) (t : Lent) → ExactlyOpening N t
 unfolding refusal
 exactly-opening N t =
     let l = tests N t opening in
-    let d : Apart l = (refl, (refl, (refl, tt))) in
+    let d : Apart l = (refl, (refl, (refl, (refl, tt)))) in
     record {
       gives-1 = gives [] (test (unfit N) 1) (drop 1 l) d;
-      gives-2 = gives (take 1 l) (test (wrongBuffers N t) 2) [] d;
+      gives-12 = gives (take 1 l) (test (limitOutside N) 12) (drop 2 l) d;
+      gives-2 = gives (take 2 l) (test (wrongBuffers N t) 2) [] d;
       gives-0 = gives-none l d;
       no-other = in-first l;
     }

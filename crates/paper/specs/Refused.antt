@@ -18,8 +18,9 @@ use Rattle.paper.specs.Engine as Engine
 use Rattle.paper.specs.Lent as Lent
 use Rattle.paper.specs.Lent.{Lent, Ask, Asked, opening, calling, Answer, refused, answered, After, unfit, refusal, call, opened, labelAfter}
 
+-- with a limit of m, as in replay
 abbrev pub numbers : ℕ → ℕ → ℕ → ℕ → Numbers
-numbers B P m d = record { B = B; P = P; m = m; d = d; label = replicate 64 0 }
+numbers B P m d = record { B = B; P = P; m = m; d = d; label = replicate 64 0; t = m }
 
 abbrev pub counters : ℕ → ℕ → ℕ → ℕ → Counters
 counters r h f p = record { reads = r; hits = h; flashWrites = f; primaryWrites = p }
@@ -96,6 +97,13 @@ pub record Case : Type 0 where
 abbrev asks : Asked → Lent → ℕ → Case
 asks q t k = record { numbers = small; lent = t; asked = q; number = k }
 
+-- two rows may be held, and so many of them dirty
+abbrev pub upTo : (B limit : ℕ) → Numbers
+upTo B limit = record { B = B; P = 2; m = 2; d = 2; label = replicate 64 0; t = limit }
+
+abbrev asksUpTo : ℕ → Asked → Lent → ℕ → Case
+asksUpTo limit q t k = record { numbers = upTo 64 limit; lent = t; asked = q; number = k }
+
 -- what is asked of address a; a flush and an opening have none
 abbrev reading : ℕ → Asked
 reading a = calling (Ask.read a (filled 5))
@@ -153,7 +161,7 @@ lengths q =
 
 -- a label of so many bytes
 abbrev labelledBy : ℕ → ℕ → Numbers
-labelledBy B k = record { B = B; P = 2; m = 2; d = 2; label = replicate k 7 }
+labelledBy B k = record { B = B; P = 2; m = 2; d = 2; label = replicate k 7; t = 2 }
 
 -- 2, of the label: a byte short, a byte long, none; 1 comes before it, 3 after it
 abbrev labels : (ℕ → Asked) → List Case
@@ -165,6 +173,10 @@ labels q =
     ∷ record { numbers = labelledBy 96 63; lent = sound; asked = q 1; number = 1 }
     ∷ record { numbers = labelledBy 64 63; lent = sound; asked = q 2; number = 2 }
     ∷ []
+
+-- 12. U8: "a limit t from 1 to m", of which m is 2
+abbrev limits : Asked → List Case
+limits q = asksUpTo 0 q sound 12 ∷ asksUpTo 1 q sound 0 ∷ asksUpTo 2 q sound 0 ∷ asksUpTo 3 q sound 12 ∷ []
 
 abbrev blockLengths : (List ℕ → Ask) → List Case
 blockLengths q = asks (calling (q (replicate 63 5))) sound 2 ∷ asks (calling (q (replicate 64 5))) sound 0 ∷ asks (calling (q (replicate 65 5))) sound 2 ∷ []
@@ -232,6 +244,19 @@ dirtyRows q =
     ∷ asks q (held 1 (row 1 nought 1 ∷ [])) 8
     ∷ []
 
+-- 13. U8: "a state with more than t dirty rows": two rows share a block; both are dirty, then one is.
+abbrev shared : (first second : ℕ) → List ℕ
+shared x y = addressTable 2 (row 1 one x ∷ row 0 one y ∷ [])
+
+abbrev manyDirty : Asked → List Case
+manyDirty q =
+    asksUpTo 1 q (memory 2 (shared 1 1) blocks noCounts) 13
+    ∷ asksUpTo 2 q (memory 2 (shared 1 1) blocks noCounts) 0
+    ∷ asksUpTo 1 q (memory 2 (shared 0 1) blocks noCounts) 0
+    ∷ asksUpTo 1 q (memory 2 (shared 1 0) blocks noCounts) 0
+    ∷ asksUpTo 1 q (memory 2 (shared 0 0) blocks noCounts) 0
+    ∷ []
+
 -- 9. "a counter above 2 to the power 63": each at 2^63, then one of them one above it. "look no 9": the number is then 0.
 abbrev counts : Asked → ℕ → List Case
 counts q k =
@@ -242,34 +267,51 @@ counts q k =
     ∷ asks q (counting 0 0 0 (2 ^ 63 + 1)) k
     ∷ []
 
--- "Checked in the order 1, 2, 3, 6, 7, 8, 9, the first that applies." In the first case all seven apply, and in each later case one less.
+-- "Checked in the order 1, 2, 3, 6, 7, 8, 9, the first that applies.", with 12 "right after 1" and 13 "right after 8". In the first case all nine apply,
+-- and in each later case one less.
 abbrev pub worst : ℕ → List ℕ → List ℕ → Counters → Lent
-worst disk rs bs k = cut disk 128 80 80 (memory 1 rs bs k)
+worst disk rs bs k = cut disk 128 80 80 (memory 2 rs bs k)
 
-abbrev order : (ℕ → Asked) → (n₁ n₂ n₃ n₆ n₇ n₈ n₉ served : ℕ) → List Case
-order q n₁ n₂ n₃ n₆ n₇ n₈ n₉ served =
-    let uncached = addressTable 2 (row 1 two 1 ∷ []) in
-    let much = counters (2 ^ 63 + 1) 0 0 0 in
-    record { numbers = numbers 32 2 2 2; lent = worst 127 (set uncached (paddingByte 0 2) 1) (set blocks (paddingByte 0 2) 1) much; asked = q 2; number = n₁ }
-    ∷ asks (q 2) (worst 127 (set uncached (paddingByte 0 2) 1) (set blocks (paddingByte 0 2) 1) much) n₂
-    ∷ asks (q 2) (worst 128 (set uncached (paddingByte 0 2) 1) (set blocks (paddingByte 0 2) 1) much) n₃
-    ∷ asks (q 1) (worst 128 (set uncached (paddingByte 0 2) 1) (set blocks (paddingByte 0 2) 1) much) n₆
-    ∷ asks (q 1) (worst 128 uncached (set blocks (paddingByte 0 2) 1) much) n₇
-    ∷ asks (q 1) (worst 128 uncached blocks much) n₈
-    ∷ asks (q 1) (worst 128 rows blocks much) n₉
-    ∷ asks (q 1) (worst 128 rows blocks noCounts) served
+-- two dirty rows, one of them without its block; two with their block; one
+abbrev pub uncached : List ℕ
+uncached = addressTable 2 (row 1 two 1 ∷ row 0 one 1 ∷ [])
+
+abbrev pub crowded : List ℕ
+crowded = shared 1 1
+
+abbrev pub single : List ℕ
+single = shared 1 0
+
+abbrev pub damaged : List ℕ → List ℕ
+damaged t = set t (paddingByte 0 2) 1
+
+abbrev pub much : Counters
+much = counters (2 ^ 63 + 1) 0 0 0
+
+abbrev order : (ℕ → Asked) → (n₁ n₁₂ n₂ n₃ n₆ n₇ n₈ n₁₃ n₉ served : ℕ) → List Case
+order q n₁ n₁₂ n₂ n₃ n₆ n₇ n₈ n₁₃ n₉ served =
+    record { numbers = upTo 32 0; lent = worst 127 (damaged uncached) (damaged blocks) much; asked = q 2; number = n₁ }
+    ∷ asksUpTo 0 (q 2) (worst 127 (damaged uncached) (damaged blocks) much) n₁₂
+    ∷ asksUpTo 1 (q 2) (worst 127 (damaged uncached) (damaged blocks) much) n₂
+    ∷ asksUpTo 1 (q 2) (worst 128 (damaged uncached) (damaged blocks) much) n₃
+    ∷ asksUpTo 1 (q 1) (worst 128 (damaged uncached) (damaged blocks) much) n₆
+    ∷ asksUpTo 1 (q 1) (worst 128 uncached (damaged blocks) much) n₇
+    ∷ asksUpTo 1 (q 1) (worst 128 uncached blocks much) n₈
+    ∷ asksUpTo 1 (q 1) (worst 128 crowded blocks much) n₁₃
+    ∷ asksUpTo 1 (q 1) (worst 128 single blocks much) n₉
+    ∷ asksUpTo 1 (q 1) (worst 128 single blocks noCounts) served
     ∷ []
 
--- "Flush has no 3, look no 9, opening only 1 and 2."
+-- "Flush has no 3, look no 9, opening only 1 and 2.", and 12
 abbrev orders : List Case
 orders =
-    order reading 1 2 3 6 7 8 9 0
-    ++ order writing 1 2 3 6 7 8 9 0
-    ++ order backing 1 2 3 6 7 8 9 0
-    ++ order invalidating 1 2 3 6 7 8 9 0
-    ++ order looking 1 2 3 6 7 8 0 0
-    ++ order flushing 1 2 6 6 7 8 9 0
-    ++ order starting 1 2 0 0 0 0 0 0
+    order reading 1 12 2 3 6 7 8 13 9 0
+    ++ order writing 1 12 2 3 6 7 8 13 9 0
+    ++ order backing 1 12 2 3 6 7 8 13 9 0
+    ++ order invalidating 1 12 2 3 6 7 8 13 9 0
+    ++ order looking 1 12 2 3 6 7 8 13 0 0
+    ++ order flushing 1 12 2 6 6 7 8 13 9 0
+    ++ order starting 1 12 2 0 0 0 0 0 0 0
 
 abbrev pub table : List Case
 table =
@@ -283,6 +325,10 @@ table =
     ++ labels looking
     ++ labels flushing
     ++ labels starting
+    ++ limits (reading 1)
+    ++ limits (looking 1)
+    ++ limits (flushing 1)
+    ++ limits opening
     ++ blockLengths (Ask.read 1)
     ++ blockLengths (λ l. Ask.through 1 l 9)
     ++ blockLengths (λ l. Ask.back 1 l 9)
@@ -298,14 +344,19 @@ table =
     ++ blockTables (flushing 1)
     ++ dirtyRows (reading 1)
     ++ dirtyRows (flushing 1)
+    ++ manyDirty (reading 1)
+    ++ manyDirty (backing 1)
+    ++ manyDirty (looking 1)
+    ++ manyDirty (flushing 1)
     ++ counts (reading 1) 9
     ++ counts (flushing 1) 9
     ++ counts (looking 1) 0
     ++ orders
 
 pub refused-with : map (λ c. refusal (c .numbers) (c .lent) (c .asked)) table ≡ map (λ c. c .number) table
-unfolding refusal unfit Lent.wrongBuffers Lent.over Rows.rows Rows.flat Rows.zeros Records.addressBytes Records.blockBytes Records.readAddress
-    Records.readBlock addressTable blockTable Find.any Find.all Find.same Unsound.elem Unsound.twice Unsound.count Unsound.addressesUnsound
+unfolding refusal unfit Lent.wrongBuffers Lent.over Lent.boxIn Rows.rows Rows.flat Rows.zeros Records.addressBytes Records.blockBytes
+    Records.readAddress Records.readBlock Records.heldRows addressTable blockTable Find.any Find.all Find.same Unsound.elem Unsound.twice
+    Unsound.count Unsound.addressesUnsound
     Unsound.freeAfterUsed Unsound.eachOnce Unsound.usedTwice Unsound.blocksUnsound Unsound.dirtyUncached
 refused-with = refl
 

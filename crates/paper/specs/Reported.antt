@@ -62,6 +62,15 @@ pub record Case : Type 0 where
 abbrev asks : Reader → ℕ → Lent → ℕ → Case
 asks w n t k = record { numbers = office; lent = t; reader = w; length = n; number = k }
 
+-- with another block size, and so many rows that may be dirty
+abbrev asksUpTo : (B limit : ℕ) → Reader → ℕ → Lent → ℕ → Case
+asksUpTo B limit w n t k =
+    record { numbers = record { B = B; P = 259; m = 3; d = 2; label = replicate 64 0; t = limit }; lent = t; reader = w; length = n; number = k }
+
+-- both rows dirty, with their block
+abbrev crowded : List ℕ
+crowded = addressTable 3 (addressRow 258 (print 1) 1 (bytes2 2055) ∷ addressRow 1 (print 1) 1 (bytes2 9) ∷ [])
+
 -- the last byte of padding of the first row is 1
 abbrev damaged : List ℕ → List ℕ
 damaged t = set t (paddingByte 0 2) 1
@@ -70,7 +79,8 @@ damaged t = set t (paddingByte 0 2) 1
 abbrev much : Counters
 much = counters 0 0 0 (2 ^ 63 + 1)
 
--- 2: the report's bytes, and the disk. The order 1, 2, 6, 7, 8: in the first case of these all apply, and in each later case one less.
+-- 2: the report's bytes, and the disk. The order 1, 12, 2, 6, 7, 8, 13: in the first case of these the tests before 13 apply, and in each later case one
+-- less.
 abbrev cases : Reader → (right : ℕ) → List Case
 cases w n =
     asks w n two-held 0
@@ -78,11 +88,16 @@ cases w n =
     ∷ asks w 0 two-held 2
     ∷ asks w n (memory 16575 2 (rows 1) blocks noCounts) 2
     ∷ asks w n (memory 16576 0 (addressTable 3 []) blocks noCounts) 0
-    ∷ record { numbers = numbers 32 259 3 2; lent = memory 16576 2 (damaged (rows 2)) (damaged blocks) much; reader = w; length = 1; number = 1 }
+    ∷ asksUpTo 32 0 w 1 (memory 16576 2 (damaged (rows 2)) (damaged blocks) much) 1
+    ∷ asksUpTo 64 0 w 1 (memory 16576 2 (damaged (rows 2)) (damaged blocks) much) 12
+    ∷ asksUpTo 64 4 w n two-held 12
     ∷ asks w 1 (memory 16576 2 (damaged (rows 2)) (damaged blocks) much) 2
     ∷ asks w n (memory 16576 2 (damaged (rows 2)) (damaged blocks) much) 6
     ∷ asks w n (memory 16576 2 (rows 2) (damaged blocks) much) 7
     ∷ asks w n (memory 16576 2 (rows 2) blocks much) 8
+    ∷ asksUpTo 64 1 w n (memory 16576 2 crowded blocks much) 13
+    ∷ asksUpTo 64 2 w n (memory 16576 2 crowded blocks much) 0
+    ∷ asksUpTo 64 1 w n (memory 16576 2 (rows 1) blocks much) 0
     ∷ asks w n (memory 16576 2 (rows 1) blocks much) 0
     ∷ []
 
@@ -91,7 +106,7 @@ abbrev pub table : List Case
 table = cases manager 21 ++ cases desk 15 ++ (asks manager 20 two-held 2 ∷ asks desk 14 two-held 2 ∷ asks manager 15 two-held 2 ∷ asks desk 21 two-held 2 ∷ [])
 
 pub reports-refused-with : map (λ c. reportRefusal (c .numbers) (c .lent) (c .reader) (replicate (c .length) 5)) table ≡ map (λ c. c .number) table
-unfolding reportRefusal Lent.unfit Lent.wrongBuffers Rows.rows Rows.flat Rows.zeros Records.addressBytes Records.blockBytes Records.readAddress
-    Records.readBlock addressTable blockTable Find.any Find.all Find.same Unsound.elem Unsound.twice Unsound.count Unsound.addressesUnsound
+unfolding reportRefusal Lent.unfit Lent.wrongBuffers Lent.boxIn Records.heldRows Rows.rows Rows.flat Rows.zeros Records.addressBytes Records.blockBytes
+    Records.readAddress Records.readBlock addressTable blockTable Find.any Find.all Find.same Unsound.elem Unsound.twice Unsound.count Unsound.addressesUnsound
     Unsound.freeAfterUsed Unsound.eachOnce Unsound.usedTwice Unsound.blocksUnsound Unsound.dirtyUncached
 reports-refused-with = refl

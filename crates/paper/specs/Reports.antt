@@ -8,7 +8,7 @@ use lib.ListN.{length}
 use Rattle.tables.specs.Rows.{flat, zeros}
 use Rattle.tables.specs.Records.{bytes4}
 use Rattle.paper.specs.Cache.{Numbers, AddressRow}
-use Rattle.paper.specs.Lent.{Lent, Test, test, first, tableTests, unfit, wrongBuffers, otherLength, bit, boxIn}
+use Rattle.paper.specs.Lent.{Lent, Test, test, first, tableTests, unfit, limitOutside, wrongBuffers, otherLength, bit, boxIn}
 
 -- whose report it is
 pub data Reader : Type 0 where
@@ -31,7 +31,8 @@ module _ {F : Type 0} where
 
 -- "Reports count nothing and have no 3 and no 9."
 abbrev pub reportTests : Numbers → Lent → Reader → (report : List ℕ) → List Test
-reportTests N t w report = test (unfit N) 1 ∷ test (wrongBuffers N t || otherLength report (N .m * width w)) 2 ∷ tableTests N t []
+reportTests N t w report =
+    test (unfit N) 1 ∷ test (limitOutside N) 12 ∷ test (wrongBuffers N t || otherLength report (N .m * width w)) 2 ∷ tableTests N t []
 
 unfoldable pub reportRefusal : Numbers → Lent → Reader → (report : List ℕ) → ℕ
 reportRefusal N t w report = first (reportTests N t w report)

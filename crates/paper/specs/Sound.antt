@@ -15,7 +15,7 @@ use Rattle.paper.specs.Keyed.{has, without}
 use Rattle.paper.specs.Cache.{Numbers, Hashing, AddressRow, BlockRow, Box, RowOut, BlockRows, Request, newest, blockRow, held, rowOf, withoutAddress}
 use Rattle.paper.specs.Cache.{known, cached, withoutBlock, slotOf, blockOf, cleaned, copied, isLost, step, step1, step3, step4, freed, oldestUnknown}
 use Rattle.paper.specs.Cache.{stored, Call, read, through, back, invalidate, look, flush, Within, onDisk, rowWithBlock, answer, readAs, writeThrough}
-use Rattle.paper.specs.Cache.{seatIn, backRequest, writeBack, dropped, writeInvalidate, lookAs, flushed, reach, cleanTo, serve, fresh}
+use Rattle.paper.specs.Cache.{seatIn, backRequest, writeBack, dropped, writeInvalidate, lookAs, flushed, excess, reach, cleanTo, serve, fresh}
 use Rattle.paper.specs.KeyedLaws.{by-test, either, clash, or-left, or-right, or-false-right, and-left, and-right, eqb→≡, eqb-self, All}
 use Rattle.paper.specs.KeyedLaws.{Distinct, all-append, all-map, all-without, all-both, has-without-other, has-without, has-without-self}
 use Rattle.paper.specs.KeyedLaws.{without-absent, distinct-without, distinct-snoc}
@@ -80,7 +80,7 @@ module _ {F X : Type 0} (H : Hashing F X) where
 
   -- cleaned rows differ only in what is dirty
   pub all-cleaned : (c : F → Bool) (P Q : AddressRow F → Type 0)
-      → ((r : AddressRow F) → P r → Q (record { address = r .address; fingerprint = r .fingerprint; dirty = r .dirty && not (c (r .fingerprint)); seat = r .seat }))
+      → ((r : AddressRow F) → P r → Q (newest (r .address) (r .fingerprint) (r .dirty && not (c (r .fingerprint))) (r .seat)))
       → (rows : List (AddressRow F)) → All P rows → All Q (cleaned H c rows)
   all-cleaned c P Q f [] p = tt
   all-cleaned c P Q f (r ∷ rs) p = (f r (p .0), all-cleaned c P Q f rs (p .1))
@@ -314,7 +314,8 @@ module _ {F X : Type 0} (H : Hashing F X) where
       → Sound H N ((readAs H (N .m) s a x o) .box)
   unfolding readAs answer
   sound-readAs N s a x (some r) h m1 d1 ap
-      = sound-step N s (record { address = a; fingerprint = r .fingerprint; block = blockOf H (r .fingerprint) (s .used) (s .flash); dirty = r .dirty; seat = r .seat })
+      = sound-step N s
+      (record { address = a; fingerprint = r .fingerprint; block = blockOf H (r .fingerprint) (s .used) (s .flash); dirty = r .dirty; seat = r .seat })
       h m1 d1 ap
   sound-readAs N s a x none h m1 d1 ap =
       sound-step N s (record { address = a; fingerprint = H .hash x; block = x; dirty = false; seat = seatIn (rowOf a (s .rows)) }) h m1 d1 ap
@@ -385,7 +386,9 @@ module _ {F X : Type 0} (H : Hashing F X) where
   sound-serve N s (read a) h m1 d1 w = sound-readAs N s a (getD (s .disk) a (H .blank)) (rowWithBlock H s a) h m1 d1 w
   sound-serve N s (through a b z) h m1 d1 w
       = sound-step N (onDisk H s a b) (record { address = a; fingerprint = H .hash b; block = b; dirty = false; seat = z }) (sound-onDisk N s a b h) m1 d1 w
-  sound-serve N s (back a b z) h m1 d1 w = sound-step N s (backRequest H s a b z) h m1 d1 w
+  sound-serve N s (back a b z) h m1 d1 w =
+      let t = step H (N .m) s (backRequest H s a b z) in
+      sound-cleanTo N (reach H (excess H (N .t) (t .box .rows)) (t .box .rows)) (t .box) (sound-step N s (backRequest H s a b z) h m1 d1 w)
   sound-serve N s (invalidate a b z) h m1 d1 w = sound-invalidate N s a b h
   sound-serve N s (look a) h m1 d1 w = sound-lookAs N s a (rowWithBlock H s a) h
   sound-serve N s (flush k) h m1 d1 w = sound-cleanTo N (reach H k (s .rows)) s h

@@ -66,7 +66,11 @@ pub record State : Type 0 where
 
 -- "box 64 8 m d"
 abbrev pub boxOf : (m d : ℕ) → Numbers
-boxOf m d = record { B = 64; P = 8; m = m; d = d; label = replicate 64 0 }
+boxOf m d = record { B = 64; P = 8; m = m; d = d; label = replicate 64 0; t = m }
+
+-- the same with a limit; "(m in replay)"
+abbrev upTo : (t m d : ℕ) → Numbers
+upTo t m d = record { B = 64; P = 8; m = m; d = d; label = replicate 64 0; t = t }
 
 -- An example: the numbers of the box, and the state that is expected
 pub record Example : Type 0 where
@@ -75,6 +79,9 @@ pub record Example : Type 0 where
 
 abbrev example : (m d : ℕ) → State → Example
 example m d s = record { numbers = boxOf m d; seen = s }
+
+abbrev limitedTo : (t m d : ℕ) → State → Example
+limitedTo t m d s = record { numbers = upTo t m d; seen = s }
 
 abbrev after : Call ℕ → Outcome ℕ ℕ → State → State
 after c o t = record {
@@ -450,6 +457,52 @@ more =
       flash = 9 ∷ [];
       disk = 9 ∷ 1 ∷ 2 ∷ 3 ∷ 4 ∷ 5 ∷ 6 ∷ 7 ∷ [];
       counters = counters 2 0 3 1;
+    })
+    -- U8: "After the step of a write back, if more than t rows are dirty, the oldest dirty one is copied to disk and made clean.": at t 1 address 0, when 1 is
+    -- written; a second write back of 1 copies nothing.
+    ∷ limitedTo 1 3 3 (record {
+      said = says (back 0 9) newBlock 1 0 ∷ says (back 1 8) newBlock 1 1 ∷ says (back 1 7) newBlock 1 0 ∷ [];
+      returned = [];
+      rows = clean 0 9 ∷ dirty 1 7 ∷ [];
+      blocks = blockIn 9 0 ∷ blockIn 8 1 ∷ blockIn 7 2 ∷ [];
+      flash = 9 ∷ 8 ∷ 7 ∷ [];
+      disk = 9 ∷ 1 ∷ 2 ∷ 3 ∷ 4 ∷ 5 ∷ 6 ∷ 7 ∷ [];
+      counters = counters 0 0 3 1;
+    })
+    -- The oldest dirty one: a read has made address 0 newer than 1. A write through isn't followed by it, and needs no room.
+    ∷ limitedTo 2 4 4 (record {
+      said = says (back 0 9) newBlock 1 0
+          ∷ says (back 1 8) newBlock 1 0
+          ∷ says (read 0) hit 0 0
+          ∷ says (through 3 6) newBlock 1 1
+          ∷ says (back 2 7) newBlock 1 1
+          ∷ [];
+      returned = 9 ∷ [];
+      rows = clean 1 8 ∷ dirty 0 9 ∷ clean 3 6 ∷ dirty 2 7 ∷ [];
+      blocks = blockIn 8 1 ∷ blockIn 9 0 ∷ blockIn 6 2 ∷ blockIn 7 3 ∷ [];
+      flash = 9 ∷ 8 ∷ 6 ∷ 7 ∷ [];
+      disk = 0 ∷ 8 ∷ 2 ∷ 6 ∷ 4 ∷ 5 ∷ 6 ∷ 7 ∷ [];
+      counters = counters 1 1 4 2;
+    })
+    -- The step itself has copied address 0's block, when its row was taken out: one row is dirty, and no more is copied.
+    ∷ limitedTo 1 1 1 (record {
+      said = says (back 0 9) newBlock 1 0 ∷ says (back 1 8) newBlock 1 1 ∷ [];
+      returned = [];
+      rows = dirty 1 8 ∷ [];
+      blocks = blockIn 8 0 ∷ [];
+      flash = 8 ∷ [];
+      disk = 9 ∷ 1 ∷ 2 ∷ 3 ∷ 4 ∷ 5 ∷ 6 ∷ 7 ∷ [];
+      counters = counters 0 0 2 1;
+    })
+    -- Two addresses share a block: of the three dirty ones the oldest alone is copied, and its block stays.
+    ∷ limitedTo 2 3 2 (record {
+      said = says (back 0 9) newBlock 1 0 ∷ says (back 1 9) sameBlock 0 0 ∷ says (back 2 8) newBlock 1 1 ∷ [];
+      returned = [];
+      rows = clean 0 9 ∷ dirty 1 9 ∷ dirty 2 8 ∷ [];
+      blocks = blockIn 9 0 ∷ blockIn 8 1 ∷ [];
+      flash = 9 ∷ 8 ∷ [];
+      disk = 9 ∷ 1 ∷ 2 ∷ 3 ∷ 4 ∷ 5 ∷ 6 ∷ 7 ∷ [];
+      counters = counters 0 0 2 1;
     })
     ∷ []
 

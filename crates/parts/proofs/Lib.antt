@@ -1,3 +1,4 @@
 pub mod Indexed
 pub mod Looped
 pub mod Asking
+pub mod Limiting

@@ -11,9 +11,9 @@ use Rattle.paper.specs.Engine.{Fixed, fit, labelled}
 use Rattle.paper.specs.Lent.{join}
 use Rattle.paper.specs.Layout.{Addrs, Blocks, Parts, addressesOf}
 
--- the numbers and the label of a box record
+-- the numbers, the label and the limit of a box record
 abbrev pub numbersOf : BoxRecord → Numbers
-numbersOf b = record { B = b .size; P = b .blocks; m = b .rows; d = b .slots; label = b .label }
+numbersOf b = record { B = b .size; P = b .blocks; m = b .rows; d = b .slots; label = b .label; t = b .limit }
 
 -- the blocks and fingerprints of its box
 abbrev pub engine : (b : BoxRecord) → Hashing (Fixed 32) (Fixed (b .size))
@@ -25,11 +25,16 @@ Sized b addrs blocks = (b .held ≤ b .rows) × (length addrs ≡ tableBytes (b 
 
 -- a box record with another number of rows held
 abbrev pub withHeld : BoxRecord → ℕ → BoxRecord
-withHeld b n = record { size = b .size; blocks = b .blocks; rows = b .rows; slots = b .slots; held = n; label = b .label }
+withHeld b n = record { size = b .size; blocks = b .blocks; rows = b .rows; slots = b .slots; held = n; label = b .label; limit = b .limit }
+
+-- a box record with another label
+abbrev pub relabelled : BoxRecord → List ℕ → BoxRecord
+relabelled b l = record { size = b .size; blocks = b .blocks; rows = b .rows; slots = b .slots; held = b .held; label = l; limit = b .limit }
 
 -- the record of a box that holds none
-abbrev pub emptyBox : (size blocks rows slots : ℕ) → (label : List ℕ) → BoxRecord
-emptyBox size blocks rows slots label = record { size = size; blocks = blocks; rows = rows; slots = slots; held = 0; label = label }
+abbrev pub emptyBox : (size blocks rows slots limit : ℕ) → (label : List ℕ) → BoxRecord
+emptyBox size blocks rows slots limit label =
+    record { size = size; blocks = blocks; rows = rows; slots = slots; held = 0; label = label; limit = limit }
 
 pub record Rep (b : BoxRecord) (disk flash addrs blocks : List ℕ) (s : Box (Fixed 32) (Fixed (b .size))) : Type 0 where
   pub rows-are : Addrs (b .blocks) (b .rows) (b .held) addrs (s .rows)

@@ -1,5 +1,7 @@
 // Blocks of dirty rows copied to the disk, and the rows made clean.
 use crate::BoxRecord;
+use crate::limit;
+use crate::rows;
 use checks::known;
 use tables::FlashSlot;
 use tables::find;
@@ -8,7 +10,7 @@ ghost use mathlib.Core.Path.{_≡_};
 ghost use mathlib.Core.Bool.{true};
 ghost use Prim.Native.Nat.{_<_, _≤_};
 ghost use lib.ListN.{length, getD};
-ghost use Rattle.paper.specs.Cache.{Box, slotOf, reach};
+ghost use Rattle.paper.specs.Cache.{Box, slotOf, reach, excess};
 ghost use Rattle.paper.specs.Engine.{Fixed};
 ghost use Rattle.parts.specs.Rep.{Sized, Rep, LentBox, LentWith, noRow, copiedRow, copiedRows, engine};
 ghost use Rattle.parts.specs.Asked.{slotIn};
@@ -134,6 +136,29 @@ pub fn flush_rows(
         i += 1;
     }
     count
+}
+
+// U8: the same of the oldest dirty row, if more rows are dirty than the limit.
+pub fn limit_rows(
+    b: BoxRecord,
+    disk: &mut [u8],
+    flash: &[u8],
+    addrs: &mut [u8],
+    blocks: &[u8],
+) -> usize
+    requires { ⌜ (0 < b .slots) × Sized b (now addrs) (now blocks) ⌝ }
+    requires { ⌜ LentBox b (now disk) (now flash) (now addrs) (now blocks) ⌝ }
+    ensures { λ r. ⌜ r ≤ 1 ⌝ }
+    ensures { λ r. ⌜ ((s : Box (Fixed 32) (Fixed (b .size))) → Rep b (now (disk .entry)) (now (flash .entry)) (now (addrs .entry)) (now (blocks .entry)) s
+        → record { count = r; disk = now (disk .exit); addrs = now (addrs .exit) }
+        ≡ copiedRows b (λ f. true) s (reach (engine b) (excess (engine b) (b .limit) (s .rows)) (s .rows))) ⌝ }
+{
+    let i = limit::excess_row(b, addrs);
+    if b.held <= i {
+        return 0;
+    }
+    let slot = slot_in(blocks, b.slots, rows::place_of_row(b, i, addrs, blocks));
+    copy_row(b, i, disk, flash, addrs, blocks, slot)
 }
 
 // The same of every held row that has the fingerprint `g`, whose block is in `slot`.

@@ -73,12 +73,12 @@ module _ (b : BoxRecord) (disk flash addrs blocks : List ℕ) (k : Counters) (q 
       let x = exactly (numbersOf b) (lent b disk flash addrs blocks k) q .gives-0 .0 e in
       eqb-true (length l) (b .size) (not-false (eqb (length l) (b .size))
       (sym (ap (wrongBlock (b .size)) p) ∙ or-false-right (wrongBuffers (numbersOf b) (lent b disk flash addrs blocks k))
-      (wrongBlock (b .size) (lentBlock q)) (x .1 .0)))
+      (wrongBlock (b .size) (lentBlock q)) (x .1 .1 .0)))
 
   pub address-fits : (a : ℕ) → addressOf q ≡ some a → a < b .blocks
   address-fits a p =
       let x = exactly (numbersOf b) (lent b disk flash addrs blocks k) q .gives-0 .0 e in
-      leb-false (b .blocks) a (sym (ap (outside (b .blocks)) p) ∙ x .1 .1 .0)
+      leb-false (b .blocks) a (sym (ap (outside (b .blocks)) p) ∙ x .1 .1 .1 .0)
 
   -- what a served call finds: tables of the box's lengths, a sound box, a disk of its length, and its counters
   pub sized : Bytes addrs → Bytes blocks → Sized b addrs blocks

@@ -9,7 +9,7 @@ use borrow.Author.Tests.{eqb-true, not-false}
 use Rattle.tables.specs.Unsound.{elem}
 use Rattle.paper.specs.KeyedLaws.{All, by-test, clash, or-false-left}
 use Rattle.paper.specs.Cache.{Counters}
-use Rattle.paper.specs.Lent.{between, unfit, opening, wrongBuffers, refusal}
+use Rattle.paper.specs.Lent.{between, unfit, limitOutside, opening, wrongBuffers, refusal}
 use Rattle.paper.specs.LentLaws.{Lengths, right-lengths}
 use Rattle.paper.specs.RefusalLaws.{exactly-opening}
 use Rattle.paper.specs.CallLaws.{fits}
@@ -49,6 +49,7 @@ most b h =
 -- what memory that an opening is not refused on is known to be
 pub record Opens (b : BoxRecord) (disk flash addresses blocks : List ℕ) (k : Counters) : Type 0 where
   pub fit : unfit (numbersOf b) ≡ false
+  pub limit : limitOutside (numbersOf b) ≡ false
   pub right : wrongBuffers (numbersOf b) (lent b disk flash addresses blocks k) ≡ false
   pub most : Most b
   pub lengths : Lengths (numbersOf b) (lent b disk flash addresses blocks k)
@@ -57,4 +58,10 @@ pub opens-with : (b : BoxRecord) (disk flash addresses blocks : List ℕ) (k : C
     → refusal (numbersOf b) (lent b disk flash addresses blocks k) opening ≡ 0 → Opens b disk flash addresses blocks k
 opens-with b disk flash addresses blocks k e =
     let x = exactly-opening (numbersOf b) (lent b disk flash addresses blocks k) .gives-0 .0 e in
-    record { fit = x .0; right = x .1 .0; most = most b (x .0); lengths = right-lengths (numbersOf b) (lent b disk flash addresses blocks k) (x .1 .0) }
+    record {
+      fit = x .0;
+      limit = x .1 .0;
+      right = x .1 .1 .0;
+      most = most b (x .0);
+      lengths = right-lengths (numbersOf b) (lent b disk flash addresses blocks k) (x .1 .1 .0);
+    }

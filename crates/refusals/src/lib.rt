@@ -4,6 +4,7 @@ pub mod report;
 
 use checks::index;
 use parts::BoxRecord;
+use parts::limit;
 use tables::SourceAddress;
 use tables::row;
 ghost use mathlib.Core.Path.{_≡_};
@@ -12,7 +13,7 @@ ghost use lib.Dec.{leb};
 ghost use lib.ListN.{length};
 ghost use Rattle.tables.specs.Unsound.{elem};
 ghost use Rattle.paper.specs.Cache.{Counters};
-ghost use Rattle.paper.specs.Lent.{Ask, opening, calling, between, unfit, over, refusal};
+ghost use Rattle.paper.specs.Lent.{Ask, opening, calling, between, unfit, limitOutside, over, refusal};
 ghost use Rattle.tables.specs.Index.{headsLength, Blank, Indexed};
 ghost use Rattle.parts.specs.Rep.{numbersOf};
 ghost use Rattle.refusals.specs.Given.{countersOf, lent};
@@ -93,7 +94,14 @@ pub(crate) fn lengths_wrong(
     blocks != b.slots * row::BYTES
 }
 
-// Refusals 1 and 2: what an opening is refused with.
+// Refusal 12: a limit outside its range.
+pub fn limit_unfit(b: BoxRecord) -> bool
+    ensures { λ r. ⌜ r ≡ limitOutside (numbersOf b) ⌝ }
+{
+    !within(b.limit, b.rows)
+}
+
+// Refusals 1, 12 and 2: what an opening is refused with.
 pub fn of_opening(b: BoxRecord, disk: &[u8], flash: &[u8], addresses: &[u8], blocks: &[u8]) -> u32
     ensures { λ r. ⌜ ((k : Counters) → r ≡ refusal (numbersOf b) (lent b (now (disk .entry)) (now (flash .entry)) (now (addresses .entry))
         (now (blocks .entry)) k) opening) ⌝ }
@@ -101,13 +109,16 @@ pub fn of_opening(b: BoxRecord, disk: &[u8], flash: &[u8], addresses: &[u8], blo
     if numbers_unfit(b) {
         return 1;
     }
+    if limit_unfit(b) {
+        return 12;
+    }
     if lengths_wrong(b, disk.len(), flash.len(), addresses.len(), blocks.len()) {
         return 2;
     }
     0
 }
 
-// Refusals 6, 7 and 8, of tables with the box's lengths. Where none applies, `heads`, 0 everywhere at first, is the index of the block rows.
+// Refusals 6, 7, 8 and 13, of tables with the box's lengths. Where none applies, `heads`, 0 everywhere at first, is the index of the block rows.
 pub(crate) fn of_tables(b: BoxRecord, addresses: &[u8], blocks: &[u8], heads: &mut [u16]) -> u32
     requires { ⌜ (b .blocks ≤ 65536) × (b .rows ≤ 1024) × (b .slots ≤ 256) × (length (now addresses) ≡ tableBytes (b .rows))
         × (length (now blocks) ≡ tableBytes (b .slots)) ⌝ }
@@ -116,7 +127,22 @@ pub(crate) fn of_tables(b: BoxRecord, addresses: &[u8], blocks: &[u8], heads: &m
     ensures { λ r. ⌜ (r ≡ 0 → Indexed (b .slots) (now (blocks .entry)) (now (heads .exit))) ⌝ }
     ensures { λ r. ⌜ length (now (heads .exit)) ≡ headsLength ⌝ }
 {
-    checks::sound::tables_refused(addresses, b.rows, b.held, b.blocks, blocks, b.slots, heads)
+    let sound = checks::sound::tables_refused(
+        addresses,
+        b.rows,
+        b.held,
+        b.blocks,
+        blocks,
+        b.slots,
+        heads,
+    );
+    if sound != 0 {
+        return sound;
+    }
+    if limit::excess_row(b, addresses) < b.held {
+        return 13;
+    }
+    0
 }
 
 // Refusal 9: a counter above 2 to the power 63.
@@ -143,7 +169,7 @@ pub(crate) fn address_outside(b: BoxRecord, a: SourceAddress) -> bool
     b.blocks <= n as usize
 }
 
-// Refusals 6, 7, 8 and 9, of tables with the box's lengths. Where none applies, `heads` is the index of the block rows.
+// Refusals 6, 7, 8, 13 and 9, of tables with the box's lengths. Where none applies, `heads` is the index of the block rows.
 pub(crate) fn of_state(
     b: BoxRecord,
     addresses: &[u8],

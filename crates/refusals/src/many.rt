@@ -1,4 +1,4 @@
-// The refusals of a folder read: 1, 2, 10, 3, 6, 7, 8, 9.
+// The refusals of a folder read: 1, 12, 2, 10, 3, 6, 7, 8, 13, 9.
 use crate::of_opening;
 use crate::of_state;
 use checks::index;

@@ -23,11 +23,11 @@ pub fn begin() -> Session
       stage = 0;
       kept = 0;
       number = 0;
-      box_record = emptyBox 0 0 0 0 (replicate 64 0);
+      box_record = emptyBox 0 0 0 0 0 (replicate 64 0);
       counters = (record { reads = 0; hits = 0; flash = 0; primary = 0 });
     } ⌝ }
 {
-    let b = parts::empty_box(0, 0, 0, 0, [0u8; 64]);
+    let b = parts::empty_box(0, 0, 0, 0, 0, [0u8; 64]);
     Session {
         stage: 0,
         kept: 0,

@@ -15,7 +15,7 @@ first =
       stage = 0;
       kept = 0;
       number = 0;
-      box_record = emptyBox 0 0 0 0 (replicate 64 0);
+      box_record = emptyBox 0 0 0 0 0 (replicate 64 0);
       counters = record { reads = 0; hits = 0; flash = 0; primary = 0 };
     }
 

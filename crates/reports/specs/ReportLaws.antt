@@ -30,17 +30,17 @@ module _ (w : Reader) (N : Numbers) (t : Lent) (report : List ℕ) where
   unfolding reportRefusal
   report-finds e =
       let x = reportTests N t w report in
-      let d : Apart x = (refl, (refl, (refl, (refl, (refl, (refl, tt)))))) in
+      let d : Apart x = (refl, (refl, (refl, (refl, (refl, (refl, (refl, (refl, tt)))))))) in
       let y = gives-none x d .0 e in
-      let right = y .1 .0 in
+      let right = y .1 .1 .0 in
       let own = eqb (length report) (N .m * width w) in
       record {
         fits = fits N (y .0);
         passes = record {
           lengths = right-lengths N t (or-false-left (wrongBuffers N t) (not own) right);
-          addresses = y .1 .1 .0;
-          blocks = y .1 .1 .1 .0;
-          dirty = y .1 .1 .1 .1 .0;
+          addresses = y .1 .1 .1 .0;
+          blocks = y .1 .1 .1 .1 .0;
+          dirty = y .1 .1 .1 .1 .1 .0;
         };
         long = eqb-true (length report) (N .m * width w) (not-false own (or-false-right (wrongBuffers N t) (not own) right));
       }

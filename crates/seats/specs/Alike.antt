@@ -2,7 +2,7 @@
 -- those over its policy; then the desk sees the same of two runs.
 -- Assumes nothing.
 use mathlib.Core.Path.{_≡_, refl, sym, ap, ap₂, _∙_, subst₂}
-use mathlib.Core.Bool.{Bool, _&&_, _||_, cond}
+use mathlib.Core.Bool.{Bool, true, _&&_, _||_, cond}
 use mathlib.Core.List.{List, [], _∷_, _++_, map}
 use mathlib.Core.Logic.{_≢_}
 use Prim.Native.Nat.{ℕ, _-_, _*_}
@@ -14,15 +14,16 @@ use Rattle.paper.specs.Cache.{Numbers, Hashing, AddressRow, Box, Outcome, Count
 use Rattle.paper.specs.KeyedLaws.{by-test}
 use Rattle.paper.specs.Engine.{Fixed, labelled}
 use Rattle.paper.specs.Lent.{Ask, refused, answered, callOf, aboutAsk, addressOf, lentBlock, counts, join, blockAfter, partAfter}
-use Rattle.paper.specs.Lent.{Test, test, first, otherLength, wrongBlock, outside, over}
+use Rattle.paper.specs.Lent.{Test, test, first, limitOutside, otherLength, wrongBlock, outside, over}
 use Rattle.paper.specs.Reports.{desk, width, reportRow, reportOf}
 use Rattle.paper.specs.Batch.{Batched, start, blocksIn}
 use Rattle.paper.specs.BatchLent.{Asking, one, many, report, badCount, anyOutside, BatchAnswer, batched}
 use Rattle.arc.specs.Policy.{Policy, Served, serveBy}
 use Rattle.arc.specs.Folder as Folder
 use Rattle.arc.specs.Folder.{FolderBy}
+use Rattle.blind.specs.Blind.{bare, bares, bareBox, bareServed, bareFolder, Blind}
 use Rattle.seats.specs.TwoRuns.{bareAsk, bareAsking, Told, single, folder, number, Runs, Seen, seen, deskSees}
-use Rattle.seats.specs.Blind.{bare, bares, bareBox, bareServed, bareFolder, bareCall, Blind, counted-bare, serve-bare, folder-bare}
+use Rattle.seats.specs.BareCalls.{bareCall, counted-bare, serve-bare, folder-bare}
 
 -- ---- a call and the same call without its seat
 
@@ -47,13 +48,13 @@ asking-twice (many l buffer) = refl
 asking-twice (report w lent) = refl
 
 -- the desk's report has nothing of the seats
-rows-bare : {F : Type 0} (rows : List (AddressRow F)) → map (reportRow desk) (bares rows) ≡ map (reportRow desk) rows
+rows-bare : {F : Type 0} (rows : List (AddressRow F)) → map (reportRow desk) (bares true rows) ≡ map (reportRow desk) rows
 rows-bare [] = refl
 rows-bare (r ∷ rs) = ap {B = List (List ℕ)} (λ l. reportRow desk r ∷ l) (rows-bare rs)
 
-desk-bare : {F : Type 0} (m : ℕ) (rows : List (AddressRow F)) → reportOf desk m (bares rows) ≡ reportOf desk m rows
+desk-bare : {F : Type 0} (m : ℕ) (rows : List (AddressRow F)) → reportOf desk m (bares true rows) ≡ reportOf desk m rows
 unfolding reportOf
-desk-bare m rows = ap₂ (λ l n. flat l ++ zeros ((m - n) * 5)) (rows-bare rows) (length-map rows bare)
+desk-bare m rows = ap₂ (λ l n. flat l ++ zeros ((m - n) * 5)) (rows-bare rows) (length-map rows (bare true))
 
 -- ---- calls over a policy
 
@@ -64,7 +65,7 @@ pub record State (F X S : Type 0) : Type 0 where
   pub counters : Counters
 
 abbrev bareState : {F X S : Type 0} → State F X S → State F X S
-bareState s = record { kept = s .kept; box = bareBox (s .box); counters = s .counters }
+bareState s = record { kept = s .kept; box = bareBox true (s .box); counters = s .counters }
 
 -- what a call tells: refused, and by its outcome
 abbrev pub refusedTold : ℕ → Asking → Told
@@ -79,30 +80,32 @@ module _ {F : Type 0} {B : ℕ} where
   abbrev pub batchTold : Batched F (Fixed B) → Told
   batchTold r = folder (batched (r .hits) (r .flashWrites) (r .primaryWrites) (r .fetches)) (join (blocksIn (r .filled)))
 
--- what the tests of lent memory say: those for 6, 7 and 8, and for 2 of all that passes from call to call
+-- what the tests of lent memory say: those for 6, 7, 8 and 13, and for 2 of all that passes from call to call
 pub record Tests : Type 0 where
   pub buffers : Bool
   pub six : Bool
   pub seven : Bool
   pub eight : Bool
+  pub thirteen : Bool
 
 abbrev tableTests : Tests → List Test → List Test
-tableTests b rest = test (b .six) 6 ∷ test (b .seven) 7 ∷ test (b .eight) 8 ∷ rest
+tableTests b rest = test (b .six) 6 ∷ test (b .seven) 7 ∷ test (b .eight) 8 ∷ test (b .thirteen) 13 ∷ rest
 
--- the number that a call gets, 0 where it is served: by the test for 1 or 11, by these and by the counters
+-- the number that a call gets, 0 where it is served: by the test for 1 or 11, by the limit, by these and by the counters
 abbrev pub numberBy : Numbers → Test → Tests → Counters → Asking → ℕ
 numberBy N x b k (one q) =
-    first (x ∷ test (b .buffers || wrongBlock (N .B) (lentBlock q)) 2 ∷ test (outside (N .P) (addressOf q)) 3 ∷ tableTests b (test (counts q && over k) 9 ∷ []))
+    first (x ∷ test (limitOutside N) 12 ∷ test (b .buffers || wrongBlock (N .B) (lentBlock q)) 2 ∷ test (outside (N .P) (addressOf q)) 3
+    ∷ tableTests b (test (counts q && over k) 9 ∷ []))
 numberBy N x b k (many l buffer) =
-    first (x ∷ test (b .buffers || otherLength buffer (length l * N .B)) 2 ∷ test (badCount l) 10 ∷ test (anyOutside (N .P) l) 3
+    first (x ∷ test (limitOutside N) 12 ∷ test (b .buffers || otherLength buffer (length l * N .B)) 2 ∷ test (badCount l) 10 ∷ test (anyOutside (N .P) l) 3
     ∷ tableTests b (test (over k) 9 ∷ []))
-numberBy N x b k (report w lent) = first (x ∷ test (b .buffers || otherLength lent (N .m * width w)) 2 ∷ tableTests b [])
+numberBy N x b k (report w lent) = first (x ∷ test (limitOutside N) 12 ∷ test (b .buffers || otherLength lent (N .m * width w)) 2 ∷ tableTests b [])
 
 number-bare : (N : Numbers) (x : Test) (b : Tests) (k : Counters) (q : Asking) → numberBy N x b k (bareAsking q) ≡ numberBy N x b k q
 number-bare N x b k (one q) =
     let l = ask-bare q .lent in
     let a = ask-bare q .about in
-    λ i. first (x ∷ test (b .buffers || wrongBlock (N .B) (l i)) 2 ∷ test (outside (N .P) (a i .address)) 3
+    λ i. first (x ∷ test (limitOutside N) 12 ∷ test (b .buffers || wrongBlock (N .B) (l i)) 2 ∷ test (outside (N .P) (a i .address)) 3
     ∷ tableTests b (test (a i .counts && over k) 9 ∷ []))
 number-bare N x b k (many l buffer) = refl
 number-bare N x b k (report w lent) = refl
@@ -157,12 +160,12 @@ module _ {S : Type 0} (N : Numbers) (pol : Policy (Fixed 32) (Fixed (N .B)) S) w
     pub reports : (t : M) (lent : List ℕ)
         → runs .deskReport t lent ≡ cond (eqb (number t (report desk lent)) 0) (reportOf desk (N .m) ((state t) .box .rows)) lent
 
-  module _ (bl : Blind pol) where
-    served-bare : (s : Held) (q : Ask) → servedBy (bareState s) (bareAsk q) ≡ bareServed (servedBy s q)
+  module _ (bl : Blind true pol) where
+    served-bare : (s : Held) (q : Ask) → servedBy (bareState s) (bareAsk q) ≡ bareServed true (servedBy s q)
     served-bare s q =
-        ap (serveBy H pol (s .kept) (bareBox (s .box))) (ask-bare q .call (N .B)) ∙ serve-bare H pol bl (s .kept) (s .box) (callOf (N .B) q)
+        ap (serveBy H pol (s .kept) (bareBox true (s .box))) (ask-bare q .call (N .B)) ∙ serve-bare H pol bl (s .kept) (s .box) (callOf (N .B) q)
 
-    files-bare : (s : Held) (l : List ℕ) → folderBy (bareState s) l ≡ bareFolder (folderBy s l)
+    files-bare : (s : Held) (l : List ℕ) → folderBy (bareState s) l ≡ bareFolder true (folderBy s l)
     files-bare s l = folder-bare H pol bl (record { kept = s .kept; batched = start (s .box) (s .counters) }) l
 
     outcome-bare : (q : Ask) (o : Outcome (Fixed 32) (Fixed (N .B))) → outcomeTold (bareAsk q) o ≡ outcomeTold q o
@@ -179,7 +182,7 @@ module _ {S : Type 0} (N : Numbers) (pol : Policy (Fixed 32) (Fixed (N .B)) S) w
         let c = ask-bare q .call (N .B) in
         let k = counted-bare H (s .counters) (callOf (N .B) q) ((servedBy s q) .outcome) in
         (λ i. record { kept = o i .kept; box = o i .outcome .box; counters = counted (s .counters) (c i) (o i .outcome) })
-        ∙ (λ i. record { kept = (servedBy s q) .kept; box = bareBox ((servedBy s q) .outcome .box); counters = k i })
+        ∙ (λ i. record { kept = (servedBy s q) .kept; box = bareBox true ((servedBy s q) .outcome .box); counters = k i })
     state-bare s (many l buffer) =
         let r = files-bare s l in
         λ i. record { kept = r i .kept; box = r i .batched .box; counters = r i .batched .counters }

@@ -1,23 +1,23 @@
 -- The theorem of two runs for boxes that run D-ARC.
 use mathlib.Core.Path.{_≡_, refl, sym, ap, ap₂, _∙_}
-use mathlib.Core.Bool.{_||_}
+use mathlib.Core.Bool.{true, _||_}
 use mathlib.Core.List.{List, map}
 use mathlib.Core.Logic.{_≢_}
 use Prim.Native.Nat.{ℕ}
 use Rattle.tables.specs.Unsound.{addressesUnsound, blocksUnsound, dirtyUncached}
 use Rattle.paper.specs.Cache.{Numbers, Hashing}
 use Rattle.paper.specs.Engine.{Fixed, labelled}
-use Rattle.paper.specs.Lent.{test}
+use Rattle.paper.specs.Lent.{test, overLimit}
 use Rattle.paper.specs.BatchLent.{Asking, one, many, report}
 use Rattle.arc.specs.Arc.{Sizes, baseNumbers, mOf, Lists, arc}
 use Rattle.arc.specs.ArcLent.{ArcLent, unfitArc, listsUnsound, topUncached, topsIn, wrongArcBuffers, arcRefusal, arcServed}
 use Rattle.arc.specs.ArcFolder.{arcFolderRefusal, arcServedFolder}
 use Rattle.arc.specs.ArcReports.{arcReportRefusal, arcReported}
 use Rattle.arc.specs.ArcDemand.{listsOf, boxOf, arcNumber, arcNext}
-use Rattle.arc.specs.ArcDemandLaws.{ArcPasses, served-is, arc-keeps, served-box, served-lists, served-counters, served-passes}
+use Rattle.arc.specs.ArcDemandLaws.{ArcPasses, no-13, served-is, arc-keeps, served-box, served-lists, served-counters, served-passes}
 use Rattle.arc.specs.ArcDemandLaws.{folder-served, arc-folder-keeps, folder-box, folder-lists, folder-counters, folder-passes}
 use Rattle.seats.specs.TwoRuns.{bareAsk, bareAsking, single, folder, number, arcTells, arcRuns, deskSees}
-use Rattle.seats.specs.ArcBlind.{arc-blind}
+use Rattle.blind.specs.ArcBlind.{arc-blind}
 use Rattle.seats.specs.Alike.{State, Tests, numberBy, refusedTold, servedTold, servedState, Serves, runs-alike}
 use Rattle.seats.specs.TwoRunsLaws.{same-buffers}
 
@@ -39,6 +39,7 @@ module _ (Z : Sizes) where
         six = addressesUnsound (Z .P) (mOf Z) (b .n) (b .addresses) || listsUnsound Z ((boxOf Z t) .rows) (t .sizes) (t .lists);
         seven = blocksUnsound (Z .C) (b .blocks);
         eight = dirtyUncached (b .n) (Z .C) (b .addresses) (b .blocks) || topUncached H (boxOf Z t) (topsIn (t .sizes) (t .lists));
+        thirteen = overLimit M b;
       }
 
   numbered : (t : ArcLent) (q : Asking) → arcNumber Z t q ≡ numberBy M (test (unfitArc Z) 11) (tests t) (t .base .counters) q
@@ -53,7 +54,8 @@ module _ (Z : Sizes) where
       let x = ap₂ _||_ (p .base .addresses ∙ sym (p′ .base .addresses)) (p .six ∙ sym (p′ .six)) in
       let y = p .base .blocks ∙ sym (p′ .base .blocks) in
       let z = ap₂ _||_ (p .base .dirty ∙ sym (p′ .base .dirty)) (p .eight ∙ sym (p′ .eight)) in
-      λ i. record { buffers = b i; six = x i; seven = y i; eight = z i }
+      let v = no-13 Z t p ∙ sym (no-13 Z u p′) in
+      λ i. record { buffers = b i; six = x i; seven = y i; eight = z i; thirteen = v i }
 
   passes : (t u : ArcLent) (q : Asking) → tests t ≡ tests u → arcNumber Z t q ≡ 0 → arcNumber Z u (bareAsking q) ≡ 0
       → tests (arcNext Z t q) ≡ tests (arcNext Z u (bareAsking q))
@@ -112,4 +114,4 @@ module _ (Z : Sizes) where
 pub arc-two-runs : (Z : Sizes) (lent : List ℕ) (t : ArcLent) (qs rs : List Asking) → map bareAsking qs ≡ map bareAsking rs
     → deskSees (arcRuns Z) lent t qs ≡ deskSees (arcRuns Z) lent t rs
 arc-two-runs Z lent t qs rs e =
-    runs-alike (baseNumbers Z) (arc (labelled (baseNumbers Z)) Z) (arc-blind (labelled (baseNumbers Z)) Z) (arcRuns Z) (arc-runs Z) lent t qs rs e
+    runs-alike (baseNumbers Z) (arc (labelled (baseNumbers Z)) Z) (arc-blind true (labelled (baseNumbers Z)) Z) (arcRuns Z) (arc-runs Z) lent t qs rs e

@@ -1,25 +1,27 @@
 -- The theorem of two runs for boxes that run D-LRU: what the desk sees is the same, whatever seats the calls carry.
-use mathlib.Core.Path.{_≡_, refl, sym, ap, _∙_}
+use mathlib.Core.Path.{_≡_, refl, sym, ap, _∙_, subst}
+use mathlib.Core.Bool.{true, false}
 use mathlib.Core.List.{List, map}
 use mathlib.Core.Logic.{_≢_}
 use Prim.Native.Nat.{ℕ}
+use borrow.Author.Tests.{le-ltb}
 use Rattle.tables.specs.Unsound.{addressesUnsound, blocksUnsound, dirtyUncached}
-use Rattle.paper.specs.Cache.{Numbers, Hashing, counted}
+use Rattle.paper.specs.Cache.{Numbers, Hashing, dirtyRows, counted}
 use Rattle.paper.specs.Engine.{Fixed, labelled}
-use Rattle.paper.specs.Lent.{Lent, callOf, test, unfit, wrongBuffers, refusal, served, boxIn, lentOf}
+use Rattle.paper.specs.Lent.{Lent, Ask, calling, callOf, test, unfit, wrongBuffers, overLimit, FewDirty, refusal, served, boxIn, lentOf}
 use Rattle.paper.specs.LentLaws.{Passes}
 use Rattle.paper.specs.RefusalLaws.{served-is, keeps}
-use Rattle.paper.specs.CallLaws.{served-lent, served-box, served-passes}
+use Rattle.paper.specs.CallLaws.{outcome-few, served-lent, served-box, served-passes}
 use Rattle.paper.specs.Reports.{reportRefusal, reported}
 use Rattle.paper.specs.Batch.{start}
 use Rattle.paper.specs.BatchLent.{Asking, one, many, report, batchRefusal, servedBatch}
-use Rattle.paper.specs.BatchLentLaws.{batch-served, batch-keeps, batch-lent, batch-box, batch-passes}
+use Rattle.paper.specs.BatchLentLaws.{batch-served, batch-keeps, batch-lent, batch-box, batch-few-dirty, batch-passes}
 use Rattle.paper.specs.Demand3.{numberOf, next}
 use Rattle.arc.specs.Policy.{lru}
 use Rattle.arc.specs.LruServes.{lru-serves}
 use Rattle.arc.specs.FolderLaws.{lru-folder}
 use Rattle.seats.specs.TwoRuns.{bareAsk, bareAsking, single, folder, number, lruTells, lruRuns, deskSees}
-use Rattle.seats.specs.Blind.{lru-blind}
+use Rattle.blind.specs.Blind.{lru-blind}
 use Rattle.seats.specs.Alike.{State, Tests, numberBy, refusedTold, outcomeTold, batchTold, servedTold, servedState, Serves, runs-alike}
 
 -- lent memory that passes has the same lengths
@@ -44,6 +46,7 @@ module _ (N : Numbers) where
         six = addressesUnsound (N .P) (N .m) (t .n) (t .addresses);
         seven = blocksUnsound (N .d) (t .blocks);
         eight = dirtyUncached (t .n) (N .d) (t .addresses) (t .blocks);
+        thirteen = overLimit N t;
       }
 
   numbered : (t : Lent) (q : Asking) → numberOf N t q ≡ numberBy N (test (unfit N) 1) (tests t) (t .counters) q
@@ -52,18 +55,32 @@ module _ (N : Numbers) where
   numbered t (many l buffer) = refl
   numbered t (report w lent) = refl
 
-  same-tests : (t u : Lent) → Passes N t → Passes N u → tests t ≡ tests u
-  same-tests t u p p′ =
+  -- after a served call not more rows are dirty than the limit
+  few-dirty : (t : Lent) → FewDirty N (boxIn N t) → overLimit N t ≡ false
+  few-dirty t f = le-ltb (N .t) (dirtyRows H ((boxIn N t) .rows)) f
+
+  one-few : (t : Lent) (q : Ask) → refusal N t (calling q) ≡ 0 → overLimit N (next N t (one q)) ≡ false
+  one-few t q e = few-dirty (next N t (one q)) (subst (FewDirty N) (sym (served-box N t q e)) (outcome-few N t q e))
+
+  many-few : (t : Lent) (l b : List ℕ) → batchRefusal N t l b ≡ 0 → overLimit N (next N t (many l b)) ≡ false
+  many-few t l b e = few-dirty (next N t (many l b)) (subst (FewDirty N) (sym (batch-box N t l b e)) (batch-few-dirty N t l b e))
+
+  same-tests : (t u : Lent) → Passes N t → Passes N u → overLimit N t ≡ false → overLimit N u ≡ false → tests t ≡ tests u
+  same-tests t u p p′ f f′ =
       let b = same-buffers N t u p p′ in
       let x = p .addresses ∙ sym (p′ .addresses) in
       let y = p .blocks ∙ sym (p′ .blocks) in
       let z = p .dirty ∙ sym (p′ .dirty) in
-      λ i. record { buffers = b i; six = x i; seven = y i; eight = z i }
+      let v = f ∙ sym f′ in
+      λ i. record { buffers = b i; six = x i; seven = y i; eight = z i; thirteen = v i }
 
   passes : (t u : Lent) (q : Asking) → tests t ≡ tests u → numberOf N t q ≡ 0 → numberOf N u (bareAsking q) ≡ 0
       → tests (next N t q) ≡ tests (next N u (bareAsking q))
-  passes t u (one q) k e f = same-tests (next N t (one q)) (next N u (one (bareAsk q))) (served-passes N t q e) (served-passes N u (bareAsk q) f)
-  passes t u (many l b) k e f = same-tests (next N t (many l b)) (next N u (many l b)) (batch-passes N t l b e) (batch-passes N u l b f)
+  passes t u (one q) k e f =
+      same-tests (next N t (one q)) (next N u (one (bareAsk q))) (served-passes N t q e) (served-passes N u (bareAsk q) f) (one-few t q e)
+      (one-few u (bareAsk q) f)
+  passes t u (many l b) k e f =
+      same-tests (next N t (many l b)) (next N u (many l b)) (batch-passes N t l b e) (batch-passes N u l b f) (many-few t l b e) (many-few u l b f)
   passes t u (report w lent) k e f = k
 
   tells : (t : Lent) (q : Asking) → numberOf N t q ≡ 0 → lruTells N t q ≡ servedTold N (lru H N) (state t) q
@@ -120,4 +137,4 @@ module _ (N : Numbers) where
 -- From any lent memory, whatever is refused
 pub two-runs : (N : Numbers) (lent : List ℕ) (t : Lent) (qs rs : List Asking) → map bareAsking qs ≡ map bareAsking rs
     → deskSees (lruRuns N) lent t qs ≡ deskSees (lruRuns N) lent t rs
-two-runs N lent t qs rs e = runs-alike N (lru (labelled N) N) (lru-blind (labelled N) N) (lruRuns N) (lru-runs N) lent t qs rs e
+two-runs N lent t qs rs e = runs-alike N (lru (labelled N) N) (lru-blind true (labelled N) N) (lruRuns N) (lru-runs N) lent t qs rs e

@@ -69,6 +69,6 @@ unfolding Ch Maj Σ0 Σ1 σ0 σ1 K H0 M Sha256.next W T1 T2 round rounds sum8 co
     Records.heldRows Records.blockTable Records.blockRows Find.any Find.all Find.same Unsound.elem Unsound.twice Unsound.count
     Unsound.addressesUnsound Unsound.freeAfterUsed Unsound.eachOnce Unsound.usedTwice Unsound.blocksUnsound Unsound.dirtyUncached Cache.oldestOut
     Cache.step1 Cache.freed Cache.step3 Cache.oldestUnknown Cache.victim Cache.takenUsed Cache.taken Cache.stored Cache.step4 Cache.step
-    Cache.ifCached Cache.answer Cache.readAs Cache.lookAs Cache.writeThrough Cache.writeBack Cache.serve Cache.counted Batch.batchRead Batch.batch
+    Cache.ifCached Cache.answer Cache.readAs Cache.lookAs Cache.writeThrough Cache.writeBack Cache.flushed Cache.serve Cache.counted Batch.batchRead Batch.batch
     BatchLent.batchRefusal BatchLent.servedBatch BatchLent.callBatch Reports.reportOf Reports.reportRefusal reported deskSees
 runs-by-example = (refl, refl, refl, two-runs small (replicate 10 0) sound (calls 263) (calls 2055) refl)

@@ -1,31 +1,34 @@
 -- The calls, from their steps. Assumes nothing.
-use mathlib.Core.Path.{_≡_, refl, sym, ap, _∙_}
+use mathlib.Core.Path.{_≡_, refl, sym, ap, ap₂, _∙_}
 use mathlib.Core.Bool.{Bool, true, false, not, cond}
 use mathlib.Core.List.{List, []}
 use mathlib.Core.Option.{Option, none, some}
 use Prim.Native.Nat.{ℕ, _≤_, _<_, _+_, _*_}
+use native.Mathlib.Nat.{zero-add}
 use native.Mathlib.Omega.{arith}
 use lib.Dec.{eqb, ltb}
-use lib.ListN.{length, getD, length-set}
+use lib.ListN.{length, getD, take, length-set}
 use borrow.Author.Tests.{ltb-true, ltb-false}
 use Rattle.block.specs.Blocks.{splice}
 use Rattle.parts.specs.declared.BoxRecord.{BoxRecord}
 use Rattle.paper.specs.KeyedLaws.{by-test}
 use Rattle.paper.specs.Cache.{Numbers, AddressRow, BlockRow, Box, Call, Word, sameBlock, newBlock, Stepped, answer, cached, serve, writeBack, writeThrough}
-use Rattle.paper.specs.Cache.{writeInvalidate, flushed, reach, partly, dirtied, onDisk, withoutAddress, dropped, step, hit, miss, readAs, rowWithBlock}
+use Rattle.paper.specs.Cache.{writeInvalidate, flushed, limited, excess, dirtyRows, reach, partly, dirtied, onDisk, withoutAddress, dropped, step, hit, miss}
+use Rattle.paper.specs.Cache.{readAs, rowWithBlock}
 use Rattle.paper.specs.Cache.{Seat, seatIn, rowOf, ifCached, blockOf}
 use Rattle.paper.specs.Partly.{length-partly}
 use Rattle.paper.specs.Engine.{Fixed, labelled, comparing}
-use Rattle.paper.specs.Lent.{bit}
+use Rattle.paper.specs.Lent.{bit, join}
 use Rattle.paper.specs.Index.{indexWhere, has-yes, has-no, find-yes, find-no}
-use Rattle.parts.specs.Rep.{numbersOf, noRow, Rep, Copied, copiedRows, partBox, engine}
-use Rattle.paper.specs.Layout.{Addrs, Blocks, addressesOf}
+use Rattle.parts.specs.Rep.{numbersOf, withHeld, noRow, Rep, Copied, copiedRows, partBox, engine}
+use Rattle.paper.specs.Layout.{Addrs, Blocks, addressesOf, blocksOf}
+use Rattle.paper.specs.LentLaws.{block-count, free-below, used-below}
 use Rattle.tables.specs.Rows.{rowAt}
 use Rattle.tables.specs.Records.{readAddress}
 use Rattle.tables.specs.Find.{isDirty, hasFingerprint}
 use Rattle.parts.specs.MoveLaws.{row-is, dirty-is, seat-is}
 use Rattle.parts.specs.TableLaws.{has-fp}
-use Rattle.step.specs.Steps.{out4, StepLeft, after, asks, blockBytes}
+use Rattle.step.specs.Steps.{Sure, out4, StepLeft, after, asks, blockBytes}
 use Rattle.serve.specs.Calls.{isYes, returnedOr, Leaves, leaves, HitAt}
 use Rattle.parts.specs.CopyLaws.{put-block-is}
 
@@ -68,6 +71,69 @@ answer-is b lent w o more t y0 held flashed p q disk flash addrs blocks block e 
       block = eb j;
     }
 
+-- the bytes of a sound box
+pub sound-rep : (b : BoxRecord) (n : ℕ) (disk flash addrs blocks : List ℕ) (s : Box (Fixed 32) (Fixed (b .size))) → Sure b s → b .blocks ≤ 65536
+    → b .slots ≤ 256 → length (s .rows) ≡ n
+    → disk ≡ join (s .disk) → flash ≡ join (s .flash) → addrs ≡ addressesOf (b .rows) (s .rows) → blocks ≡ blocksOf (s .free) (s .used)
+    → Rep (withHeld b n) disk flash addrs blocks s
+sound-rep b n disk flash addrs blocks s h P1 d1 c ed ef ea eb =
+    let N = numbersOf b in
+    record {
+      rows-are = record { count = c; few = rw (← c) (h .few); below = h .below; small = P1; is = ea };
+      blocks-are = record { count = block-count N s h; free-below = free-below N s h; used-below = used-below N s h; small = d1; is = eb };
+      flash-is = record { count = h .flashLength; is = ef };
+      disk-is = record { count = h .diskLength; is = ed };
+    }
+
+-- the bytes that a step leaves of a sound box
+pub step-rep : (b : BoxRecord) (t : Stepped (Fixed 32) (Fixed (b .size))) (held flashed primary : ℕ) (disk flash addrs blocks : List ℕ)
+    → Sure b (t .box) → b .blocks ≤ 65536 → b .slots ≤ 256
+    → _≡_ {A = StepLeft} (record {
+      held = held;
+      left = (record { flashed = flashed; primary = primary; disk = disk; flash = flash; addrs = addrs; blocks = blocks });
+    }) (after b t)
+    → Rep (withHeld b held) disk flash addrs blocks (t .box)
+unfolding after out4
+step-rep b t held flashed primary disk flash addrs blocks h P1 d1 e =
+    sound-rep b held disk flash addrs blocks (t .box) h P1 d1 (sym (ap (λ (y : StepLeft). y .held) e)) (ap (λ (y : StepLeft). y .left .disk) e)
+    (ap (λ (y : StepLeft). y .left .flash) e) (ap (λ (y : StepLeft). y .left .addrs) e) (ap (λ (y : StepLeft). y .left .blocks) e)
+
+-- a step, and the oldest dirty row copied where more are dirty than the limit
+pub limited-is : (b : BoxRecord) (lent : List ℕ) (w : Word) (t : Stepped (Fixed 32) (Fixed (b .size))) (yes : Bool) (held flashed p more : ℕ)
+    (disk flash addrs blocks disk′ addrs′ : List ℕ)
+    → _≡_ {A = StepLeft} (record {
+      held = held;
+      left = (record { flashed = flashed; primary = p; disk = disk; flash = flash; addrs = addrs; blocks = blocks });
+    }) (after b t)
+    → _≡_ {A = Copied} (record { count = more; disk = disk′; addrs = addrs′ })
+    (copiedRows (withHeld b held) (λ f. true) (t .box) (reach (engine b) (excess (engine b) (b .limit) (t .box .rows)) (t .box .rows)))
+    → yes ≡ isYes w
+    → _≡_ {A = Leaves} (record {
+      yes = yes;
+      held = held;
+      left = (record { flashed = flashed; primary = p + more; disk = disk′; flash = flash; addrs = addrs′; blocks = blocks });
+      block = lent;
+    }) (leaves b lent (limited (engine b) (b .limit) (answer (engine b) w none 0 t)))
+unfolding leaves answer after out4 flushed copiedRows partBox
+limited-is b lent w t y0 held flashed p more disk flash addrs blocks disk′ addrs′ e c ey =
+    let rows = t .box .rows in
+    let i = reach (engine b) (excess (engine b) (b .limit) rows) rows in
+    let writes : p + more ≡ (0 + t .primaryWrites) + dirtyRows (engine b) (take i rows)
+    = ap₂ _+_ (ap (λ (y : StepLeft). y .left .primary) e ∙ sym (zero-add (t .primaryWrites))) (ap (λ (y : Copied). y .count) c) in
+    λ j. record {
+      yes = ey j;
+      held = (ap (λ (y : StepLeft). y .held) e ∙ sym (length-partly (engine b) i rows)) j;
+      left = (record {
+        flashed = ap (λ (y : StepLeft). y .left .flashed) e j;
+        primary = writes j;
+        disk = c j .disk;
+        flash = ap (λ (y : StepLeft). y .left .flash) e j;
+        addrs = c j .addrs;
+        blocks = ap (λ (y : StepLeft). y .left .blocks) e j;
+      });
+      block = lent;
+    }
+
 module _ (P m n : ℕ) (t : List ℕ) (l : List (AddressRow (Fixed 32))) (h : Addrs P m n t l) (a i : ℕ)
     (ei : i ≡ indexWhere (λ x. eqb a (x .address)) l) where
   no-row : n ≤ i → rowOf a l ≡ none
@@ -100,8 +166,8 @@ module _ (N : Numbers) (P m n : ℕ) (t : List ℕ) (l : List (AddressRow (Fixed
       rw (row-here P m n t l h a i ei k, sym (dirty-is P m n t l h i k noRow) ∙ d, z) refl
 
 pub back-is : (b : BoxRecord) (lent : List ℕ) (s : Box (Fixed 32) (Fixed (b .size))) (a : ℕ) (x : Fixed (b .size)) (z : Seat)
-    → leaves b lent (answer (engine b) (cond (cached (engine b) (engine b .hash x) (s .used)) sameBlock newBlock) none 0
-    (step (engine b) (b .rows) s (asks a (engine b .hash x) x (dirtied (engine b) (engine b .hash x) (rowOf a (s .rows))) z)))
+    → leaves b lent (limited (engine b) (b .limit) (answer (engine b) (cond (cached (engine b) (engine b .hash x) (s .used)) sameBlock newBlock) none 0
+    (step (engine b) (b .rows) s (asks a (engine b .hash x) x (dirtied (engine b) (engine b .hash x) (rowOf a (s .rows))) z))))
     ≡ leaves b lent (serve (engine b) (numbersOf b) s (Call.back a x z))
 unfolding serve writeBack
 back-is b lent s a x z = refl

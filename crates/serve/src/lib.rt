@@ -81,7 +81,7 @@ fn seat_of(b: BoxRecord, a: SourceAddress, addrs: &[u8]) -> u16
     0
 }
 
-// Write back.
+// Write back: the step, and then the oldest dirty row goes to the disk if more are dirty than the limit.
 fn serve_back(
     b: BoxRecord,
     a: SourceAddress,
@@ -104,11 +104,13 @@ fn serve_back(
     let j = rows::place_of(blocks, b.slots, &g);
     let w = dirty_value(b, a, addrs, &g);
     let d = steps::step(b, a, w, seat, disk, flash, addrs, blocks, &g, block, heads);
+    let c = parts::with_held(b, d.held);
+    let more = copy::limit_rows(c, disk, flash, addrs, blocks);
     Served {
         yes: j < b.slots,
         held: d.held,
         flashed: d.flashed,
-        primary: d.primary,
+        primary: d.primary + more,
     }
 }
 
@@ -156,8 +158,8 @@ fn serve_through(
     requires { ⌜ LentSound b (now disk) (now flash) (now addrs) (now blocks) ⌝ }
     requires { ⌜ Indexed (b .slots) (now blocks) (now heads) ⌝ }
     ensures { λ r. ⌜ (r .flashed ≤ 1) × (r .primary ≤ 2 + b .rows) ⌝ }
-    ensures { λ r. ⌜ Wrote Through b (a .0) (bytes2 seat) (now (disk .entry)) (now (flash .entry)) (now (addrs .entry)) (now (blocks .entry)) (now (block .entry))
-        (left r (now (disk .exit)) (now (flash .exit)) (now (addrs .exit)) (now (blocks .exit)) (now (block .entry))) ⌝ }
+    ensures { λ r. ⌜ Wrote Through b (a .0) (bytes2 seat) (now (disk .entry)) (now (flash .entry)) (now (addrs .entry)) (now (blocks .entry))
+        (now (block .entry)) (left r (now (disk .exit)) (now (flash .exit)) (now (addrs .exit)) (now (blocks .exit)) (now (block .entry))) ⌝ }
 {
     let g = fingerprint_of(b, block);
     let j = rows::place_of(blocks, b.slots, &g);
@@ -183,8 +185,8 @@ fn serve_invalidate(
     requires { ⌜ (length (now disk) ≡ b .blocks * b .size) × Access b (a .0) (now block) (now addrs) (now blocks) ⌝ }
     requires { ⌜ ((flash : List ℕ) × LentSound b (now disk) flash (now addrs) (now blocks)) ⌝ }
     ensures { λ r. ⌜ (r .flashed ≤ 1) × (r .primary ≤ 2 + b .rows) ⌝ }
-    ensures { λ r. ⌜ ((flash : List ℕ) (z : Seat) → Wrote Invalidate b (a .0) z (now (disk .entry)) flash (now (addrs .entry)) (now (blocks .entry)) (now (block .entry))
-        (left r (now (disk .exit)) flash (now (addrs .exit)) (now (blocks .exit)) (now (block .entry)))) ⌝ }
+    ensures { λ r. ⌜ ((flash : List ℕ) (z : Seat) → Wrote Invalidate b (a .0) z (now (disk .entry)) flash (now (addrs .entry)) (now (blocks .entry))
+        (now (block .entry)) (left r (now (disk .exit)) flash (now (addrs .exit)) (now (blocks .exit)) (now (block .entry)))) ⌝ }
 {
     let g = fingerprint_of(b, block);
     let j = rows::place_of(blocks, b.slots, &g);

@@ -22,7 +22,7 @@ use Rattle.parts.specs.Rep.{numbersOf}
 use Rattle.refusals.specs.Given.{countersOf, lent}
 use Rattle.fields.specs.Fields.{lowBytes, get8, put8, stateBytes, recordIn, countersIn, putState, putLabel, fitting}
 use Rattle.fields.specs.FieldLaws.{get8-below, length-put8, get8-put8, get8-before, get8-after, length-putState, record-back, counters-back}
-use Rattle.fields.specs.FieldLaws.{length-putLabel, label-back, get8-label}
+use Rattle.fields.specs.FieldLaws.{length-putLabel, label-back, get8-label, limit-past}
 use Rattle.service.specs.Left.{lentIn, toldIn, leaves, toldManyIn, leavesMany, freshRecord, openedIn, leavesOpen}
 
 -- the state has its length, the numbers and the label are as they were, and n, the buffers and the counters are the paper's
@@ -160,6 +160,7 @@ relabelled s disk flash addresses blocks N t label l c =
       m = at 16 (omega arith) i;
       d = at 24 (omega arith) i;
       label = label-back label s h l i;
+      t = limit-past label s h l i;
     } in
     let same : lentIn (putLabel label s) disk flash addresses blocks ≡ lentIn s disk flash addresses blocks
     = λ i. record {
@@ -181,7 +182,7 @@ relabelled s disk flash addresses blocks N t label l c =
 label-long : (N : Numbers) (t : Lent) → refusal N t opening ≡ 0 → length (N .label) ≡ 64
 unfolding wrongBuffers
 label-long N t e =
-    let w = exactly-opening N t .gives-0 .0 e .1 .0 in
+    let w = exactly-opening N t .gives-0 .0 e .1 .1 .0 in
     let rest = otherLength (t .disk) (N .P * N .B) || otherLength (t .flash) (N .d * N .B) || otherLength (t .addresses) (tableBytes (N .m))
     || otherLength (t .blocks) (tableBytes (N .d)) in
     eqb-true (length (N .label)) 64 (not-false (eqb (length (N .label)) 64) (or-false-right rest (otherLength (N .label) 64) w))
@@ -206,6 +207,7 @@ module _ (label s disk flash addresses blocks : List ℕ) (h : length s ≡ stat
           m = before 16 (omega arith) i;
           d = before 24 (omega arith) i;
           label = part-past 32 8 (lowBytes 8 0) s refl room 72 64 (omega arith) i;
+          t = after 136 (omega arith) i;
         };
         lent = λ i. record {
           n = get8-put8 32 0 s room (omega arith) i;

@@ -116,7 +116,7 @@ pub record LeftOpen : Type 0 where
 
 -- the box record that an opening is given, the label beside the state: n and the state's own label are not read
 abbrev pub freshRecord : (label state : List ℕ) → BoxRecord
-freshRecord label s = emptyBox (get8 s 0) (get8 s 8) (get8 s 16) (get8 s 24) label
+freshRecord label s = emptyBox (get8 s 0) (get8 s 8) (get8 s 16) (get8 s 24) (get8 s 136) label
 
 unfoldable pub openedIn : List ℕ → Opened → LeftOpen
 openedIn s x =

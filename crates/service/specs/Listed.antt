@@ -22,7 +22,8 @@ use Rattle.parts.specs.Rep.{numbersOf}
 use Rattle.refusals.specs.Given.{countersOf, lent}
 use Rattle.fields.specs.Fields.{recordIn, countersIn, fitting, stateBytes}
 use Rattle.fields.specs.Noted.{LeftLook}
-use Rattle.service.specs.Left.{lentIn, toldIn, Left, leaves, LeftMany, toldManyIn, leavesMany, freshRecord, openedIn, leavesOpen, leavesLook, leavesReport}
+use Rattle.service.specs.Left.{lentIn, toldIn, Left, leaves, LeftMany, toldManyIn, leavesMany, freshRecord, openedIn, leavesOpen, leavesLook}
+use Rattle.service.specs.Left.{leavesReport}
 use Rattle.service.specs.Left.{Shows}
 use Rattle.service.specs.Carried.{Carries, carried-64, carried-many, carried-open}
 

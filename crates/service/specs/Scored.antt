@@ -11,7 +11,7 @@ use lib.ListN.{length, getD}
 use borrow.Author.Tests.{eqb-true, eqb-false, ne-eqb}
 use Rattle.paper.specs.KeyedLaws.{by-test, or-right}
 use Rattle.paper.specs.Cache.{Numbers}
-use Rattle.paper.specs.Lent.{unfit, otherLength}
+use Rattle.paper.specs.Lent.{unfit, limitOutside, otherLength}
 use Rattle.exam.specs.Scores.{nine, nineZeros}
 use Rattle.exam.specs.ScoreLaws.{total}
 use Rattle.exam.specs.Contract.{countsBytes, wrongLent, questionRefusal, Counted, question}
@@ -50,15 +50,17 @@ module _ (N : Numbers) (disk : List ℕ) (k : ℕ) (s : List ℕ) where
   unfolding leavesScores
   scores-read l h b = count-read ((question N disk k (length s)) .counts) s l h b (count-fits h)
 
-  -- with another length nothing is written, and the number is 1 or 2
+  -- with another length nothing is written, and the number is 1, 12 or 2
   pub scores-kept : (length s ≡ countsBytes → ⊥) → leavesScores N disk k s .counts ≡ s
   unfolding leavesScores
   scores-kept n = counts-kept ((question N disk k (length s)) .counts) s n
 
-  pub scores-other : (length s ≡ countsBytes → ⊥) → (number ≡ 1) ⊎ (number ≡ 2)
+  pub scores-other : (length s ≡ countsBytes → ⊥) → (number ≡ 1) ⊎ ((number ≡ 12) ⊎ (number ≡ 2))
   unfolding wrongLent
   scores-other n =
       let x = exactly-question N disk k (length s) in
       let w = or-right (otherLength disk (N .P * N .B) || otherLength (N .label) 64) (not (eqb (length s) countsBytes))
       (ap not (ne-eqb (length s) countsBytes n)) in
-      by-test (unfit N) (λ e. inl (x .gives-1 .1 (tt, e))) (λ e. inr (x .gives-2 .1 ((e, tt), w)))
+      by-test (unfit N)
+      (λ e. inl (x .gives-1 .1 (tt, e)))
+      (λ e. inr (by-test (limitOutside N) (λ f. inl (x .gives-12 .1 ((e, tt), f))) (λ f. inr (x .gives-2 .1 ((e, (f, tt)), w)))))

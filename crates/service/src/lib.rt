@@ -355,7 +355,7 @@ pub extern "C" fn mindavehu_desk_report(
     held_report(Reader::Desk, state, disk, flash, addresses, blocks, report)
 }
 
-// Opens a box of the numbers in `state` and the label `label`: the tables become fresh, n and the counters 0; disk and flash keep their bytes.
+// Opens a box of the numbers and the limit in `state` and the label `label`: the tables become fresh, n and the counters 0; disk and flash keep their bytes.
 #[no_mangle]
 pub extern "C" fn mindavehu_open(
     state: &mut [u8],
@@ -378,6 +378,7 @@ pub extern "C" fn mindavehu_open(
         b.blocks,
         b.rows,
         b.slots,
+        b.limit,
         label,
         disk,
         flash,
@@ -395,15 +396,27 @@ pub extern "C" fn mindavehu_scores(
     blocks: usize,
     rows: usize,
     slots: usize,
+    limit: usize,
     label: &[u8],
     disk: &[u8],
     k: usize,
     counts: &mut [u8],
 ) -> u32
     ensures { λ r. ⌜ record { number = r; counts = now (counts .exit) }
-        ≡ leavesScores (record { B = size; P = blocks; m = rows; d = slots; label = now (label .entry) }) (now (disk .entry)) k (now (counts .entry)) ⌝ }
+        ≡ leavesScores (record { B = size; P = blocks; m = rows; d = slots; label = now (label .entry); t = limit }) (now (disk .entry)) k
+        (now (counts .entry)) ⌝ }
 {
-    let t = exam::scores(size, blocks, rows, slots, label, disk, k, counts.len());
+    let t = exam::scores(
+        size,
+        blocks,
+        rows,
+        slots,
+        limit,
+        label,
+        disk,
+        k,
+        counts.len(),
+    );
     let c = t.counts;
     fields::put_counts(counts, c);
     t.number

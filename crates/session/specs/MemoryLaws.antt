@@ -19,13 +19,14 @@ use Rattle.paper.specs.Cache.{Numbers, Word, hit, miss, sameBlock, newBlock, fr
 use Rattle.paper.specs.Lent.{Lent, Ask, calling, Answer, refused, answered, refusal, unfit, fresh}
 use Rattle.paper.specs.LentLaws.{Lengths}
 use Rattle.paper.specs.RefusalLaws.{keeps}
+use Rattle.paper.specs.CallLaws as Calls
 use Rattle.paper.specs.CallLaws.{served-passes}
 use Rattle.refusals.specs.Sizes.{most}
 use Rattle.lines.specs.Lines.{parsed}
 use Rattle.lines.specs.declared.Command.{Command}
 use Rattle.lines.specs.declared.Command.the-variants.{Box, Read, Look, Flush, Through, Back, Invalidate, Unformed}
 use Rattle.print.specs.Texts.{askText, wordText, countsText, answerText}
-use Rattle.answers.specs.Replay.{large, boxRefusal, boxNumbers, startDisk, started, asked, doing}
+use Rattle.answers.specs.Replay.{Opening, large, boxRefusal, boxNumbers, startDisk, started, asked, doing}
 use Rattle.print.specs.DecimalLaws.{decimal-length}
 use Rattle.session.specs.Bytewise.{State, Replied, firstLine, laterLine, endLine, keep, byteIn, atEnd}
 use Rattle.answers.specs.Done.{recordOf}
@@ -103,7 +104,7 @@ none-holds : (b : Bool) (k x : ℕ) → 1 ≤ k → cond b k x ≡ 0 → (b ≡ 
 none-holds true k x h e = absurd (omega arith)
 none-holds false k x h e = (refl, e)
 
-pub opened-fits : (c : Command) → boxRefusal c ≡ 0 → (unfit (boxNumbers c) ≡ false) × Holds (recordOf (boxNumbers c) 0)
+pub opened-fits : (c : Command) → boxRefusal c ≡ 0 → Opening (boxNumbers c) × Holds (recordOf (boxNumbers c) 0)
 unfolding boxRefusal large
 opened-fits (Box B P m d) e =
     let N = boxNumbers (Box B P m d) in
@@ -111,7 +112,7 @@ opened-fits (Box B P m d) e =
     let v = (none-holds (ltb 256 P || ltb 16384 (P * B) || ltb 16384 (d * B)) 5 0 (omega arith) (u .1)) .0 in
     let w = or-false-left (ltb 256 P || ltb 16384 (P * B)) (ltb 16384 (d * B)) v in
     let n = most (recordOf N 0) (u .0) in (
-      u .0,
+      (u .0, rw (le-leb 1 m (Calls.fits N (u .0) .m-least), le-leb m m (omega arith)) refl),
       (
         n .size,
         ltb-false 256 P (or-false-left (ltb 256 P) (ltb 16384 (P * B)) w),

@@ -16,11 +16,10 @@ ghost use mathlib.Core.Bool.{false};
 ghost use mathlib.Core.List.{List};
 ghost use Prim.Native.Nat.{ℕ, _≤_};
 ghost use lib.ListN.{length};
-ghost use Rattle.paper.specs.Lent.{unfit};
 ghost use Rattle.parts.specs.Rep.{numbersOf};
 ghost use Rattle.refusals.specs.Given.{countersOf};
 ghost use Rattle.policy.specs.Contract.{answerOf};
-ghost use Rattle.answers.specs.Replay.{started, asked, doing};
+ghost use Rattle.answers.specs.Replay.{Opening, started, asked, doing};
 ghost use Rattle.session.specs.Bytewise.{firstLine, laterLine};
 ghost use Rattle.session.specs.Memory.{buffers, within, held, over, memory, Sized, Holds, stateIn, stored, afterOf};
 
@@ -33,7 +32,7 @@ fn open_box(
     blocks: &mut [u8],
 ) -> Begun
     requires { ⌜ Holds b ⌝ }
-    requires { ⌜ unfit (numbersOf b) ≡ false ⌝ }
+    requires { ⌜ Opening (numbersOf b) ⌝ }
     requires { ⌜ Sized (now disk) (now flash) (now addresses) (now blocks) ⌝ }
     ensures { λ r. ⌜ numbersOf (r .box_record) ≡ numbersOf b ⌝ }
     ensures { λ r. ⌜ held (r .box_record .held) (countersOf (r .counters))

@@ -28,7 +28,7 @@ use Rattle.paper.specs.Cache.{Numbers, Hashing, AddressRow, Box, Counters, noCo
 use Rattle.paper.specs.Engine.{Fixed}
 use Rattle.paper.specs.Lent.{join, lentOf}
 use Rattle.paper.specs.Sound.{sound-readAs}
-use Rattle.paper.specs.LentLaws.{block-count, free-below, used-below, sound-lengths, sound-passes}
+use Rattle.paper.specs.LentLaws.{sound-lengths, sound-passes}
 use Rattle.paper.specs.Layout.{Parts, addressesOf, blocksOf}
 use Rattle.paper.specs.Index.{indexWhere}
 use Rattle.paper.specs.Batch.{Filled, Batched, addressesIn, blocksIn, isMiss, seen, firstRead, start, source, blockIn, added, batchRead, batch}
@@ -38,6 +38,7 @@ use Rattle.parts.specs.Rep.{numbersOf, withHeld, Rep, engine}
 use Rattle.parts.specs.CopyLaws.{part-block, block-ends}
 use Rattle.step.specs.Steps.{Sure, out4}
 use Rattle.serve.specs.Calls.{Leaves, left, leaves, isYes, returnedOr}
+use Rattle.serve.specs.ServeLaws.{sound-rep}
 use Rattle.turns.specs.Turns.{Turned, Lends}
 
 -- the bytes of a sound box have an index: the table's length, and no fingerprint used twice
@@ -298,27 +299,9 @@ module _ (b : BoxRecord) (l : List ℕ) (z : Counters) (T : Batched (Fixed 32) (
     rep-out : Rep (withHeld b (s .held)) disk′ flash′ addrs′ blocks′ (out .box)
     unfolding leaves out4
     rep-out =
-        let N = numbersOf b in
-        let h = sound-out in
-        let c : length (out .box .rows) ≡ s .held = sym (ap (λ (y : Leaves). y .held) e) in
-        record {
-          rows-are = record {
-            count = c;
-            few = rw (← c) (h .few);
-            below = h .below;
-            small = w .box-is .rows-are .small;
-            is = ap (λ (y : Leaves). y .left .addrs) e;
-          };
-          blocks-are = record {
-            count = block-count N (out .box) h;
-            free-below = free-below N (out .box) h;
-            used-below = used-below N (out .box) h;
-            small = w .box-is .blocks-are .small;
-            is = ap (λ (y : Leaves). y .left .blocks) e;
-          };
-          flash-is = record { count = h .flashLength; is = ap (λ (y : Leaves). y .left .flash) e };
-          disk-is = record { count = h .diskLength; is = ap (λ (y : Leaves). y .left .disk) e };
-        }
+        sound-rep b (s .held) disk′ flash′ addrs′ blocks′ (out .box) sound-out (w .box-is .rows-are .small) (w .box-is .blocks-are .small)
+        (sym (ap (λ (y : Leaves). y .held) e)) (ap (λ (y : Leaves). y .left .disk) e) (ap (λ (y : Leaves). y .left .flash) e)
+        (ap (λ (y : Leaves). y .left .addrs) e) (ap (λ (y : Leaves). y .left .blocks) e)
 
     yes-is : s .yes ≡ isYes (out .word)
     unfolding leaves

@@ -104,6 +104,8 @@ pub struct Cache {
     pub p: usize,
     pub m: usize,
     pub d: usize,
+    /// The most rows that are dirty after a call.
+    pub t: usize,
     pub label: Label,
     /// Held addresses, oldest use first, and what is known of each.
     pub(crate) addresses: VecDeque<u32>,
@@ -120,13 +122,15 @@ pub struct Cache {
 
 impl Cache {
     /// A fresh box over the disk and flash given. The numbers are in their sets and the lengths are right.
-    pub fn fresh(b: usize, p: usize, m: usize, d: usize, label: Label, disk: Vec<u8>, flash: Vec<u8>) -> Cache {
+    #[allow(clippy::too_many_arguments)]
+    pub fn fresh(b: usize, p: usize, m: usize, d: usize, t: usize, label: Label, disk: Vec<u8>, flash: Vec<u8>) -> Cache {
         assert!(disk.len() == p * b && flash.len() == d * b);
         Cache {
             b,
             p,
             m,
             d,
+            t,
             label,
             addresses: VecDeque::new(),
             held: HashMap::new(),
@@ -153,8 +157,8 @@ impl Cache {
         Ok(match call {
             Call::Open => panic!("opening makes a cache"),
             Call::Read => self.read(address, block, None),
-            Call::Through(seat) => self.write(address, seat, block, false, true),
-            Call::Back(seat) => self.write(address, seat, block, true, false),
+            Call::Through(seat) => self.write_through(address, seat, block),
+            Call::Back(seat) => self.write_back(address, seat, block),
             Call::Invalidate(_) => self.invalidate(address, block),
             Call::Flush => self.flush(self.m),
             Call::FlushSome(most) => self.flush(most),
@@ -227,17 +231,33 @@ impl Cache {
         self.counted(word, writes)
     }
 
-    fn write(&mut self, a: u32, seat: u16, block: &[u8], dirty: bool, to_disk: bool) -> Answer {
+    fn write_through(&mut self, a: u32, seat: u16, block: &[u8]) -> Answer {
         let fingerprint = self.fingerprint(block);
         let word = self.same_or_new(&fingerprint);
-        if to_disk {
-            self.disk.put(a as usize, block);
-        }
+        self.disk.put(a as usize, block);
+        let mut writes = self.step(a, Held { fingerprint, dirty: false, seat }, block);
+        writes.primary += 1;
+        self.counted(word, writes)
+    }
+
+    fn write_back(&mut self, a: u32, seat: u16, block: &[u8]) -> Answer {
+        let fingerprint = self.fingerprint(block);
+        let word = self.same_or_new(&fingerprint);
         // "a write back to a held, clean address with the same fingerprint leaves the row clean" (document 02, U1)
         let unchanged = self.held.get(&a).is_some_and(|row| row.fingerprint == fingerprint && !row.dirty);
-        let mut writes = self.step(a, Held { fingerprint, dirty: dirty && !unchanged, seat }, block);
-        writes.primary += to_disk as u64;
+        let mut writes = self.step(a, Held { fingerprint, dirty: !unchanged, seat }, block);
+        // "After the step of a write back, if more than t rows are dirty, the oldest dirty one is copied to disk and made clean." (document 02, U8)
+        let dirty = self.dirty();
+        if dirty.len() > self.t {
+            self.clean(dirty[0]);
+            writes.primary += 1;
+        }
         self.counted(word, writes)
+    }
+
+    /// The dirty addresses, oldest use first.
+    pub fn dirty(&self) -> Vec<u32> {
+        self.addresses.iter().copied().filter(|a| self.held[a].dirty).collect()
     }
 
     fn invalidate(&mut self, a: u32, block: &[u8]) -> Answer {
@@ -254,7 +274,7 @@ impl Cache {
 
     /// "one call cleans at most k dirty rows, oldest first, and says how many it cleaned" (document 02, U3)
     fn flush(&mut self, most: usize) -> Answer {
-        let dirty: Vec<u32> = self.addresses.iter().copied().filter(|a| self.held[a].dirty).take(most).collect();
+        let dirty: Vec<u32> = self.dirty().into_iter().take(most).collect();
         for a in &dirty {
             self.clean(*a);
         }

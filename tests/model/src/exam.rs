@@ -12,16 +12,20 @@ pub struct Question {
     pub p: usize,
     pub m: usize,
     pub d: usize,
+    pub t: usize,
     pub label: Vec<u8>,
     pub disk: Vec<u8>,
     pub k: usize,
     pub counts: Vec<u8>,
 }
 
-/// "It refuses with 17 if P is above 4, B isn't 64 or k is above 8, checked after 2." 0 where it is not refused.
+/// "It refuses with 17 if P is above 4, B isn't 64 or k is above 8, checked after 2." (U12) "with 12 a limit outside its range, in every call right after 1"
+/// (U8). 0 where it is not refused.
 pub fn refusal_question(q: &Question) -> u32 {
     if !BLOCK_SIZES.contains(&q.b) || !(1..=MOST_P).contains(&q.p) || !(1..=MOST_M).contains(&q.m) || !(1..=MOST_D).contains(&q.d) {
         1
+    } else if !(1..=q.m).contains(&q.t) {
+        12
     } else if q.disk.len() != q.p * q.b || q.label.len() != LABEL || q.counts.len() != COUNTS {
         2
     } else if q.p > 4 || q.b != 64 || q.k > 8 {

@@ -50,18 +50,22 @@ pub struct Numbers {
     pub n: u64,
     pub counters: [u64; 4],
     pub label: Label,
+    /// The limit.
+    pub t: u64,
 }
 
 impl Numbers {
     pub fn from_bytes(state: &[u8]) -> Numbers {
         assert_eq!(state.len(), STATE);
-        let [b, p, m, d, n, c0, c1, c2, c3] = std::array::from_fn(|k| u64::from_le_bytes(state[k * 8..k * 8 + 8].try_into().unwrap()));
-        Numbers { b, p, m, d, n, counters: [c0, c1, c2, c3], label: state[STATE - LABEL..].try_into().unwrap() }
+        let number = |bytes: &[u8]| u64::from_le_bytes(bytes.try_into().unwrap());
+        let [b, p, m, d, n, c0, c1, c2, c3] = std::array::from_fn(|k| number(&state[k * 8..k * 8 + 8]));
+        let (label, t) = (state[STATE_LABEL].try_into().unwrap(), number(&state[STATE_LIMIT]));
+        Numbers { b, p, m, d, n, counters: [c0, c1, c2, c3], label, t }
     }
 
     pub fn to_bytes(self) -> Vec<u8> {
         let numbers = [&[self.b, self.p, self.m, self.d, self.n][..], &self.counters].concat();
-        numbers.iter().flat_map(|number| number.to_le_bytes()).chain(self.label).collect()
+        numbers.iter().flat_map(|number| number.to_le_bytes()).chain(self.label).chain(self.t.to_le_bytes()).collect()
     }
 }
 
@@ -152,6 +156,11 @@ fn one(numbers: &Numbers) -> bool {
     !(BLOCK_SIZES.iter().any(|size| *size as u64 == numbers.b) && inside(numbers.p, MOST_P) && inside(numbers.m, MOST_M) && inside(numbers.d, MOST_D))
 }
 
+/// "a limit outside its range", which is "from 1 to m" (document 02, U8)
+fn twelve(numbers: &Numbers) -> bool {
+    !(1..=numbers.m).contains(&numbers.t)
+}
+
 /// Asked after 1, so that no product is too large.
 fn two(numbers: &Numbers, lent: &Lent) -> bool {
     let wrong = |bytes: &Vec<u8>, length: u64| bytes.len() as u64 != length;
@@ -190,6 +199,11 @@ fn seven(numbers: &Numbers, rows: &[BlockRow]) -> bool {
 fn eight(numbers: &Numbers, rows: &[AddressRow], blocks: &[BlockRow]) -> bool {
     let cached: HashSet<Fingerprint> = blocks.iter().filter(|row| row.used == 1).map(|row| row.fingerprint).collect();
     rows[..numbers.n as usize].iter().any(|row| row.dirty == 1 && !cached.contains(&row.fingerprint))
+}
+
+/// "a state with more than t dirty rows" (document 02, U8)
+fn thirteen(numbers: &Numbers, rows: &[AddressRow]) -> bool {
+    rows[..numbers.n as usize].iter().filter(|row| row.dirty == 1).count() as u64 > numbers.t
 }
 
 /// The number with which a call is refused, 0 where it is served. A state or an answer of another length comes before all.
@@ -242,6 +256,8 @@ fn first_of(checks: &[u32], lent: &Lent, own: impl Fn(u32) -> bool) -> u32 {
         7 => seven(&numbers, &blocks),
         8 => eight(&numbers, &rows, &blocks),
         9 => numbers.counters.iter().any(|counter| *counter > MOST_COUNTED),
+        12 => twelve(&numbers),
+        13 => thirteen(&numbers, &rows),
         _ => own(10),
     };
     checks.iter().find(applies).copied().unwrap_or(0)
@@ -257,9 +273,10 @@ pub fn carry_out(call: Call, address: u32, lent: &mut Lent) -> u32 {
             lent.state = Numbers { n: 0, label, ..lent.numbers() }.to_bytes();
         }
         if number == 0 {
-            let Numbers { b, p, m, d, label, .. } = lent.numbers();
+            let Numbers { b, p, m, d, t, label, .. } = lent.numbers();
+            let [b, p, m, d, t] = [b, p, m, d, t].map(|number| number as usize);
             let (disk, flash) = (std::mem::take(&mut lent.disk), std::mem::take(&mut lent.flash));
-            Cache::fresh(b as usize, p as usize, m as usize, d as usize, label, disk, flash).store(lent);
+            Cache::fresh(b, p, m, d, t, label, disk, flash).store(lent);
         }
         return number;
     }
@@ -330,6 +347,7 @@ impl Cache {
             p: numbers.p as usize,
             m: numbers.m as usize,
             d: numbers.d as usize,
+            t: numbers.t as usize,
             label: numbers.label,
             addresses: held.iter().map(|row| row.address).collect(),
             held: held.iter().map(|row| (row.address, Held { fingerprint: row.fingerprint, dirty: row.dirty == 1, seat: row.seat })).collect(),
@@ -344,8 +362,8 @@ impl Cache {
 
     fn state_bytes(&self) -> Vec<u8> {
         let Counters { reads, hits, flash, primary } = self.counters;
-        let [b, p, m, d, n] = [self.b, self.p, self.m, self.d, self.addresses.len()].map(|number| number as u64);
-        Numbers { b, p, m, d, n, counters: [reads, hits, flash, primary], label: self.label }.to_bytes()
+        let [b, p, m, d, n, t] = [self.b, self.p, self.m, self.d, self.addresses.len(), self.t].map(|number| number as u64);
+        Numbers { b, p, m, d, n, counters: [reads, hits, flash, primary], label: self.label, t }.to_bytes()
     }
 
     fn address_bytes(&self) -> Vec<u8> {

@@ -14,6 +14,7 @@ pub use lent::{carry_out, carry_out_many, carry_out_report, read_tables, refusal
 pub use lent::{AddressRow, BlockRow, Folder, Lent, Numbers};
 
 use sha2::{Digest, Sha256};
+use std::ops::Range;
 
 pub type Fingerprint = [u8; 32];
 
@@ -35,14 +36,16 @@ pub const MOST_D: usize = 256;
 pub const MOST_COUNTED: u64 = 1 << 63;
 pub const ROW: usize = 40;
 pub const LABEL: usize = 64;
-/// Nine numbers of 8 bytes, then the label.
-pub const STATE: usize = 136;
+/// Nine numbers of 8 bytes, then the label, then the limit.
+pub const STATE: usize = 144;
+pub const STATE_LABEL: Range<usize> = 72..136;
+pub const STATE_LIMIT: Range<usize> = 136..144;
 pub const ANSWER: usize = 24;
 /// The answer of one call for a folder, and the most addresses of it.
 pub const MANY_ANSWER: usize = 32;
 pub const MOST_ASKED: usize = 64;
 /// The refusals that one call for a folder checks, in the order of the documents.
-pub const MANY_CHECKS: [u32; 8] = [1, 2, 10, 3, 6, 7, 8, 9];
+pub const MANY_CHECKS: [u32; 10] = [1, 12, 2, 10, 3, 6, 7, 8, 13, 9];
 
 /// The two reports on the held rows (document 02, U7).
 #[derive(Clone, Copy, Debug, PartialEq, Eq)]
@@ -53,7 +56,7 @@ pub enum Report {
 
 pub const REPORTS: [Report; 2] = [Report::Manager, Report::Desk];
 /// The refusals that a report checks, in the order of the documents: "no 3 and no 9".
-pub const REPORT_CHECKS: [u32; 5] = [1, 2, 6, 7, 8];
+pub const REPORT_CHECKS: [u32; 7] = [1, 12, 2, 6, 7, 8, 13];
 
 impl Report {
     /// The bytes of a row: "address, dirty byte and seat [..] in m × 7 lent bytes", "address and dirty byte only, in m × 5".
@@ -107,13 +110,13 @@ impl Call {
         self.takes_block() || self == Call::Look
     }
 
-    /// The refusals that the document checks in this call, in its order.
+    /// The refusals that the documents check in this call, in their order: 12 "in every call right after 1", 13 "right after 8" (document 02, U8).
     pub fn checks(self) -> &'static [u32] {
         match self {
-            Call::Open => &[1, 2],
-            Call::Flush | Call::FlushSome(_) => &[1, 2, 6, 7, 8, 9],
-            Call::Look => &[1, 2, 3, 6, 7, 8],
-            _ => &[1, 2, 3, 6, 7, 8, 9],
+            Call::Open => &[1, 12, 2],
+            Call::Flush | Call::FlushSome(_) => &[1, 12, 2, 6, 7, 8, 13, 9],
+            Call::Look => &[1, 12, 2, 3, 6, 7, 8, 13],
+            _ => &[1, 12, 2, 3, 6, 7, 8, 13, 9],
         }
     }
 }

@@ -10,13 +10,14 @@ fn lists_in_bytes() {
     for _ in 0..400 {
         let b = [64, 128][random.below(2)];
         let (p, m, d) = (1 + random.below(12), 1 + random.below(6), 1 + random.below(5));
+        let t = 1 + random.below(m);
         let contents = 1 + random.below(8);
         let disk: Vec<u8> = (0..p).flat_map(|_| vec![random.below(contents) as u8; b]).collect();
         let flash = random.bytes(d * b);
         let [label, other] = std::array::from_fn(|_| random.bytes(LABEL).try_into().unwrap());
         let (n, counters) = (random.number(), [random.number(); 4]);
         let mut lent = Lent {
-            state: Numbers { b: b as u64, p: p as u64, m: m as u64, d: d as u64, n, counters, label: other }.to_bytes(),
+            state: Numbers { b: b as u64, p: p as u64, m: m as u64, d: d as u64, n, counters, label: other, t: t as u64 }.to_bytes(),
             disk: disk.clone(),
             flash: flash.clone(),
             addresses: random.bytes(m * 40),
@@ -25,7 +26,7 @@ fn lists_in_bytes() {
             answer: vec![0; 24],
             label: label.to_vec(),
         };
-        let mut cache = Cache::fresh(b, p, m, d, label, disk, flash);
+        let mut cache = Cache::fresh(b, p, m, d, t, label, disk, flash);
         assert_eq!(carry_out(Call::Open, 0, &mut lent), 0);
         assert_eq!(cache.difference(&lent), None, "seed {seed}");
         for _ in 0..100 {

@@ -1,5 +1,5 @@
 //! The office label by the model: digests made elsewhere, what an opening does with the label, and where it is refused.
-use model::{carry_out, carry_out_many, fingerprint, Call, Folder, Label, Lent, Numbers, CALLS, LABEL, ROW, STATE, ZEROS};
+use model::{carry_out, carry_out_many, fingerprint, Call, Folder, Label, Lent, Numbers, CALLS, LABEL, ROW, STATE, STATE_LABEL, ZEROS};
 
 const B: usize = 64;
 
@@ -28,7 +28,7 @@ fn digests() {
 /// A box that was in use: its state has this label, n = 1 and counters.
 fn used(label: &[u8]) -> Lent {
     let mut lent = Lent {
-        state: Numbers { b: B as u64, p: 8, m: 3, d: 2, n: 0, counters: [0; 4], label: ZEROS }.to_bytes(),
+        state: Numbers { b: B as u64, p: 8, m: 3, d: 2, n: 0, counters: [0; 4], label: ZEROS, t: 2 }.to_bytes(),
         disk: (0..8u8).flat_map(|k| [k; B]).collect(),
         flash: vec![0xAA; 2 * B],
         addresses: vec![0; 3 * ROW],
@@ -46,7 +46,7 @@ fn used(label: &[u8]) -> Lent {
 fn in_every_fingerprint() {
     let label: Label = std::array::from_fn(|k| 200 - k as u8);
     let lent = used(&label);
-    assert_eq!(lent.state[72..], label);
+    assert_eq!(lent.state[STATE_LABEL], label);
     assert_eq!(lent.addresses[4..36], fingerprint(&label, &[5; B]));
     for call in [Call::Through(1), Call::Back(2)] {
         let mut lent = lent.clone();
@@ -58,7 +58,7 @@ fn in_every_fingerprint() {
     // Content 5 is in flash under this label, and under no other.
     for (other, word) in [(label, model::SAME), (ZEROS, model::NEW)] {
         let mut lent = lent.clone();
-        lent.state[72..].copy_from_slice(&other);
+        lent.state[STATE_LABEL].copy_from_slice(&other);
         lent.block = vec![5; B];
         assert_eq!(carry_out(Call::Invalidate(3), 1, &mut lent), 0);
         assert_eq!(model::Answer::from_bytes(&lent.answer).word, word);
@@ -67,7 +67,7 @@ fn in_every_fingerprint() {
     let mut folder = Folder { asked: vec![6], buffer: vec![0; B], answer: vec![0; 32] };
     assert_eq!(carry_out_many(&mut lent, &mut folder), 0);
     assert_eq!(lent.addresses[ROW + 4..ROW + 36], fingerprint(&label, &[6; B]));
-    assert_eq!(lent.state[72..], label);
+    assert_eq!(lent.state[STATE_LABEL], label);
     println!("a read, three writes and a folder by the label of the opening");
 }
 
@@ -77,7 +77,7 @@ fn refused_openings() {
     let (before, label): (Lent, Label) = (used(&[0x77; LABEL]), [0x33; LABEL]);
     let mut zeros = before.clone();
     zeros.state[32..40].fill(0);
-    zeros.state[72..].fill(0);
+    zeros.state[STATE_LABEL].fill(0);
     for length in [0, 1, 63, 65, 72, 128, STATE] {
         for (b, number) in [(B as u64, 2), (65, 1)] {
             let mut lent = before.clone();
@@ -102,9 +102,9 @@ fn other_calls_and_states() {
     let before = used(&[0x77; LABEL]);
     for call in CALLS.into_iter().filter(|call| *call != Call::Open) {
         let mut lent = Lent { label: vec![], ..before.clone() };
-        assert_eq!((carry_out(call, 5, &mut lent), &lent.state[72..]), (0, &[0x77; LABEL][..]), "{call:?}");
+        assert_eq!((carry_out(call, 5, &mut lent), &lent.state[STATE_LABEL]), (0, &[0x77; LABEL][..]), "{call:?}");
     }
-    for length in [72, STATE - 1, STATE + 1] {
+    for length in [72, 136, STATE - 1, STATE + 1] {
         let mut lent = before.clone();
         lent.state.resize(length, 0);
         let kept = lent.clone();

@@ -1,15 +1,15 @@
 //! One call for a folder by the model: cases worked out by hand from document 02, and the reads in turn.
 use common::Random;
 use model::{carry_out, carry_out_many, fingerprint, refusal_many, AddressRow, Answer, BlockRow, Cache, Call, Folder, Label, Lent, ManyAnswer, Numbers};
-use model::{HIT, LABEL, ROW};
+use model::{HIT, LABEL, ROW, STATE_LIMIT};
 
 const B: usize = 64;
 const OFFICE: Label = [0x4F; LABEL];
 
-/// A fresh box whose disk block k has the byte k.
+/// A fresh box without a limit, which is a limit of m, whose disk block k has the byte k.
 fn fresh(p: usize, m: usize, d: usize) -> Cache {
     let disk = (0..p).flat_map(|k| [k as u8; B]).collect();
-    Cache::fresh(B, p, m, d, OFFICE, disk, vec![0xAA; d * B])
+    Cache::fresh(B, p, m, d, m, OFFICE, disk, vec![0xAA; d * B])
 }
 
 /// The folder's answer, and the byte that fills each block read.
@@ -55,7 +55,7 @@ fn off_the_premise(held: bool, print: u8, stored: u8) -> Lent {
     let mut addresses = if held { row.to_bytes() } else { Vec::new() };
     addresses.resize(2 * ROW, 0);
     Lent {
-        state: Numbers { b: B as u64, p: 8, m: 2, d: 1, n: held as u64, counters: [0; 4], label: OFFICE }.to_bytes(),
+        state: Numbers { b: B as u64, p: 8, m: 2, d: 1, n: held as u64, counters: [0; 4], label: OFFICE, t: 1 }.to_bytes(),
         disk: (0..8u8).flat_map(|k| [k; B]).collect(),
         flash: vec![stored; B],
         addresses,
@@ -112,7 +112,7 @@ fn as_the_reads_in_turn() {
         let contents = 1 + random.below(8);
         let disk: Vec<u8> = (0..p).flat_map(|_| [random.below(contents) as u8; B]).collect();
         let flash = random.bytes(d * B);
-        let mut cache = Cache::fresh(B, p, m, d, OFFICE, disk.clone(), flash.clone());
+        let mut cache = Cache::fresh(B, p, m, d, 1 + random.below(m), OFFICE, disk.clone(), flash.clone());
         let mut lent = Lent { state: vec![], disk, flash, addresses: vec![], blocks: vec![], block: vec![], answer: vec![], label: vec![] };
         for _ in 0..30 {
             let call = model::CALLS[1 + random.below(6)].by_seat(random.number() as u16);
@@ -159,8 +159,13 @@ fn order_of_refusals() {
     let mut many = folder(&[1, 7, 1]);
     set(&mut lent, 6, (1 << 63) + 1);
     assert_eq!(refusal_many(&lent, &many), 9);
-    lent.addresses[4] ^= 1;
+    // Two dirty rows of one block, where the limit is 1.
     lent.addresses[36] = 1;
+    let second = [&1u32.to_le_bytes()[..], &lent.addresses[4..ROW]].concat();
+    lent.addresses[ROW..].copy_from_slice(&second);
+    set(&mut lent, 4, 2);
+    assert_eq!(refusal_many(&lent, &many), 13);
+    lent.addresses[4] ^= 1;
     assert_eq!(refusal_many(&lent, &many), 8);
     lent.blocks[37] = 1;
     assert_eq!(refusal_many(&lent, &many), 7);
@@ -180,10 +185,12 @@ fn order_of_refusals() {
         let mut lent = lent.clone();
         lent.flash.pop();
         assert_eq!(refusal_many(&lent, &many), 2);
+        set(&mut lent, STATE_LIMIT.start / 8, 3);
+        assert_eq!(refusal_many(&lent, &many), 12);
         set(&mut lent, 0, 65);
         assert_eq!(refusal_many(&lent, &many), 1);
         many.answer.pop();
         assert_eq!(refusal_many(&lent, &many), 2);
     }
-    println!("one call for a folder with one damage more each time: the first of 1, 2, 10, 3, 6, 7, 8, 9 that applies");
+    println!("one call for a folder with one damage more each time: the first of 1, 12, 2, 10, 3, 6, 7, 8, 13, 9 that applies");
 }

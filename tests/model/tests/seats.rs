@@ -1,13 +1,13 @@
 //! Seat numbers and the two reports by the model: cases worked out by hand from document 02, and where a report is refused.
-use model::{carry_out, carry_out_report, refusal, refusal_report, Cache, Call, Label, Lent, Report, CALLS, LABEL, REPORTS, ROW};
+use model::{carry_out, carry_out_report, refusal, refusal_report, Cache, Call, Label, Lent, Report, CALLS, LABEL, REPORTS, ROW, STATE_LIMIT};
 
 const B: usize = 64;
 const OFFICE: Label = [0x4F; LABEL];
 
-/// A fresh box whose disk block k has the byte k.
+/// A fresh box without a limit, which is a limit of m, whose disk block k has the byte k.
 fn fresh(p: usize, m: usize, d: usize) -> Cache {
     let disk = (0..p).flat_map(|k| [k as u8; B]).collect();
-    Cache::fresh(B, p, m, d, OFFICE, disk, vec![0xAA; d * B])
+    Cache::fresh(B, p, m, d, m, OFFICE, disk, vec![0xAA; d * B])
 }
 
 fn call(cache: &mut Cache, call: Call, address: u32, content: u8) {
@@ -138,6 +138,10 @@ fn order_of_refusals() {
         let mut bytes = vec![0xEE; length];
         assert_eq!(carry_out_report(report, &lent, &mut bytes), 0);
         assert!(lent == kept && bytes != vec![0xEE; length]);
+        // Two dirty rows, where the limit is 1.
+        lent.addresses[ROW + 36] = 1;
+        lent.state[STATE_LIMIT.start] = 1;
+        assert_eq!(refusal_report(report, &lent, length), 13);
         lent.blocks[3] ^= 1;
         assert_eq!(refusal_report(report, &lent, length), 8);
         lent.blocks[37] = 1;
@@ -152,6 +156,8 @@ fn order_of_refusals() {
             [&mut short.disk, &mut short.flash, &mut short.addresses, &mut short.blocks][buffer].pop();
             assert_eq!(refusal_report(report, &short, length), 2, "buffer {buffer}");
         }
+        lent.state[STATE_LIMIT.start] = 0;
+        assert_eq!(refusal_report(report, &lent, length + 1), 12);
         lent.state[..8].copy_from_slice(&65u64.to_le_bytes());
         assert_eq!(refusal_report(report, &lent, length + 1), 1);
         lent.state.pop();
@@ -160,5 +166,5 @@ fn order_of_refusals() {
     }
     let mut lent = used();
     assert_eq!(carry_out(Call::Look, 8, &mut lent), 3);
-    println!("reports with one damage more each time: the first of 1, 2, 6, 7, 8 that applies");
+    println!("reports with one damage more each time: the first of 1, 12, 2, 6, 7, 8, 13 that applies");
 }

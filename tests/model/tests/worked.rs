@@ -1,15 +1,15 @@
 //! The document's replay, worked states and edges, as it prints them.
-use model::{carry_out, fingerprint, machines::PrintedDlru, word, Answer, Cache, Call, Label, Lent, Numbers, LABEL};
+use model::{carry_out, fingerprint, machines::PrintedDlru, word, Answer, Cache, Call, Label, Lent, Numbers, LABEL, STATE_LABEL, STATE_LIMIT};
 
 const B: usize = 64;
 /// The label of the boxes here, and the bytes that a state has for a label before it is opened.
 const OFFICE: Label = [0x4F; LABEL];
 const BEFORE: Label = [0xB7; LABEL];
 
-/// A fresh box whose disk block k has the byte k.
+/// A fresh box without a limit, which is a limit of m, whose disk block k has the byte k.
 fn fresh(p: usize, m: usize, d: usize) -> Cache {
     let disk = (0..p).flat_map(|k| [k as u8; B]).collect();
-    Cache::fresh(B, p, m, d, OFFICE, disk, vec![0xAA; d * B])
+    Cache::fresh(B, p, m, d, m, OFFICE, disk, vec![0xAA; d * B])
 }
 
 /// Runs a line of the replay's form and gives the line that the document prints for it.
@@ -124,7 +124,7 @@ fn e1_to_e8() {
 /// A box in bytes whose disk block k has the byte k, not opened yet.
 fn lent(b: usize, p: usize, m: usize, d: usize) -> Lent {
     Lent {
-        state: Numbers { b: b as u64, p: p as u64, m: m as u64, d: d as u64, n: 77, counters: [1, 2, 3, 4], label: BEFORE }.to_bytes(),
+        state: Numbers { b: b as u64, p: p as u64, m: m as u64, d: d as u64, n: 77, counters: [1, 2, 3, 4], label: BEFORE, t: m as u64 }.to_bytes(),
         disk: (0..p).flat_map(|k| vec![k as u8; b]).collect(),
         flash: vec![0xAA; d * b],
         addresses: vec![0xBB; m * 40],
@@ -144,10 +144,10 @@ fn edges() {
         let mut expected = before.clone();
         // n = 0, and a label of zeros where it is refused.
         expected.state[32..40].fill(0);
-        expected.state[72..].fill(0);
+        expected.state[STATE_LABEL].fill(0);
         if number == 0 {
             expected.state[40..72].fill(0);
-            expected.state[72..].copy_from_slice(&OFFICE);
+            expected.state[STATE_LABEL].copy_from_slice(&OFFICE);
             expected.addresses.fill(0);
             expected.blocks = [[0; 40], [0; 40]].concat();
             expected.blocks[72] = 1;
@@ -171,6 +171,9 @@ fn edges() {
     println!("the edges of B and of the address");
 }
 
+/// The place of the limit among the eights of the state.
+const LIMIT: usize = STATE_LIMIT.start / 8;
+
 /// Each call checks the numbers of its own list, in the document's order, and 2 to the power 63 is still served.
 #[test]
 fn order_of_refusals() {
@@ -189,6 +192,12 @@ fn order_of_refusals() {
         // From the last check to the first: each damage is added to those before it.
         set(&mut lent, 8, (1 << 63) + 1);
         expected.push((9, model::refusal(call, 8 - 1, &lent)));
+        // Two dirty rows of one block, where the limit is 1.
+        let second = [&0u32.to_le_bytes()[..], &lent.addresses[4..40]].concat();
+        lent.addresses[40..80].copy_from_slice(&second);
+        set(&mut lent, 4, 2);
+        set(&mut lent, LIMIT, 1);
+        expected.push((13, model::refusal(call, 8 - 1, &lent)));
         lent.blocks[40 + 3] ^= 1;
         expected.push((8, model::refusal(call, 8 - 1, &lent)));
         lent.blocks[37] = 1;
@@ -198,6 +207,8 @@ fn order_of_refusals() {
         expected.push((3, model::refusal(call, 8, &lent)));
         lent.flash.pop();
         expected.push((2, model::refusal(call, 8, &lent)));
+        set(&mut lent, LIMIT, 4);
+        expected.push((12, model::refusal(call, 8, &lent)));
         set(&mut lent, 0, 65);
         expected.push((1, model::refusal(call, 8, &lent)));
         let mut first = 0;

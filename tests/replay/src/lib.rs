@@ -46,7 +46,7 @@ fn hexadecimal(word: &str) -> Option<u8> {
     (word.len() == 2 && word.chars().all(digit)).then(|| u8::from_str_radix(word, 16).unwrap())
 }
 
-/// Which lines a list may have beside those of a replay.
+/// What a list may have beside what a replay has: lines, or a limit.
 #[derive(Clone, Copy, PartialEq)]
 pub enum More {
     Nothing,
@@ -54,6 +54,8 @@ pub enum More {
     Parts,
     /// A write may have its seat as its last word.
     Seats,
+    /// The box has this limit.
+    Limit(u32),
 }
 
 fn asked(line: &[u8], more: More) -> Option<Asked<'_>> {
@@ -79,8 +81,8 @@ fn asked(line: &[u8], more: More) -> Option<Asked<'_>> {
     Some(Asked { call, letter: words[0], address, content })
 }
 
-/// A fresh box by line 1, or the number with which the line is refused: 4 before 1, 1 before 5.
-pub fn open(line: &[u8]) -> Result<Cache, u32> {
+/// A fresh box by line 1, or the number with which the line is refused: 4 before 1, 1 before 5, 5 before 12.
+fn open(line: &[u8], more: More) -> Result<Cache, u32> {
     let words = words(line).filter(|words| words.len() == 5 && words[0] == "box").ok_or(NOT_THE_FORM)?;
     let numbers: Option<Vec<u32>> = words[1..].iter().map(|word| decimal(word)).collect();
     let [b, p, m, d] = numbers.ok_or(NOT_THE_FORM)?[..] else { unreachable!("four words") };
@@ -91,9 +93,14 @@ pub fn open(line: &[u8]) -> Result<Cache, u32> {
     if p > MOST_REPLAY_P || p * b > MOST_BYTES || d * b > MOST_BYTES {
         return Err(TOO_LARGE);
     }
-    let [b, p, m, d] = [b, p, m, d].map(|number| number as usize);
+    // "a limit t from 1 to m (m in replay)" (document 02, U8)
+    let t = if let More::Limit(t) = more { t } else { m };
+    if !(1..=m).contains(&t) {
+        return Err(12);
+    }
+    let [b, p, m, d, t] = [b, p, m, d, t].map(|number| number as usize);
     let disk = (0..p).flat_map(|k| vec![k as u8; b]).collect();
-    Ok(Cache::fresh(b, p, m, d, ZEROS, disk, vec![0; d * b]))
+    Ok(Cache::fresh(b, p, m, d, t, ZEROS, disk, vec![0; d * b]))
 }
 
 /// The output's line for a later line of the list: its fields after the call number.
@@ -115,7 +122,7 @@ fn counters(cache: &Cache) -> String {
 /// call it is told the box alone.
 pub fn follow(input: &[u8], more: More, mut seen: impl FnMut(Option<&str>, Option<&[u8]>, Option<&Cache>)) {
     let list = lines(input);
-    let mut cache = match open(list[0]) {
+    let mut cache = match open(list[0], more) {
         Ok(cache) => cache,
         Err(number) => return seen(Some(&format!("0 refused {number}")), None, None),
     };

@@ -58,6 +58,11 @@ pub fn with_seats(input: &[u8]) -> String {
     written(input, false, More::Seats)
 }
 
+/// The same with `--limit`.
+pub fn limited(input: &[u8], t: u32) -> String {
+    written(input, false, More::Limit(t))
+}
+
 fn reports(cache: &Cache) -> String {
     let mark = |dirty: bool| if dirty { "*" } else { "" };
     let listed = |part: &dyn Fn(&u32, &model::Held) -> String| match &cache.rows()[..] {

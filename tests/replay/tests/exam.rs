@@ -9,7 +9,7 @@ const QUESTIONS: usize = 300;
 
 /// A question under the label of zeros over a disk whose blocks are filled with these bytes.
 fn question([p, m, d, k]: [usize; 4], contents: &[u8]) -> Question {
-    Question { b: 64, p, m, d, label: vec![0; LABEL], disk: contents.iter().flat_map(|byte| vec![*byte; 64]).collect(), k, counts: vec![0; COUNTS] }
+    Question { b: 64, p, m, d, t: m, label: vec![0; LABEL], disk: contents.iter().flat_map(|byte| vec![*byte; 64]).collect(), k, counts: vec![0; COUNTS] }
 }
 
 /// The table, line by line: hits, lists, the share in percent to one digit, and a bar as long as the count is beside the largest.

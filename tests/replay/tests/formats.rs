@@ -1,5 +1,5 @@
 //! docs/FORMATS.md: its example, its refusals, its record, its rows and its reports against the model, the header and the proved program.
-use model::{Cache, Call, Lent, Report, LABEL, STATE, ZEROS};
+use model::{Cache, Call, Lent, Report, LABEL, STATE, STATE_LIMIT, ZEROS};
 use replay::programs::{fences, root, Program, Writing};
 
 fn read(name: &str) -> String {
@@ -19,7 +19,7 @@ fn the_example() {
 /// report and the desk's.
 #[test]
 fn the_rows_and_the_reports() {
-    let mut cache = Cache::fresh(64, 8, 3, 2, ZEROS, (0..8).flat_map(|k| vec![k; 64]).collect(), vec![0; 128]);
+    let mut cache = Cache::fresh(64, 8, 3, 2, 3, ZEROS, (0..8).flat_map(|k| vec![k; 64]).collect(), vec![0; 128]);
     cache.call(Call::Back(258), 5, &mut vec![7; 64]).unwrap();
     let mut lent = Lent { state: vec![], disk: vec![], flash: vec![], addresses: vec![], blocks: vec![], block: vec![], answer: vec![], label: vec![] };
     let reports = [Report::Manager, Report::Desk].map(|report| cache.report(report));
@@ -43,7 +43,9 @@ fn number(name: &str) -> u64 {
 #[test]
 fn the_numbers() {
     let page = read("docs/FORMATS.md");
-    let refusals = ["OUTSIDE", "WRONG_LENGTH", "NO_ADDRESS", "BAD_ADDRESSES", "BAD_BLOCKS", "DIRTY_UNCACHED", "COUNTER_FULL", "BAD_COUNT", "TOO_LARGE"];
+    let [of_calls, of_states] = [["OUTSIDE", "WRONG_LENGTH", "NO_ADDRESS"], ["BAD_ADDRESSES", "BAD_BLOCKS", "DIRTY_UNCACHED"]];
+    let others = ["COUNTER_FULL", "BAD_COUNT", "BAD_LIMIT", "TOO_DIRTY", "TOO_LARGE"];
+    let refusals: Vec<u64> = of_calls.into_iter().chain(of_states).chain(others).map(number).collect();
     let mut told: Vec<u64> = page
         .split("## Refusals")
         .nth(1)
@@ -55,7 +57,7 @@ fn the_numbers() {
         .filter_map(|line| line.strip_prefix("| ")?.split(' ').next()?.parse().ok())
         .collect();
     told.retain(|number| ![4, 5].contains(number));
-    assert_eq!(told, refusals.map(number), "the refusals");
+    assert_eq!(told, refusals, "the refusals");
     let words = ["HIT", "MISS", "SAME", "NEW", "CACHE", "DISK", "DONE"].map(|name| format!("{} {}", number(name), name.to_lowercase())).join(", ");
     assert!(page.replace('\n', " ").contains(&format!("the word ({words})")), "{words}");
     let fields = [
@@ -68,6 +70,7 @@ fn the_numbers() {
         ("HITS", "hits"),
         ("FLASH_WRITES", "flash writes"),
         ("PRIMARY_WRITES", "primary writes"),
+        ("T", "t"),
     ];
     let row = |first: &str, cells: Vec<String>| format!("| {first} | {} |\n", cells.join(" | "));
     let bytes = row("byte", fields.iter().map(|(name, _)| number(name).to_string()).collect());
@@ -76,14 +79,15 @@ fn the_numbers() {
     println!("{} refusals, 7 words and {} fields", told.len(), fields.len());
 }
 
-/// The lengths in the header, and the label's place in the state, as the page tells them.
+/// The lengths in the header, and the places of the label and of the limit in the state, as the page tells them.
 #[test]
 fn the_lengths() {
     let page = read("docs/FORMATS.md");
     for length in ["STATE", "LABEL", "ANSWER", "MANY_ANSWER", "COUNTS", "ROW"] {
         assert!(page.contains(&format!(" {} bytes", number(length))), "{length}");
     }
-    let (first, last) = (number("STATE_LABEL"), number("STATE") - 1);
+    let (first, last) = (number("STATE_LABEL"), number("T") - 1);
+    assert_eq!((number("T"), number("STATE")), (STATE_LIMIT.start as u64, STATE_LIMIT.end as u64));
     assert_eq!((number("STATE"), number("LABEL")), (STATE as u64, LABEL as u64));
     assert!(last + 1 - first == number("LABEL") && page.contains(&format!("Bytes {first} to {last} are the label")), "the label's place");
     for part in ["MANAGER_PART", "DESK_PART"] {

@@ -44,7 +44,12 @@ fn states_and_page() {
     let seats = written(&["--seats", "week.txt"], None);
     assert_eq!(seats, replay::states::with_seats(stored("lessons/week.txt").as_bytes()));
     assert_eq!(written(&["--seats"], Some("week.txt")), seats);
-    println!("./replay --states, --parts, --seats and --page, of a file and of standard input");
+    let limited = written(&["--limit", "2", "limit.txt"], None);
+    assert_eq!(limited, replay::states::limited(stored("lessons/limit.txt").as_bytes(), 2));
+    assert_eq!(written(&["limit.txt", "--limit", "2"], None), limited);
+    assert_eq!(written(&["--limit", "2"], Some("limit.txt")), limited);
+    assert_eq!(written(&["--limit", "0", "limit.txt"], None), "0 refused 12\n");
+    println!("./replay --states, --parts, --seats, --limit and --page, of a file and of standard input");
 }
 
 #[test]
@@ -69,7 +74,7 @@ fn counts() {
 /// Nothing on standard output, the words on standard error, and the status.
 #[test]
 fn what_cannot_be_done() {
-    let cases: [(&[&str], i32, &str); 23] = [
+    let cases: [(&[&str], i32, &str); 30] = [
         (&["no-such-list.txt"], 1, "there is no file no-such-list.txt"),
         (&["--states", "no-such-list.txt"], 1, "there is no file no-such-list.txt"),
         (&["."], 1, ". is a folder, not a list of requests"),
@@ -77,6 +82,13 @@ fn what_cannot_be_done() {
         (&["week.txt", "refused-3.txt"], 2, "more than one file is named"),
         (&["--folder"], 2, "--folder wants the addresses of the folder"),
         (&["--folder", "folder.txt"], 2, "this is no such list: folder.txt"),
+        (&["--limit"], 2, "--limit wants the most addresses that may be dirty"),
+        (&["--limit", "limit.txt"], 2, "this is none: limit.txt"),
+        (&["--limit", "", "limit.txt"], 2, "one number of at most five digits"),
+        (&["--limit", "02", "limit.txt"], 2, "this is none: 02"),
+        (&["--limit", "-1", "limit.txt"], 2, "this is none: -1"),
+        (&["--limit", "100000", "limit.txt"], 2, "this is none: 100000"),
+        (&["--limit", "2", "--states", "limit.txt"], 2, "--limit and --states contradict each other"),
         (&["--disk"], 2, "--disk wants the contents"),
         (&["--disk", "counting.txt"], 2, "this is no such list: counting.txt"),
         (&["--folder", "1, 2", "folder.txt"], 2, "with commas between them and no spaces"),
@@ -99,7 +111,8 @@ fn what_cannot_be_done() {
         let said = String::from_utf8_lossy(&done.stderr);
         assert!(done.status.code() == Some(status) && done.stdout.is_empty() && said.contains(message), "{words:?}: {} {said}", done.status);
     }
-    assert!(written(&["--help"], None).contains("./replay --page FILE"));
+    let help = written(&["--help"], None);
+    assert!(help.contains("./replay --page FILE") && help.contains("./replay --limit 2 FILE"));
     println!("{} ways of asking for what cannot be done, and --help", cases.len());
 }
 
@@ -290,8 +303,8 @@ fn a_page_of_five_megabytes() {
 /// Output that is lost, to a full device or to a pipe that nobody reads, and a list that cannot be read: the reason in words, and status 1.
 #[test]
 fn lost_output_and_lists_that_cannot_be_read() {
-    let options: [&[&str]; 8] =
-        [&[], &["--states"], &["--parts"], &["--explain"], &["--counts"], &["--folder", "1"], &["--mark", "week.expected"], &["--page"]];
+    let (folder, mark): (&[&str], &[&str]) = (&["--folder", "1"], &["--mark", "week.expected"]);
+    let options: [&[&str]; 9] = [&[], &["--states"], &["--parts"], &["--explain"], &["--counts"], &["--limit", "1"], folder, mark, &["--page"]];
     let run = |words: &[&str], input: &str, output: Stdio| {
         let stdin = File::open(root().join(input)).unwrap();
         let mut command = Command::new(root().join("replay"));

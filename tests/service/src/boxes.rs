@@ -1,7 +1,7 @@
 //! Random boxes in bytes: fresh ones, sound ones that no list of calls need reach, each way of breaking one, and any bytes.
 use common::Random;
 use model::{fingerprint, read_tables, AddressRow, BlockRow, Call, Fingerprint, Folder, Label, Lent, Numbers};
-use model::{ANSWER, BLOCK_SIZES, LABEL, MANY_ANSWER, MOST_COUNTED, REPORT_CHECKS, ROW, ZEROS};
+use model::{ANSWER, BLOCK_SIZES, LABEL, MANY_ANSWER, MOST_COUNTED, REPORT_CHECKS, ROW, STATE_LIMIT, ZEROS};
 use std::collections::HashSet;
 
 pub fn fill(random: &mut Random, bytes: &mut [u8]) {
@@ -35,6 +35,21 @@ pub fn any_label(random: &mut Random) -> Label {
 pub fn office(lent: &Lent) -> Label {
     lent.label[..].try_into().unwrap()
 }
+
+/// A limit of a box of m addresses: the smallest, a small one, any, and as often as the last two none, which is m.
+pub fn any_limit(random: &mut Random, m: usize) -> u64 {
+    let (small, any) = (1 + random.below(m.min(20)), 1 + random.below(m));
+    pick(random, &[1, small, any, m, m]) as u64
+}
+
+/// How many held rows are dirty.
+pub fn dirty_rows(lent: &Lent) -> usize {
+    let n = lent.numbers().n as usize;
+    lent.addresses.chunks_exact(ROW).take(n).filter(|row| row[36] == 1).count()
+}
+
+/// Places to count the calls by their numbers, 0 and those of the refusals.
+pub type Counts = [usize; 14];
 
 /// The number of a seat: any, and as often one of the edges, of which some differ in one of their two bytes alone.
 pub fn any_seat(random: &mut Random) -> u16 {
@@ -76,8 +91,9 @@ impl Shape {
         Shape { b: most.b, p: 1 + random.below(most.p), m: 1 + random.below(most.m), d: 1 + random.below(most.d) }
     }
 
+    /// Without a limit, which is a limit of m.
     pub fn numbers(&self, label: Label) -> Numbers {
-        Numbers { b: self.b as u64, p: self.p as u64, m: self.m as u64, d: self.d as u64, n: 0, counters: [0; 4], label }
+        Numbers { b: self.b as u64, p: self.p as u64, m: self.m as u64, d: self.d as u64, n: 0, counters: [0; 4], label, t: self.m as u64 }
     }
 }
 
@@ -109,13 +125,13 @@ impl Contents {
     }
 }
 
-/// A box to be opened under any label: disk blocks from the pool, any bytes in flash and tables; any n, counters and label before it.
+/// A box to be opened under any label, with any limit: disk blocks from the pool, any bytes in flash and tables; any n, counters and label before it.
 pub fn unopened(random: &mut Random, shape: Shape, contents: &Contents) -> Lent {
     let Shape { b, p, m, d } = shape;
     let counters = std::array::from_fn(|_| random.number());
     let before = any_label(random);
     Lent {
-        state: Numbers { n: random.number(), counters, ..shape.numbers(before) }.to_bytes(),
+        state: Numbers { n: random.number(), counters, t: any_limit(random, m), ..shape.numbers(before) }.to_bytes(),
         disk: contents.many(random, p),
         flash: if random.below(2) == 0 { bytes(random, d * b) } else { contents.many(random, d) },
         addresses: bytes(random, m * ROW),
@@ -127,7 +143,8 @@ pub fn unopened(random: &mut Random, shape: Shape, contents: &Contents) -> Lent 
 }
 
 /// A sound box, reachable or not: addresses without blocks beside blocks without addresses, dirty rows that share a block, slots in any
-/// order, a used fingerprint of zeros, fingerprints that are not those of the blocks in their slots, any seats, counters up to the largest.
+/// order, a used fingerprint of zeros, fingerprints that are not those of the blocks in their slots, any seats, counters up to the largest, as many dirty rows
+/// as the limit or fewer.
 pub fn sound(random: &mut Random, shape: Shape) -> Lent {
     sound_at(random, shape, None)
 }
@@ -212,7 +229,10 @@ pub fn sound_at(random: &mut Random, shape: Shape, place: Option<usize>) -> Lent
         _ => random.below(1000) as u64,
     };
     let counters = std::array::from_fn(|_| counter(random));
-    lent.state = Numbers { n: n as u64, counters, ..shape.numbers(label) }.to_bytes();
+    let dirty = lent.addresses.chunks_exact(ROW).filter(|row| row[36] == 1).count().max(1);
+    let any = dirty + random.below(m + 1 - dirty);
+    let t = pick(random, &[dirty, any, m]) as u64;
+    lent.state = Numbers { n: n as u64, counters, t, ..shape.numbers(label) }.to_bytes();
     lent.block = contents.one(random).clone();
     lent
 }
@@ -249,6 +269,7 @@ pub enum Damage {
     P,
     M,
     D,
+    Limit,
     DiskLength,
     FlashLength,
     AddressesLength,
@@ -271,6 +292,7 @@ pub enum Damage {
     SlotTooLarge,
     FingerprintTwice,
     DirtyUncached,
+    TooDirty,
     Reads,
     Hits,
     FlashWrites,
@@ -278,11 +300,12 @@ pub enum Damage {
 }
 
 /// With the number of each, in the order of the checks. Several are applied from the last to the first.
-pub const DAMAGES: [(Damage, u32); 30] = [
+pub const DAMAGES: [(Damage, u32); 32] = [
     (Damage::B, 1),
     (Damage::P, 1),
     (Damage::M, 1),
     (Damage::D, 1),
+    (Damage::Limit, 12),
     (Damage::DiskLength, 2),
     (Damage::FlashLength, 2),
     (Damage::AddressesLength, 2),
@@ -305,6 +328,7 @@ pub const DAMAGES: [(Damage, u32); 30] = [
     (Damage::SlotTooLarge, 7),
     (Damage::FingerprintTwice, 7),
     (Damage::DirtyUncached, 8),
+    (Damage::TooDirty, 13),
     (Damage::Reads, 9),
     (Damage::Hits, 9),
     (Damage::FlashWrites, 9),
@@ -335,6 +359,11 @@ fn first_number(checks: &[u32], damages: &[Damage], asked: impl Fn(&Damage) -> b
 
 fn set_state(lent: &mut Lent, place: usize, number: u64) {
     lent.state[place * 8..place * 8 + 8].copy_from_slice(&number.to_le_bytes());
+}
+
+/// Gives a box another limit.
+pub fn set_limit(lent: &mut Lent, t: u64) {
+    set_state(lent, STATE_LIMIT.start / 8, t);
 }
 
 /// A number above `most` or, where zero is given, that as well.
@@ -378,6 +407,10 @@ fn fit(random: &mut Random, lent: &mut Lent) {
     lent.block.resize(block, 0);
 }
 
+fn cached_fingerprints(blocks: &[BlockRow]) -> HashSet<Fingerprint> {
+    blocks.iter().filter(|row| row.used == 1).map(|row| row.fingerprint).collect()
+}
+
 /// Breaks a sound box in one way, or its address. Answers false, and changes nothing, where the box cannot be broken so.
 pub fn damage(random: &mut Random, lent: &mut Lent, address: &mut u32, kind: Damage) -> bool {
     let numbers = lent.numbers();
@@ -415,6 +448,10 @@ pub fn damage(random: &mut Random, lent: &mut Lent, address: &mut u32, kind: Dam
             let number = outside(random, most as u64);
             set_state(lent, place, number);
             fit(random, lent);
+        }
+        Damage::Limit => {
+            let t = outside(random, numbers.m);
+            set_limit(lent, t);
         }
         Damage::DiskLength => wrong_length(random, &mut lent.disk),
         Damage::FlashLength => wrong_length(random, &mut lent.flash),
@@ -470,12 +507,29 @@ pub fn damage(random: &mut Random, lent: &mut Lent, address: &mut u32, kind: Dam
             lent.blocks[used[two] * ROW..used[two] * ROW + 32].copy_from_slice(&blocks[used[one]].fingerprint);
         }
         Damage::DirtyUncached => {
-            let cached: HashSet<Fingerprint> = used.iter().map(|k| blocks[*k].fingerprint).collect();
+            let cached = cached_fingerprints(&blocks);
             let without: Vec<usize> = (0..n).filter(|k| !cached.contains(&rows[*k].fingerprint)).collect();
             if without.is_empty() {
                 return false;
             }
             lent.addresses[pick(random, &without) * ROW + 36] = 1;
+        }
+        // A limit of 1 or more that is less than the dirty rows. Where fewer than two are dirty, others that have their block become so.
+        Damage::TooDirty => {
+            let cached = cached_fingerprints(&blocks);
+            let with_block: Vec<usize> = (0..n).filter(|k| cached.contains(&rows[*k].fingerprint)).collect();
+            if with_block.len() < 2 {
+                return false;
+            }
+            for k in with_block {
+                if dirty_rows(lent) < 2 {
+                    lent.addresses[k * ROW + 36] = 1;
+                }
+            }
+            let dirty = dirty_rows(lent);
+            let any = 1 + random.below(dirty - 1);
+            let t = pick(random, &[1, any, dirty - 1]);
+            set_limit(lent, t as u64);
         }
         Damage::Reads | Damage::Hits | Damage::FlashWrites | Damage::PrimaryWrites => {
             let place = 5 + [Damage::Reads, Damage::Hits, Damage::FlashWrites, Damage::PrimaryWrites].iter().position(|other| *other == kind).unwrap();
@@ -495,7 +549,7 @@ pub fn small(random: &mut Random) -> Shape {
 
 /// A sound box with these damages, made of as many boxes as it takes; the address is of the box unless the damage is there.
 pub fn damaged(random: &mut Random, damages: &[Damage], shape: fn(&mut Random) -> Shape) -> (Lent, u32) {
-    for _ in 0..200 {
+    for _ in 0..1_000 {
         let shape = shape(random);
         let mut lent = sound(random, shape);
         let mut address = random.below(shape.p) as u32;
@@ -516,6 +570,7 @@ pub fn noise(random: &mut Random) -> Lent {
     let mut number = |good: &[u64]| if random.below(12) == 0 { wild(random) } else { pick(random, good) };
     let [b, p, m, d, n] = [number(&[64, 64, 128]), number(&[1, 2, 3, 4]), number(&[1, 2, 3, 4]), number(&[1, 2, 3]), number(&[0, 1, 2, 3])];
     let counters = std::array::from_fn(|_| number(&[0, 1, 77, 1 << 63]));
+    let t = number(&[1, 1, m, m]);
     let mut length = |one: u64, two: u64| {
         let exact = one.checked_mul(two).filter(|length| *length < 20_000).unwrap_or(two.min(64)) as usize;
         match random.below(40) {
@@ -532,7 +587,7 @@ pub fn noise(random: &mut Random) -> Lent {
         (0..length).map(|_| kinds[1 - kind][random.below(8)]).collect()
     };
     let mut lent = Lent {
-        state: Numbers { b, p, m, d, n, counters, label: any_label(random) }.to_bytes(),
+        state: Numbers { b, p, m, d, n, counters, label: any_label(random), t }.to_bytes(),
         disk: bytes(random, lengths[0]),
         flash: bytes(random, lengths[1]),
         addresses: few(random, lengths[2]),
@@ -560,6 +615,19 @@ pub fn noise(random: &mut Random) -> Lent {
                 row[..32].fill(0);
             }
         }
+        share_a_block(random, &mut lent, n);
     }
     lent
+}
+
+/// Half of the time the held rows get addresses of their own and the fingerprint of the last block row, so that dirty ones have their block.
+fn share_a_block(random: &mut Random, lent: &mut Lent, n: u64) {
+    let Some(last) = lent.blocks.chunks_exact(ROW).last().filter(|_| random.below(2) == 0) else {
+        return;
+    };
+    for (k, row) in lent.addresses.chunks_exact_mut(ROW).enumerate().take_while(|(k, _)| (*k as u64) < n) {
+        row[0] = k as u8;
+        row[4..36].copy_from_slice(&last[..32]);
+        row[36] = random.below(2) as u8;
+    }
 }

@@ -27,7 +27,7 @@ extern "C" {
     fn mindavehu_look(s: P, sl: usize, address: u32, d: P, dl: usize, f: P, fl: usize, a: P, al: usize, b: P, bl: usize, w: M, wl: usize) -> u32;
     fn mindavehu_manager_report(s: P, sl: usize, d: P, dl: usize, f: P, fl: usize, a: P, al: usize, b: P, bl: usize, r: M, rl: usize) -> u32;
     fn mindavehu_desk_report(s: P, sl: usize, d: P, dl: usize, f: P, fl: usize, a: P, al: usize, b: P, bl: usize, r: M, rl: usize) -> u32;
-    fn mindavehu_scores(b: usize, p: usize, m: usize, d: usize, l: P, ll: usize, disk: P, dl: usize, k: usize, c: M, cl: usize) -> u32;
+    fn mindavehu_scores(b: usize, p: usize, m: usize, d: usize, t: usize, l: P, ll: usize, disk: P, dl: usize, k: usize, c: M, cl: usize) -> u32;
 }
 
 /// The buffers of a call in their order: state, disk, flash, address table, block table, lent block, answer and, where a box has all of its own, the label
@@ -96,9 +96,9 @@ pub fn call_report(report: Report, lent: &mut Lent, bytes: &mut [u8]) -> u32 {
 }
 
 fn question_on_slices(q: &Question, label: &[u8], disk: &[u8], counts: &mut [u8]) -> u32 {
-    let Question { b, p, m, d, k, .. } = *q;
+    let Question { b, p, m, d, t, k, .. } = *q;
     // SAFETY: each pointer comes with the length of its own slice.
-    unsafe { mindavehu_scores(b, p, m, d, label.as_ptr(), label.len(), disk.as_ptr(), disk.len(), k, counts.as_mut_ptr(), counts.len()) }
+    unsafe { mindavehu_scores(b, p, m, d, t, label.as_ptr(), label.len(), disk.as_ptr(), disk.len(), k, counts.as_mut_ptr(), counts.len()) }
 }
 
 /// The counts of an exam question.

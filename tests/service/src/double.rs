@@ -149,6 +149,8 @@ reports! {
 }
 
 #[no_mangle]
-unsafe extern "C" fn mindavehu_scores(b: usize, p: usize, m: usize, d: usize, l: P, ll: usize, disk: P, dl: usize, k: usize, c: M, cl: usize) -> u32 {
-    engines::scores::scores([b, p, m, d], from_raw_parts(l, ll), from_raw_parts(disk, dl), k, from_raw_parts_mut(c, cl))
+unsafe extern "C" fn mindavehu_scores(
+    b: usize, p: usize, m: usize, d: usize, t: usize, l: P, ll: usize, disk: P, dl: usize, k: usize, c: M, cl: usize,
+) -> u32 {
+    engines::scores::scores([b, p, m, d, t], from_raw_parts(l, ll), from_raw_parts(disk, dl), k, from_raw_parts_mut(c, cl))
 }

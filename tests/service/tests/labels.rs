@@ -2,16 +2,13 @@
 //! between two calls.
 use common::Random;
 use model::{fingerprint, read_tables, Answer, Call, Fingerprint, Label, Lent, Numbers};
-use model::{BLOCK_SIZES, CALLS, HIT, LABEL, ROW, SAME, STATE, ZEROS};
+use model::{BLOCK_SIZES, CALLS, HIT, LABEL, ROW, SAME, STATE, STATE_LABEL, ZEROS};
 use service::asked::{answered, ask, Asked};
-use service::boxes::{any_label, damage, fill, folder, office, pick, pick_call, sound, unopened, Contents, Shape, DAMAGES};
+use service::boxes::{any_label, damage, fill, folder, office, pick, pick_call, sound, unopened, Contents, Counts, Shape, DAMAGES};
 use service::calls::call;
 use service::compare::{compare, compare_many};
 use service::progress::{count, seed, Progress};
 use std::collections::HashSet;
-
-/// The place of the label in the state.
-const PLACE: usize = STATE - LABEL;
 
 /// The fingerprints of the held rows and of the used block rows, in the order of the rows.
 fn fingerprints(lent: &Lent) -> Vec<Fingerprint> {
@@ -23,7 +20,7 @@ fn fingerprints(lent: &Lent) -> Vec<Fingerprint> {
 /// A box with zeros for its label and for each fingerprint: what two offices with equal pages have in common.
 fn without_fingerprints(lent: &Lent) -> Lent {
     let mut lent = lent.clone();
-    lent.state[PLACE..].fill(0);
+    lent.state[STATE_LABEL].fill(0);
     lent.label.fill(0);
     lent.addresses.chunks_exact_mut(ROW).for_each(|row| row[4..36].fill(0));
     lent.blocks.chunks_exact_mut(ROW).for_each(|row| row[..32].fill(0));
@@ -57,7 +54,7 @@ fn two_offices(random: &mut Random, shape: Shape, length: usize, met: &mut Met, 
     let mut one = unopened(random, shape, &contents);
     let (mut two, mut twin) = (one.clone(), one.clone());
     two.label = other_label(random, office(&one)).to_vec();
-    fill(random, &mut twin.state[PLACE..]);
+    fill(random, &mut twin.state[STATE_LABEL]);
     assert_eq!([&mut one, &mut two, &mut twin].map(|lent| call(Call::Open, 0, lent)), [0; 3]);
     let (mut of_one, mut of_two) = (HashSet::new(), HashSet::new());
     for turn in 0..length {
@@ -147,11 +144,12 @@ fn every_bit_of_a_label() {
 fn after_refused(before: &Lent) -> Lent {
     let mut expected = before.clone();
     expected.state[32..40].fill(0);
-    expected.state[PLACE..].fill(0);
+    expected.state[STATE_LABEL].fill(0);
     expected
 }
 
-/// Every length of a label up to 200, alone and with numbers that are refused with 1 before it; each other length that is not right; a number outside its set.
+/// Every length of a label up to 200, alone and with numbers that are refused with 1 or 12 before it; each other length that is not right; a number outside its
+/// set.
 #[test]
 fn refused_openings() {
     let seed = seed(603);
@@ -171,7 +169,9 @@ fn refused_openings() {
             let label = vec![0x33; length];
             opened(Lent { label: label.clone(), ..before.clone() }, 2, &format!("a label of {length} bytes"));
             let state = Numbers { m: 1_025, ..before.numbers() }.to_bytes();
-            opened(Lent { label, state, ..before.clone() }, 1, &format!("m is 1,025, and a label of {length} bytes"));
+            opened(Lent { label: label.clone(), state, ..before.clone() }, 1, &format!("m is 1,025, and a label of {length} bytes"));
+            let state = Numbers { t: 4, ..before.numbers() }.to_bytes();
+            opened(Lent { label, state, ..before.clone() }, 12, &format!("the limit is 4, and a label of {length} bytes"));
         }
         opened(Lent { disk: vec![0; 4 * b + 1], ..before.clone() }, 2, "the disk's length");
         opened(Lent { flash: vec![0; b], ..before.clone() }, 2, "the flash's length");
@@ -182,7 +182,8 @@ fn refused_openings() {
     println!("{openings} refused openings leave n = 0, a label of zeros and all other bytes (seed {seed})");
 }
 
-/// A state that has not 136 bytes is not looked at, and the label is not put there; the 72 bytes of a state without a label are no state.
+/// A state that has not 144 bytes is not looked at, and the label is not put there; the 72 bytes of a state without a label, and the 136 of one without a
+/// limit, are no state.
 #[test]
 fn states_of_other_lengths() {
     for length in (0..STATE).chain([STATE + 1, STATE + 8, 200, 2 * STATE]) {
@@ -197,7 +198,7 @@ fn states_of_other_lengths() {
             }
         }
     }
-    println!("states of 0 to 135 bytes and of more than 136 give 2 and keep their bytes");
+    println!("states of 0 to 143 bytes and of more than 144 give 2 and keep their bytes");
 }
 
 /// After a refused opening of a box without rows the label is zeros, and the calls that follow hash with it; an opening gives the box its label again.
@@ -215,7 +216,7 @@ fn zeros_after_a_refused_opening() {
         lent.label.clone_from(&label);
         assert_eq!(call(Call::Open, 0, &mut lent), 0);
     }
-    assert_eq!(lent.state[PLACE..], label);
+    assert_eq!(lent.state[STATE_LABEL], label);
     println!("reads under the label of zeros that a refused opening leaves, and under the label of the next opening");
 }
 
@@ -224,7 +225,7 @@ fn zeros_after_a_refused_opening() {
 fn calls_keep_the_label() {
     let (seed, total) = (seed(604), count(30_000));
     let mut random = Random(seed);
-    let mut numbers = [0; 11];
+    let mut numbers = Counts::default();
     let mut progress = Progress::new("calls keep the label", total);
     for turn in 0..total {
         let shape = Shape::below(&mut random, Shape { b: 64, p: 10, m: 6, d: 5 });
@@ -243,17 +244,17 @@ fn calls_keep_the_label() {
             let kind = pick_call(&mut random, &CALLS[1..]);
             compare(kind, address, &mut lent, random.below(32), &context)
         };
-        assert_eq!(lent.state[PLACE..], label, "{}", context());
+        assert_eq!(lent.state[STATE_LABEL], label, "{}", context());
         numbers[number as usize] += 1;
         progress.at(turn);
     }
     println!("{total} calls keep the label: {} served, {} refused (seed {seed}, {:.1} s)", numbers[0], total - numbers[0], progress.seconds());
-    assert!([0, 1, 2, 3, 6, 7, 8, 9].iter().all(|number| numbers[*number] > total / 300), "{numbers:?}");
+    assert!([0, 1, 2, 3, 6, 7, 8, 9, 12, 13].iter().all(|number| numbers[*number] > total / 1_000), "{numbers:?}");
 }
 
 /// Changes the label in the state: a byte, all of it, to zeros, to the first label again, or two bytes exchanged.
 fn change_label(random: &mut Random, lent: &mut Lent, first: Label) {
-    let label = &mut lent.state[PLACE..];
+    let label = &mut lent.state[STATE_LABEL];
     match random.below(5) {
         0 => label[random.below(LABEL)] ^= 1 << random.below(8),
         1 => fill(random, label),

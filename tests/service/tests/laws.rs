@@ -1,4 +1,5 @@
-//! What the documents say of a whole list of calls, asked of the running service: the plain disk, the orphan law, flushes in parts and the printed D-LRU.
+//! What the documents say of a whole list of calls, asked of the running service: the plain disk, the orphan law, the limit, flushes in parts and the printed
+//! D-LRU.
 //! The model of the cache takes no part.
 use common::Random;
 use model::machines::{PlainDisk, PrintedDlru};
@@ -34,8 +35,8 @@ fn dirty(lent: &Lent) -> Vec<u32> {
     read_tables(lent).0[..lent.numbers().n as usize].iter().filter(|row| row.dirty == 1).map(|row| row.address).collect()
 }
 
-/// The laws of a state: fingerprints on both sides are those of the blocks under the label of the opening, the two kinds of orphan never occur together, and
-/// the disk is the plain disk where no row is dirty.
+/// The laws of a state: fingerprints on both sides are those of the blocks under the label of the opening, the two kinds of orphan never occur together, at
+/// most t rows are dirty, and the disk is the plain disk where none is.
 fn state_laws(lent: &Lent, plain: &PlainDisk, known: &mut Fingerprints, context: &str) {
     let (rows, blocks) = read_tables(lent);
     let (n, b) = (lent.numbers().n as usize, lent.numbers().b as usize);
@@ -50,6 +51,7 @@ fn state_laws(lent: &Lent, plain: &PlainDisk, known: &mut Fingerprints, context:
     let cached: HashSet<Fingerprint> = used.iter().map(|row| row.fingerprint).collect();
     let wanted: HashSet<Fingerprint> = rows[..n].iter().map(|row| row.fingerprint).collect();
     assert!(cached.is_subset(&wanted) || wanted.is_subset(&cached), "orphan law, {context}");
+    assert!(dirty(lent).len() as u64 <= lent.numbers().t, "dirty rows, {context}");
     assert!(!dirty(lent).is_empty() || plain.is(&lent.disk), "disk where no row is dirty, {context}");
 }
 

@@ -1,6 +1,6 @@
 //! Random lists of calls from fresh boxes: after each call every number and every byte is the model's.
 use common::Random;
-use model::{Answer, Cache, Call, Lent, ManyAnswer, BLOCK_SIZES, CALLS, LABEL, MANY_ANSWER, REPORTS};
+use model::{Answer, Cache, Call, Lent, ManyAnswer, BLOCK_SIZES, CALLS, LABEL, MANY_ANSWER, REPORTS, STATE_LABEL};
 use service::boxes::{any_label, any_seat, bytes, folder, folder_count, most, office, pick, unopened, Contents, Shape};
 use service::calls::{call, call_many, call_report};
 use service::progress::{count, seed, Progress};
@@ -25,8 +25,10 @@ struct Met {
     primary_writes: u64,
     /// Flushes in parts that left a row dirty.
     left_dirty: usize,
-    /// Blocks copied to the disk by a read or a write back, which happens only where a dirty row or block has to go.
+    /// Blocks copied to the disk by a read or a write back, which happens only where a dirty row or block has to go, or for the limit.
     written_back: u64,
+    /// Writes back that leave as many dirty rows as a limit below m allows.
+    at_limit: usize,
     lists: usize,
     reports: usize,
     /// Held rows in them with a seat that is not 0.
@@ -47,8 +49,8 @@ impl Met {
             self.refused[2], self.refused[3]
         );
         println!(
-            "  {} flash writes, {} primary writes, {} of them by reads and writes back",
-            self.flash_writes, self.primary_writes, self.written_back
+            "  {} flash writes, {} primary writes, {} of them by reads and writes back; {} writes back leave as many dirty rows as the limit",
+            self.flash_writes, self.primary_writes, self.written_back, self.at_limit
         );
         println!("  {} flushes in parts left a row dirty; {} reports, {} rows in them with a seat", self.left_dirty, self.reports, self.seats);
         let Folders { calls, reads, hits, fetches } = self.folders;
@@ -159,10 +161,10 @@ fn wrong_length(random: &mut Random, kind: Call, address: u32, lent: &mut Lent) 
 /// Opens a box with a label of a wrong length: refused with 2, n and the state's label are zeros then, and nothing else is another.
 fn wrong_label(random: &mut Random, lent: &mut Lent) {
     let label = lent.label.clone();
-    lent.label.resize(pick(random, &[0, 1, 32, 63, 65, 72, 128, 136]), 0);
+    lent.label.resize(pick(random, &[0, 1, 32, 63, 65, 72, 128, 136, 144]), 0);
     let mut expected = lent.clone();
     expected.state[32..40].fill(0);
-    expected.state[72..].fill(0);
+    expected.state[STATE_LABEL].fill(0);
     assert_eq!(call(Call::Open, 0, lent), 2);
     assert_eq!(lent.difference(&expected), None);
     lent.label = label;
@@ -184,7 +186,7 @@ fn list(random: &mut Random, shape: Shape, length: usize, met: &mut Met) {
         wrong_label(random, &mut lent);
         met.refused[2] += 1;
     }
-    let mut cache = Cache::fresh(b, p, m, d, office(&lent), lent.disk.clone(), lent.flash.clone());
+    let mut cache = Cache::fresh(b, p, m, d, lent.numbers().t as usize, office(&lent), lent.disk.clone(), lent.flash.clone());
     let (block, answer) = (lent.block.clone(), lent.answer.clone());
     assert_eq!(call(Call::Open, 0, &mut lent), 0, "opening {shape:?}");
     assert_eq!(cache.difference(&lent), None, "opening {shape:?}");
@@ -228,8 +230,11 @@ fn list(random: &mut Random, shape: Shape, length: usize, met: &mut Met) {
                 if matches!(kind, Call::Read | Call::Back(_)) {
                     met.written_back += expected.second;
                 }
+                if matches!(kind, Call::Back(_)) {
+                    met.at_limit += (cache.t < m && cache.dirty().len() == cache.t) as usize;
+                }
                 if matches!(kind, Call::FlushSome(_)) {
-                    met.left_dirty += cache.rows().iter().any(|(_, row)| row.dirty) as usize;
+                    met.left_dirty += !cache.dirty().is_empty() as usize;
                 }
             }
         }
@@ -259,6 +264,7 @@ fn small_boxes() {
     }
     met.show("small boxes", seed, &progress);
     assert!(met.folders.hits + met.folders.fetches < met.folders.reads, "no repeat missed");
+    assert!(met.at_limit > total / 50, "{} writes back at the limit", met.at_limit);
 }
 
 #[test]
@@ -318,7 +324,7 @@ fn largest_boxes() {
         answer: vec![0; 24],
         label: bytes(&mut random, LABEL),
     };
-    let mut cache = Cache::fresh(b, p, m, d, office(&lent), vec![0; p * b], vec![0; d * b]);
+    let mut cache = Cache::fresh(b, p, m, d, m, office(&lent), vec![0; p * b], vec![0; d * b]);
     assert_eq!(call(Call::Open, 0, &mut lent), 0);
     // Each kind of write has a content of its own, so that the second write back saves an unchanged page.
     for k in [1, 2, 6, 3, 7, 6, 3, 1, 5, 4, 6, 1] {

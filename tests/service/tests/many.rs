@@ -2,8 +2,8 @@
 //! call every number and every byte is the model's. Folders in lists from fresh boxes are in `lists` and `laws`.
 use common::Random;
 use model::{carry_out, fingerprint, read_tables, refusal_many, AddressRow, BlockRow, Call, Folder, Label, Lent, ManyAnswer, Numbers};
-use model::{BLOCK_SIZES, LABEL, MANY_CHECKS, MOST_COUNTED, ROW, STATE};
-use service::boxes::{bytes, damage, few_addresses, fill, folder, folder_count, noise, pick, sound, sound_at, Damage, Shape, DAMAGES};
+use model::{BLOCK_SIZES, LABEL, MANY_CHECKS, MOST_COUNTED, ROW, STATE_LABEL, STATE_LIMIT};
+use service::boxes::{bytes, damage, few_addresses, fill, folder, folder_count, noise, pick, sound, sound_at, Counts, Damage, Shape, DAMAGES};
 use service::calls::{call, call_many};
 use service::compare::compare_many;
 use service::progress::{count, seed, Progress};
@@ -26,7 +26,7 @@ fn made(p: usize, m: usize, d: usize, held: &[(u32, u8, u8)], used: &[(u8, u8)])
     let mut flash: Vec<u8> = used.iter().flat_map(|(_, stored)| [*stored; B]).collect();
     flash.resize(d * B, 0xAA);
     Lent {
-        state: Numbers { b: B as u64, p: p as u64, m: m as u64, d: d as u64, n: held.len() as u64, counters: [0; 4], label: OFFICE }.to_bytes(),
+        state: Numbers { b: B as u64, p: p as u64, m: m as u64, d: d as u64, n: held.len() as u64, counters: [0; 4], label: OFFICE, t: m as u64 }.to_bytes(),
         disk: (0..p).flat_map(|k| [k as u8; B]).collect(),
         flash,
         addresses,
@@ -223,7 +223,7 @@ fn wrong_buffer(random: &mut Random, count: usize, b: usize) -> usize {
 
 /// A box and a folder with all of these wrong, made of as many boxes as it takes.
 fn wrong(random: &mut Random, wrongs: &[Wrong]) -> (Lent, Folder) {
-    for _ in 0..200 {
+    for _ in 0..1_000 {
         let b = pick(random, &[64, 64, 64, 128, 256]);
         let shape = Shape::below(random, Shape { b, p: 10, m: 6, d: 5 });
         let mut lent = sound(random, shape);
@@ -262,7 +262,7 @@ fn first_number(some: &[Wrong]) -> u32 {
     MANY_CHECKS.into_iter().find(|number| numbers.contains(number)).unwrap_or(0)
 }
 
-fn try_wrong(random: &mut Random, some: &[Wrong], numbers: &mut [usize; 11], seed: u64) {
+fn try_wrong(random: &mut Random, some: &[Wrong], numbers: &mut Counts, seed: u64) {
     // A folder is not empty and too long at once, and an empty one has no address.
     if some.contains(&Wrong::Empty) && (some.contains(&Wrong::TooMany) || some.contains(&Wrong::Address)) {
         return;
@@ -273,7 +273,7 @@ fn try_wrong(random: &mut Random, some: &[Wrong], numbers: &mut [usize; 11], see
     numbers[number as usize] += 1;
 }
 
-fn show_numbers(name: &str, numbers: &[usize; 11], seed: u64, progress: &Progress) {
+fn show_numbers(name: &str, numbers: &Counts, seed: u64, progress: &Progress) {
     let refused: Vec<String> = MANY_CHECKS.iter().map(|number| format!("{number}: {}", numbers[*number as usize])).collect();
     println!("{name}: folders refused with {}; served {} (seed {seed}, {:.1} s)", refused.join(", "), numbers[0], progress.seconds());
     assert!(MANY_CHECKS.iter().all(|number| numbers[*number as usize] > 0));
@@ -284,7 +284,7 @@ fn show_numbers(name: &str, numbers: &[usize; 11], seed: u64, progress: &Progres
 fn refusals() {
     let (seed, turns) = (seed(503), count(60));
     let mut random = Random(seed);
-    let mut numbers = [0; 11];
+    let mut numbers = Counts::default();
     let all: Vec<Wrong> = wrongs().into_iter().map(|(wrong, _)| wrong).collect();
     let mut progress = Progress::new("refused folders", turns);
     for turn in 0..turns {
@@ -303,7 +303,7 @@ fn refusals() {
     show_numbers("each wrong thing, every two and more", &numbers, seed, &progress);
 }
 
-/// A state that has not 136 bytes or an answer that has not 32 gives 2, whatever else is wrong.
+/// A state that has not 144 bytes or an answer that has not 32 gives 2, whatever else is wrong.
 #[test]
 fn other_lengths_of_state_and_answer() {
     let (seed, turns) = (seed(504), count(3_000));
@@ -313,10 +313,10 @@ fn other_lengths_of_state_and_answer() {
         let some: Vec<Wrong> = (0..random.below(3)).map(|_| pick(&mut random, &all)).collect();
         let (mut lent, mut many) = wrong(&mut random, &some);
         if random.below(2) == 0 {
-            let length = pick(&mut random, &[0, 1, 8, 40, 64, 71, 72, 72, 73, 128, 135, 137, 144, 200, 272]);
+            let length = pick(&mut random, &[0, 1, 8, 40, 64, 71, 72, 72, 73, 128, 135, 136, 136, 143, 145, 200, 272, 288]);
             lent.state.resize(length, 0);
         } else {
-            let length = pick(&mut random, &[0, 1, 8, 24, 24, 31, 33, 40, 72, 136]);
+            let length = pick(&mut random, &[0, 1, 8, 24, 24, 31, 33, 40, 72, 136, 144]);
             many.answer = bytes(&mut random, length);
         }
         assert_eq!(compare_many(&mut lent, &mut many, random.below(32), &|| format!("{some:?}, seed {seed}")), 2, "{some:?}, seed {seed}");
@@ -324,12 +324,12 @@ fn other_lengths_of_state_and_answer() {
     println!("states and answers of other lengths: {turns} folders give 2 (seed {seed})");
 }
 
-/// One to three bytes of a sound box changed anywhere in the state, the label among it, or the tables; and any numbers and bytes.
+/// One to three bytes of a sound box changed anywhere in the state, the label and the limit among it, or the tables; and any numbers and bytes.
 #[test]
 fn changed_and_any_bytes() {
     let (seed, total) = (seed(505), count(35_000));
     let mut random = Random(seed);
-    let mut numbers = [0; 11];
+    let mut numbers = Counts::default();
     let mut progress = Progress::new("folders on changed bytes", total);
     for turn in 0..total {
         let b = pick(&mut random, &[64, 64, 64, 128]);
@@ -344,10 +344,11 @@ fn changed_and_any_bytes() {
             (lent, some, shape.b)
         };
         for _ in 0..if turn % 3 == 0 { 0 } else { 1 + random.below(3) } {
-            let buffer = match random.below(6) {
-                0 => &mut lent.state[..STATE - LABEL],
-                1 => &mut lent.state[STATE - LABEL..],
-                2 | 3 => &mut lent.addresses[..],
+            let buffer = match random.below(7) {
+                0 => &mut lent.state[..STATE_LABEL.start],
+                1 => &mut lent.state[STATE_LABEL],
+                2 => &mut lent.state[STATE_LIMIT][..[1, 8][random.below(2)]],
+                3 | 4 => &mut lent.addresses[..],
                 _ => &mut lent.blocks[..],
             };
             let place = random.below(buffer.len());

@@ -25,7 +25,7 @@ fn sharings(p: usize) -> Vec<Vec<usize>> {
 fn asked(random: &mut Random, [p, m, d, k]: [usize; 4], contents: &[usize]) -> Question {
     let blocks: Vec<Vec<u8>> = (0..p).map(|_| bytes(random, 64)).collect();
     let disk = contents.iter().flat_map(|content| blocks[*content].clone()).collect();
-    Question { b: 64, p, m, d, label: any_label(random).to_vec(), disk, k, counts: bytes(random, COUNTS) }
+    Question { b: 64, p, m, d, t: 1 + random.below(m), label: any_label(random).to_vec(), disk, k, counts: bytes(random, COUNTS) }
 }
 
 /// The counts in the bytes.
@@ -63,7 +63,7 @@ fn every_small_box() {
 /// A box opened by the service over the question's disk.
 fn opened(q: &Question) -> Lent {
     let label: [u8; LABEL] = q.label[..].try_into().unwrap();
-    let numbers = Numbers { b: q.b as u64, p: q.p as u64, m: q.m as u64, d: q.d as u64, n: 7, counters: [7; 4], label };
+    let numbers = Numbers { b: q.b as u64, p: q.p as u64, m: q.m as u64, d: q.d as u64, n: 7, counters: [7; 4], label, t: q.t as u64 };
     let [flash, addresses, blocks] = [q.d * q.b, q.m * ROW, q.d * ROW].map(|length| vec![0xA5; length]);
     let disk = q.disk.clone();
     let mut lent = Lent { state: numbers.to_bytes(), disk, flash, addresses, blocks, block: vec![0; q.b], answer: vec![0; ANSWER], label: q.label.clone() };
@@ -155,7 +155,9 @@ fn any(random: &mut Random) -> Question {
     let [d, k] = [near(random, &[1, 2, 3, 256]), near(random, &[0, 1, 4, 5, 8])];
     let disk = p.checked_mul(b).filter(|length| *length < 1 << 20).unwrap_or(256);
     let [label, disk, counts] = [LABEL, disk, COUNTS].map(|right| length(random, right)).map(|length| bytes(random, length));
-    Question { b, p, m, d, label, disk, k, counts }
+    let any = 1 + random.below(m.clamp(1, 1024));
+    let t = near(random, &[1, any, m.max(1)]);
+    Question { b, p, m, d, t, label, disk, k, counts }
 }
 
 /// Numbers, lengths and k, right and wrong in any mixture: the number, the nine counts or zeros, and no byte elsewhere.
@@ -178,7 +180,7 @@ fn any_question() {
         *numbers.entry(number).or_insert(0) += 1;
         progress.at(done);
     }
-    assert!([0, 1, 2, 17].iter().all(|number| numbers.get(number).is_some_and(|count| *count > total / 50)) && numbers.len() == 4, "{numbers:?}");
+    assert!([0, 1, 2, 12, 17].iter().all(|number| numbers.get(number).is_some_and(|count| *count > total / 50)) && numbers.len() == 5, "{numbers:?}");
     println!("{total} questions from the seed 123; how many got each number: {numbers:?}, in {:.0} s", progress.seconds());
 }
 
@@ -199,6 +201,15 @@ fn the_edges() {
         (Question { m: 1025, ..good.clone() }, 1),
         (Question { d: 257, ..good.clone() }, 1),
         (Question { b: 32, disk: vec![5; 128], ..good.clone() }, 1),
+        (Question { t: 0, ..good.clone() }, 12),
+        (Question { t: 1, ..good.clone() }, 0),
+        (Question { t: 3, ..good.clone() }, 0),
+        (Question { t: 4, ..good.clone() }, 12),
+        (Question { t: (1 << 32) + 1, ..good.clone() }, 12),
+        (Question { t: usize::MAX, ..good.clone() }, 12),
+        (Question { disk: vec![5; 255], t: 0, ..good.clone() }, 12),
+        (Question { k: 9, counts: vec![5; 71], t: 4, ..good.clone() }, 12),
+        (Question { m: 0, t: 0, ..good.clone() }, 1),
         (Question { disk: vec![5; 255], ..good.clone() }, 2),
         (Question { label: vec![0; 63], ..good.clone() }, 2),
         (Question { label: vec![0; 65], ..good.clone() }, 2),

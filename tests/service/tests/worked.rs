@@ -1,5 +1,5 @@
 //! The service on the document's replay, worked states and edges, with the numbers that the document prints.
-use model::{fingerprint, read_tables, word, Answer, Call, Label, Lent, Numbers, LABEL, ROW};
+use model::{fingerprint, read_tables, word, Answer, Call, Label, Lent, Numbers, LABEL, ROW, STATE_LABEL};
 use service::calls::call;
 
 const B: usize = 64;
@@ -7,10 +7,10 @@ const B: usize = 64;
 const OFFICE: Label = [0x4F; LABEL];
 const BEFORE: Label = [0xB7; LABEL];
 
-/// An unopened box whose disk block k has the byte k.
+/// An unopened box without a limit whose disk block k has the byte k.
 fn unopened(b: usize, p: usize, m: usize, d: usize) -> Lent {
     Lent {
-        state: Numbers { b: b as u64, p: p as u64, m: m as u64, d: d as u64, n: 77, counters: [1, 2, 3, 4], label: BEFORE }.to_bytes(),
+        state: Numbers { b: b as u64, p: p as u64, m: m as u64, d: d as u64, n: 77, counters: [1, 2, 3, 4], label: BEFORE, t: m as u64 }.to_bytes(),
         disk: (0..p).flat_map(|k| vec![k as u8; b]).collect(),
         flash: vec![0xAA; d * b],
         addresses: vec![0xBB; m * ROW],
@@ -83,7 +83,7 @@ fn the_replay() {
     let mut lent = fresh(8, 3, 2);
     let expected = ["R 1 miss 1 0", "R 2 miss 1 0", "B 3 01 same 0 0", "R 3 hit 0 0", "R 4 miss 1 0", "R 2 miss 1 1", "F done 0 0", "L 3 disk 0 0"];
     assert_eq!(lines(&mut lent, &REPLAY), expected);
-    assert_eq!(lent.numbers(), Numbers { b: 64, p: 8, m: 3, d: 2, n: 3, counters: [5, 1, 4, 1], label: OFFICE });
+    assert_eq!(lent.numbers(), Numbers { b: 64, p: 8, m: 3, d: 2, n: 3, counters: [5, 1, 4, 1], label: OFFICE, t: 3 });
     assert_eq!(lent.disk[3 * B..4 * B], [1; B]);
     println!("the document's replay: 8 calls and the counters");
 }
@@ -146,10 +146,10 @@ fn edges() {
         let mut expected = lent.clone();
         assert_eq!(call(Call::Open, 0, &mut lent), number, "B = {b}");
         expected.state[32..40].fill(0);
-        expected.state[72..].fill(0);
+        expected.state[STATE_LABEL].fill(0);
         if number == 0 {
             expected.state[40..72].fill(0);
-            expected.state[72..].copy_from_slice(&OFFICE);
+            expected.state[STATE_LABEL].copy_from_slice(&OFFICE);
             expected.addresses.fill(0);
             expected.blocks.fill(0);
             expected.blocks[ROW + 32] = 1;

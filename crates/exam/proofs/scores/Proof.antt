@@ -6,7 +6,7 @@ use Rattle.paper.specs.Engine.{fingerprinting}
 use Rattle.paper.specs.Lent.{split, withLabel}
 use Rattle.paper.specs.Machines.{contentOf}
 use Rattle.parts.specs.declared.BoxRecord.{BoxRecord}
-use Rattle.parts.specs.Rep.{numbersOf, emptyBox}
+use Rattle.parts.specs.Rep.{numbersOf, emptyBox, relabelled}
 use Rattle.exam.specs.Scores.{scores}
 use Rattle.exam.specs.Contract.{questionRefusal}
 use Rattle.exam.specs.QuestionLaws.{Posed, posed}
@@ -16,7 +16,7 @@ use Rattle.exam.proofs.scores.Tie as tie
 
 -- the numbers and the label that are given
 abbrev numbers : tie.Start → Numbers
-numbers s = let a = s .args in record { B = a .size; P = a .blocks; m = a .rows; d = a .slots; label = a .label .now }
+numbers s = let a = s .args in record { B = a .size; P = a .blocks; m = a .rows; d = a .slots; label = a .label .now; t = a .limit }
 
 abbrev start : tie.After-refusal → tie.Start
 start c = c .before .before .before .before
@@ -36,13 +36,12 @@ passed c =
 
 -- the record with the label
 labelled-is : (c : tie.After-with-label) → (let a = start (c .before .before) .args in
-    c .with-label .result ≡ emptyBox (a .size) (a .blocks) (a .rows) (a .slots) (a .label .now))
+    c .with-label .result ≡ emptyBox (a .size) (a .blocks) (a .rows) (a .slots) (a .limit) (a .label .now))
 labelled-is c =
     let made = c .before .before in
     let a = start made .args in
     c .with-label .ensures
-    ∙ ap (λ (x : BoxRecord). record { size = x .size; blocks = x .blocks; rows = x .rows; slots = x .slots; held = x .held; label = a .label .now })
-    (made .before .empty-box .ensures)
+    ∙ ap (λ (x : BoxRecord). relabelled x (a .label .now)) (made .before .empty-box .ensures)
 
 returns : tie.Need-returns
 returns c =

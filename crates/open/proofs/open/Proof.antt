@@ -7,7 +7,7 @@ use lib.ListN.{replicate}
 use borrow.Author.Needs.{needs}
 use Rattle.paper.specs.Lent.{opening, refusal}
 use Rattle.parts.specs.declared.BoxRecord.{BoxRecord}
-use Rattle.parts.specs.Rep.{numbersOf, emptyBox}
+use Rattle.parts.specs.Rep.{numbersOf, emptyBox, relabelled}
 use Rattle.refusals.specs.Given.{countersOf, lent}
 use Rattle.refusals.specs.Sizes.{Opens, opens-with}
 use Rattle.open.proofs.NewBox.{number-kept, number-two, number-none, opening-refused, opening-done}
@@ -22,8 +22,8 @@ start c = made c .before .before .before .before .before .before
 
 -- the number of the check, of the record that was made
 number-is : (c : tie.After-of-opening) → (let a = c .before .before .before .before .before .before .before .before .before .args in
-    c .of-opening .result ≡ refusal (numbersOf (emptyBox (a .size) (a .blocks) (a .rows) (a .slots) (replicate 64 0)))
-    (lent (emptyBox (a .size) (a .blocks) (a .rows) (a .slots) (replicate 64 0)) (a .disk .now) (a .flash .now) (a .addresses .now) (a .table .now) (countersOf (a .c))) opening)
+    c .of-opening .result ≡ refusal (numbersOf (emptyBox (a .size) (a .blocks) (a .rows) (a .slots) (a .limit) (replicate 64 0)))
+    (lent (emptyBox (a .size) (a .blocks) (a .rows) (a .slots) (a .limit) (replicate 64 0)) (a .disk .now) (a .flash .now) (a .addresses .now) (a .table .now) (countersOf (a .c))) opening)
 number-is c =
     let made = c .before .before .before in
     let a = made .before .before .before .before .before .before .args in
@@ -32,10 +32,10 @@ number-is c =
 
 -- what the check leaves
 open-on : (c : tie.Else1) → (let a = start c .args in
-    Opens (emptyBox (a .size) (a .blocks) (a .rows) (a .slots) (replicate 64 0)) (a .disk .now) (a .flash .now) (a .addresses .now) (a .table .now) (countersOf (a .c)))
+    Opens (emptyBox (a .size) (a .blocks) (a .rows) (a .slots) (a .limit) (replicate 64 0)) (a .disk .now) (a .flash .now) (a .addresses .now) (a .table .now) (countersOf (a .c)))
 open-on c =
     let a = start c .args in
-    opens-with (emptyBox (a .size) (a .blocks) (a .rows) (a .slots) (replicate 64 0)) (a .disk .now) (a .flash .now) (a .addresses .now) (a .table .now) (countersOf (a .c)) (sym (number-is (c .before)) ∙ c .if1 .left)
+    opens-with (emptyBox (a .size) (a .blocks) (a .rows) (a .slots) (a .limit) (replicate 64 0)) (a .disk .now) (a .flash .now) (a .addresses .now) (a .table .now) (countersOf (a .c)) (sym (number-is (c .before)) ∙ c .if1 .left)
 
 returns : tie.Need-returns
 returns c =
@@ -43,17 +43,17 @@ returns c =
     let made = at-opening .before .before .before in
     let a = made .before .before .before .before .before .before .args in
     let n = c .before .if1 .taken in
-    opening-refused (a .size) (a .blocks) (a .rows) (a .slots) (a .label .now) (a .disk .now) (a .flash .now) (a .addresses .now) (a .table .now) (a .c) (made .empty-box .result) (made .empty-box .ensures)
+    opening-refused (a .size) (a .blocks) (a .rows) (a .slots) (a .limit) (a .label .now) (a .disk .now) (a .flash .now) (a .addresses .now) (a .table .now) (a .c) (made .empty-box .result) (made .empty-box .ensures)
     (c .unopened .result) (at-opening .of-opening .result) (c .unopened .ensures)
-    (number-kept (a .size) (a .blocks) (a .rows) (a .slots) (a .label .now) (a .disk .now) (a .flash .now) (a .addresses .now) (a .table .now) (a .c) (at-opening .of-opening .result) (number-is at-opening) n) n
+    (number-kept (a .size) (a .blocks) (a .rows) (a .slots) (a .limit) (a .label .now) (a .disk .now) (a .flash .now) (a .addresses .now) (a .table .now) (a .c) (at-opening .of-opening .result) (number-is at-opening) n) n
 
 returns-2 : tie.Need-returns-2
 returns-2 c =
     let at-if1 = c .before .before in
     let a = start at-if1 .args in
-    opening-refused (a .size) (a .blocks) (a .rows) (a .slots) (a .label .now) (a .disk .now) (a .flash .now) (a .addresses .now) (a .table .now) (a .c) (made at-if1 .empty-box .result)
+    opening-refused (a .size) (a .blocks) (a .rows) (a .slots) (a .limit) (a .label .now) (a .disk .now) (a .flash .now) (a .addresses .now) (a .table .now) (a .c) (made at-if1 .empty-box .result)
     (made at-if1 .empty-box .ensures) (c .unopened2 .result) 2 (c .unopened2 .ensures)
-    (number-two (a .size) (a .blocks) (a .rows) (a .slots) (a .label .now) (a .disk .now) (a .flash .now) (a .addresses .now) (a .table .now) (a .c) (at-if1 .before .of-opening .result)
+    (number-two (a .size) (a .blocks) (a .rows) (a .slots) (a .limit) (a .label .now) (a .disk .now) (a .flash .now) (a .addresses .now) (a .table .now) (a .c) (at-if1 .before .of-opening .result)
     (number-is (at-if1 .before)) (at-if1 .if1 .left) (c .before .if2 .taken)) (λ z. absurd (omega (arith, z)))
 
 fresh-addresses-requires : tie.Need-fresh-addresses-requires
@@ -70,10 +70,9 @@ returns-3 c =
     let at-if1 = at-if2 .before in
     let a = start at-if1 .args in
     let b = c .before .with-label .ensures
-    ∙ ap (λ (x : BoxRecord). record { size = x .size; blocks = x .blocks; rows = x .rows; slots = x .slots; held = x .held; label = a .label .now })
-    (made at-if1 .empty-box .ensures) in
-    opening-done (a .size) (a .blocks) (a .rows) (a .slots) (a .label .now) (a .disk .now) (a .flash .now) (a .addresses .now) (a .table .now) (a .c)
-    (number-none (a .size) (a .blocks) (a .rows) (a .slots) (a .label .now) (a .disk .now) (a .flash .now) (a .addresses .now) (a .table .now) (a .c) (at-if1 .before .of-opening .result) (number-is (at-if1 .before))
+    ∙ ap (λ (x : BoxRecord). relabelled x (a .label .now)) (made at-if1 .empty-box .ensures) in
+    opening-done (a .size) (a .blocks) (a .rows) (a .slots) (a .limit) (a .label .now) (a .disk .now) (a .flash .now) (a .addresses .now) (a .table .now) (a .c)
+    (number-none (a .size) (a .blocks) (a .rows) (a .slots) (a .limit) (a .label .now) (a .disk .now) (a .flash .now) (a .addresses .now) (a .table .now) (a .c) (at-if1 .before .of-opening .result) (number-is (at-if1 .before))
     (at-if1 .if1 .left) (at-if2 .if2 .left)) (c .before .with-label .result) b (at-addresses .fresh-addresses .last .0) (at-blocks .fresh-blocks .last .0)
     (c .no-counts .result) (at-addresses .fresh-addresses .ensures) (at-blocks .fresh-blocks .ensures) (c .no-counts .ensures)
 

@@ -21,7 +21,7 @@ returns c =
     let f = at-fill .fill in
     let o = at-open .«open» in
     let l = s .pre .1 in
-    start-is (o .result) (a .b) (d .last .0) (f .last .0) (o .last .1 .1 .1 .1 .1 .1 .1 .0) (o .last .1 .1 .1 .1 .1 .1 .1 .1 .0) (a .addresses .now)
+    start-is (o .result) (a .b) (d .last .0) (f .last .0) (o .last .1 .1 .1 .1 .1 .1 .1 .1 .0) (o .last .1 .1 .1 .1 .1 .1 .1 .1 .1 .0) (a .addresses .now)
     (a .blocks .now) _ (s .pre .0 .2) (d .kept .0 ∙ l .0) (f .kept .0 ∙ l .1) (l .2) (l .3) (label-long s) (d .ensures)
     (f .ensures ∙ ap (λ k. replicate k 0) (l .1)) (o .ensures)
 

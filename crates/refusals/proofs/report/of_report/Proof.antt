@@ -10,7 +10,8 @@ use Rattle.paper.specs.Cache.{Counters, noCounts}
 use Rattle.parts.specs.Rep.{numbersOf}
 use Rattle.refusals.specs.Given.{lent}
 use Rattle.refusals.specs.Sizes.{Opens, opens-with}
-use Rattle.refusals.proofs.Reporting.{report-first, report-2, report-rest}
+use Rattle.refusals.proofs.Refusing.{report-first}
+use Rattle.refusals.proofs.Reporting.{report-2, report-rest}
 use Rattle.refusals.proofs.report.of_report.Statement.{statement}
 use Rattle.refusals.proofs.report.of_report.Tie as tie
 

@@ -4,10 +4,9 @@ use mathlib.Core.List.{[]}
 use native.Mathlib.Omega.{arith}
 use borrow.Author.Needs.{needs}
 use Rattle.block.specs.Blocks.{splice}
-use Rattle.paper.specs.Lent.{unfit}
 use Rattle.parts.specs.Rep.{numbersOf}
 use Rattle.refusals.specs.Given.{countersOf}
-use Rattle.answers.specs.Replay.{boxNumbers, started}
+use Rattle.answers.specs.Replay.{Opening, boxNumbers, started}
 use Rattle.session.specs.Memory.{memory, over, stateIn, stored, Holds}
 use Rattle.session.specs.MemoryLaws.{opened-fits}
 use Rattle.session.specs.BufferLaws.{over-same}
@@ -32,7 +31,7 @@ open-box-requires c κs =
     let a = c .before .before .before .before .before .before .before .before .before .before .before .before .args in
     let e = c .before .before .before .before .box-of .ensures in
     let f = opened-fits (a .c) (sym (c .before .before .before .before .before .before .box-refusal .ensures) ∙ c .before .before .before .before .before .if1 .left) in
-    (subst Holds (sym e) (f .1), (ap (λ b. unfit (numbersOf b)) e ∙ f .0, c .before .before .before .before .before .before .before .before .before .before .before .before .pre .0))
+    (subst Holds (sym e) (f .1), (subst (λ b. Opening (numbersOf b)) (sym e) (f .0), c .before .before .before .before .before .before .before .before .before .before .before .before .pre .0))
 
 returns-2 : tie.Need-returns-2
 unfolding stateIn splice
