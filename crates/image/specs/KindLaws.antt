@@ -50,6 +50,9 @@ module _ (forms : ℕ → Option Form) (f : Form) (x : Fields) (area : List ℕ)
       let e : forms (le4 body 0) ≡ some f = ap forms (first-back x (h .numbered) (h .fits .small)) ∙ h .form in
       rw e (body-passes f x (h .fits) (h .passes))
 
+  pub form-found : forms (le4 (bodyIn (applied (saveWrites body) area)) 0) ≡ some f
+  form-found = ap (λ y. forms (le4 y 0)) (body-found body area fits-32 has-room) ∙ ap forms (first-back x (h .numbered) (h .fits .small)) ∙ h .form
+
   -- a restore of a complete save is not refused by the area, and reads the fields
   pub saved-found : (imageRefusal forms (applied (saveWrites body) area) ≡ 0) × (fieldsIn f (bodyIn (applied (saveWrites body) area)) ≡ x)
   saved-found =
