@@ -26,7 +26,8 @@ use Rattle.paper.specs.PlainDisk.{clean-is-plain}
 use Rattle.paper.specs.FewWrites.{one-if-le, few-by}
 use Rattle.paper.specs.Parts.{length-split, join-split}
 use Rattle.paper.specs.LentLaws.{Lengths, right-lengths, Passes, passes-sound, sound-passes, lent-back}
-use Rattle.paper.specs.CallLaws.{about-call, Grown, In64, not-over}
+use Rattle.hash.specs.LastChunk.{Size}
+use Rattle.paper.specs.CallLaws.{seven, about-call, Grown, In64, not-over}
 use Rattle.paper.specs.Batch.{start, firstRead, source, blocksIn}
 use Rattle.paper.specs.BatchLent as Folders
 use Rattle.paper.specs.BatchLent.{Asking, one, many, report, badCount, anyOutside}
@@ -52,6 +53,7 @@ use Rattle.arc.specs.ArcDemand.{arcWrites, arcWritten, ArcShows, ArcAsRe
 
 -- numbers that pass 11
 pub record ArcFits (Z : Sizes) : Type 0 where
+  pub B-size : Size (Z .B)
   pub P-most : Z .P ≤ 65536
   pub C-least : 1 ≤ Z .C
   pub C-most : Z .C ≤ 256
@@ -68,6 +70,7 @@ arc-fits Z h =
     let p = not-false (between 1 65536 (Z .P)) (or-false-right a b (or-false-left (a || b) c h₃)) in
     let m = not-false (between 1 256 (Z .C)) (or-false-right (a || b) c h₃) in
     record {
+      B-size = seven (Z .B) (not-false _ (or-false-left a b (or-false-left (a || b) c h₃)));
       P-most = leb-true (Z .P) 65536 (and-right (leb 1 (Z .P)) (leb (Z .P) 65536) p);
       C-least = leb-true 1 (Z .C) (and-left (leb 1 (Z .C)) (leb (Z .C) 256) m);
       C-most = leb-true (Z .C) 256 (and-right (leb 1 (Z .C)) (leb (Z .C) 256) m);

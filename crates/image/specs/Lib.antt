@@ -12,3 +12,4 @@ pub mod AreaLaws
 pub mod ImageLaws
 pub mod KindLaws
 pub mod SavedLaws
+pub mod BoxLaws

@@ -12,6 +12,7 @@ use Rattle.paper.specs.KeyedLaws.{or-both, or-false-left}
 use Rattle.paper.specs.Engine.{Fixed, labelled}
 use Rattle.paper.specs.Lent.{opening, otherLength, limitOutside, wrongBuffers, over, fresh}
 use Rattle.paper.specs.BatchLent.{Asking, one, many, report}
+use Rattle.paper.specs.LentLaws.{label-right}
 use Rattle.paper.specs.BatchLentLaws.{right-buffers}
 use Rattle.paper.specs.Demand3.{saidWord}
 use Rattle.arc.specs.Policy.{Policy}
@@ -30,7 +31,7 @@ use Rattle.limits.specs.AsWithout.{single, folder, number, hitsSaid, arc
 use Rattle.limits.specs.Beside.{capped, Beside, beside-itself}
 use Rattle.limits.specs.Until.{State, refusedShown, numberBy, Inside, servedShown, servedState, Serves, until-nine}
 use Rattle.limits.specs.ArcSees.{arc-parallel}
-use Rattle.limits.specs.Unlimited.{unlimited-unfit-arc, unlimited-limit, unlimited-buffers, label-right, unlimited-box, fresh-rows, arc-capped}
+use Rattle.limits.specs.Unlimited.{unlimited-unfit-arc, unlimited-limit, unlimited-buffers, unlimited-box, fresh-rows, arc-capped}
 
 -- ---- the calls of a D-ARC box in lent bytes are those over its policy
 

@@ -9,7 +9,7 @@ use Rattle.paper.specs.Cache.{Numbers, Hashing, Box, counted}
 use Rattle.paper.specs.Engine.{Fixed, labelled}
 use Rattle.paper.specs.Lent.{Lent, opening, callOf, unfit, limitOutside, over, refusal, served, kept, boxIn, lentOf, opened}
 use Rattle.paper.specs.Sound.{Sound}
-use Rattle.paper.specs.LentLaws.{passes-sound}
+use Rattle.paper.specs.LentLaws.{label-right, passes-sound}
 use Rattle.paper.specs.RefusalLaws.{exactly-opening, served-is, refused-keeps, keeps, opened-is}
 use Rattle.paper.specs.CallLaws.{fits, served-finds, served-lent, served-box}
 use Rattle.paper.specs.Reports.{reportRefusal}
@@ -26,7 +26,7 @@ use Rattle.limits.specs.AsWithout.{single, folder, number, hitsSaid, lru
 use Rattle.blind.specs.Blind.{lru-blind}
 use Rattle.limits.specs.Sees.{sees-step}
 use Rattle.limits.specs.Beside.{Parallel, Beside, beside-itself}
-use Rattle.limits.specs.Unlimited.{unlimited-unfit, unlimited-limit, unlimited-buffers, label-right, unlimited-box, unlimited-fresh, fresh-rows}
+use Rattle.limits.specs.Unlimited.{unlimited-unfit, unlimited-limit, unlimited-buffers, unlimited-box, unlimited-fresh, fresh-rows}
 use Rattle.limits.specs.Until.{State, refusedShown, outcomeShown, batchShown, numberBy, Inside, servedShown, servedState, Serves, until-nine}
 
 -- D-LRU promises what two boxes beside each other need

@@ -272,3 +272,7 @@ labelAfter N t = cond (eqb (refusal N t opening) 0) (N .label) (zeros 64)
 -- numbers with another label
 abbrev pub withLabel : Numbers → List ℕ → Numbers
 withLabel N l = record { B = N .B; P = N .P; m = N .m; d = N .d; label = l; t = N .t }
+
+-- lent memory with other counters
+abbrev pub withCounters : Lent → Counters → Lent
+withCounters t k = record { n = t .n; disk = t .disk; flash = t .flash; addresses = t .addresses; blocks = t .blocks; counters = k }

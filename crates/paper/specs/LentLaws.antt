@@ -148,6 +148,15 @@ pub record Lengths (N : Numbers) (t : Lent) : Type 0 where
   pub addresses : length (t .addresses) ≡ tableBytes (N .m)
   pub blocks : length (t .blocks) ≡ tableBytes (N .d)
 
+pub label-right : (N : Numbers) (t : Lent) → wrongBuffers N t ≡ false → length (N .label) ≡ 64
+unfolding wrongBuffers
+label-right N t h =
+    let others = otherLength (t .disk) (N .P * N .B)
+    || otherLength (t .flash) (N .d * N .B)
+    || otherLength (t .addresses) (tableBytes (N .m))
+    || otherLength (t .blocks) (tableBytes (N .d)) in
+    eqb-true (length (N .label)) 64 (not-false (eqb (length (N .label)) 64) (or-false-right others (otherLength (N .label) 64) h))
+
 pub right-lengths : (N : Numbers) (t : Lent) → wrongBuffers N t ≡ false → Lengths N t
 unfolding wrongBuffers
 right-lengths N t h =
