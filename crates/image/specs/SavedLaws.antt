@@ -26,22 +26,22 @@ use Rattle.image.specs.KindLaws.{Savable, saved-found, cut-refused, form
 -- ---- a save
 
 -- a test behind others whose numbers are not 0
-behind : (l : List Test) (x : Test) → oneOf 0 (testNumbers l) ≡ false
+pub first-behind : (l : List Test) (x : Test) → oneOf 0 (testNumbers l) ≡ false
     → first (l ++ (x ∷ [])) ≡ cond (eqb (first l) 0) (cond (x .holds) (x .number) 0) (first l)
-behind [] x h = refl
-behind (y ∷ ys) x h =
+first-behind [] x h = refl
+first-behind (y ∷ ys) x h =
     let own = or-false-left (eqb 0 (y .number)) (oneOf 0 (testNumbers ys)) h in
     let rest = or-false-right (eqb 0 (y .number)) (oneOf 0 (testNumbers ys)) h in
     by-test (y .holds)
     (λ e. rw (e, ne-eqb (y .number) 0 (λ z. eqb-false 0 (y .number) own (sym z))) refl)
-    (λ e. rw e (behind ys x rest))
+    (λ e. rw e (first-behind ys x rest))
 
 module _ {M : Type 0} (k : Saver M) (t : M) (area : List ℕ) where
   -- "in a save after all else": a save gets what its flush gets, and where that gets 0, 14 exactly where the area is too short
   pub save-number : oneOf 0 (testNumbers (k .tests t)) ≡ false
       → saveRefusal k t area ≡ cond (eqb (first (k .tests t)) 0) (cond (tooShort area (length (bodyOf (k .fields t)))) 14 0) (first (k .tests t))
   unfolding saveRefusal
-  save-number = behind (k .tests t) (test (tooShort area (length (bodyOf (k .fields t)))) 14)
+  save-number = first-behind (k .tests t) (test (tooShort area (length (bodyOf (k .fields t)))) 14)
 
   pub save-is : saveRefusal k t area ≡ 0
       → save k t area ≡ record { answer = k .answer t; lent = k .flushed t; area = applied (saveWrites (bodySaved k t)) area }
