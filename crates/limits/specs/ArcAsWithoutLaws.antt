@@ -11,7 +11,8 @@ use Rattle.paper.specs.Cache.{Hashing}
 use Rattle.paper.specs.KeyedLaws.{or-both, or-false-left}
 use Rattle.paper.specs.Engine.{Fixed, labelled}
 use Rattle.paper.specs.Lent.{opening, otherLength, limitOutside, wrongBuffers, over, fresh}
-use Rattle.paper.specs.BatchLent.{Asking, one, many, report}
+use Rattle.paper.specs.LentLaws.{counters-box}
+use Rattle.paper.specs.BatchLent.{Asking, one, many, report, recount}
 use Rattle.paper.specs.BatchLentLaws.{right-buffers}
 use Rattle.paper.specs.Demand3.{saidWord}
 use Rattle.arc.specs.Policy.{Policy}
@@ -57,17 +58,20 @@ module _ (Z : Sizes) (x : Fitting Z) where
   numbered t (one q) p = rw (x .numbers, x .limit, right-arc t p, no-6 Z t p, p .base .blocks, no-8 Z t p, no-13 Z t p) refl
   numbered t (many l buffer) p = rw (x .numbers, x .limit, right-arc t p, no-6 Z t p, p .base .blocks, no-8 Z t p, no-13 Z t p) refl
   numbered t (report w lent) p = rw (x .numbers, x .limit, right-arc t p, no-6 Z t p, p .base .blocks, no-8 Z t p, no-13 Z t p) refl
+  numbered t (recount c) p = refl
 
   inside : (t : ArcLent) (q : Asking) → arcNumber Z t q ≡ 0 → Inside (Z .B) (Z .P) q
   inside t (one q) e = (found Z t q e) .inside
   inside t (many l buffer) e = (folder-found Z t l buffer e) .inside
   inside t (report w lent) e = tt
+  inside t (recount c) e = tt
 
   shows : (t : ArcLent) (q : Asking) → arcNumber Z t q ≡ 0 → arcShows Z t q ≡ servedShown (Z .B) (Z .P) (mOf Z) H (arc H Z) (state t) q
   unfolding arcServed arcServedFolder
   shows t (one q) e = let y = served-is Z t q e in λ j. single (e j) (saidWord (y j .answer)) (arcReturned q (y j))
   shows t (many l buffer) e = let y = folder-served Z t l buffer e in λ j. folder (e j) (hitsSaid (y j .answer)) (y j .buffer)
   shows t (report w lent) e = ap number e
+  shows t (recount c) e = refl
 
   leaves : (t : ArcLent) (q : Asking) → arcNumber Z t q ≡ 0 → state (arcNext Z t q) ≡ servedState (Z .B) (Z .P) (mOf Z) H (arc H Z) (state t) q
   leaves t (one q) e =
@@ -81,6 +85,7 @@ module _ (Z : Sizes) (x : Fitting Z) where
       let c = folder-counters Z t l buffer e in
       λ j. record { kept = k j; box = b j; counters = c j }
   leaves t (report w lent) e = refl
+  leaves t (recount c) e = let b = counters-box (baseNumbers Z) (t .base) c in λ j. record { kept = listsOf t; box = b j; counters = c }
 
   refuses : (t : ArcLent) (q : Asking) → arcNumber Z t q ≢ 0 → arcShows Z t q ≡ refusedShown (arcNumber Z t q) q
   refuses t (one q) z =
@@ -90,11 +95,13 @@ module _ (Z : Sizes) (x : Fitting Z) where
       let y = arc-folder-keeps Z t l buffer z in
       λ j. folder (arcNumber Z t (many l buffer)) (hitsSaid (y j .answer)) (y j .buffer)
   refuses t (report w lent) z = refl
+  refuses t (recount c) z = refl
 
   stays : (t : ArcLent) (q : Asking) → arcNumber Z t q ≢ 0 → arcNext Z t q ≡ t
   stays t (one q) z = ap (λ x. x .lent) (arc-keeps Z t q z)
   stays t (many l buffer) z = ap (λ x. x .lent) (arc-folder-keeps Z t l buffer z)
   stays t (report w lent) z = refl
+  stays t (recount c) z = absurd (z refl)
 
   abbrev arc-kind : (pol : Policy (Fixed 32) (Fixed (Z .B)) Lists) → arc H Z ≡ pol → Serves (Z .B) (Z .P) (mOf Z) H pol (arcKind Z)
   arc-kind pol e =

@@ -9,12 +9,12 @@ use Rattle.paper.specs.Cache.{Numbers, Hashing, Box, counted}
 use Rattle.paper.specs.Engine.{Fixed, labelled}
 use Rattle.paper.specs.Lent.{Lent, opening, callOf, unfit, limitOutside, over, refusal, served, kept, boxIn, lentOf, opened}
 use Rattle.paper.specs.Sound.{Sound}
-use Rattle.paper.specs.LentLaws.{passes-sound}
+use Rattle.paper.specs.LentLaws.{counters-box, passes-sound}
 use Rattle.paper.specs.RefusalLaws.{exactly-opening, served-is, refused-keeps, keeps, opened-is}
 use Rattle.paper.specs.CallLaws.{fits, served-finds, served-lent, served-box}
 use Rattle.paper.specs.Reports.{reportRefusal}
 use Rattle.paper.specs.Batch.{start}
-use Rattle.paper.specs.BatchLent.{Asking, one, many, report, batchRefusal, servedBatch}
+use Rattle.paper.specs.BatchLent.{Asking, one, many, report, recount, batchRefusal, servedBatch}
 use Rattle.paper.specs.BatchLentLaws.{batch-finds, batch-served, batch-keeps, batch-lent, batch-box, right-buffers}
 use Rattle.paper.specs.Demand3.{numberOf, next, returned, saidWord}
 use Rattle.paper.specs.Demand3Laws.{Kept, kept-next, no-13, fresh-kept}
@@ -60,11 +60,13 @@ module _ (N : Numbers) (x : Fitting N) where
   numbered t (report w lent) k =
       let p = k .passes in
       rw (x .numbers, x .limit, right-buffers N t (x .label) p, p .addresses, p .blocks, p .dirty, no-13 N t k) refl
+  numbered t (recount c) k = refl
 
   inside : (t : Lent) (q : Asking) → numberOf N t q ≡ 0 → Inside (N .B) (N .P) q
   inside t (one q) e = (served-finds N t q e) .within
   inside t (many l buffer) e = (batch-finds N t l buffer e) .within
   inside t (report w lent) e = tt
+  inside t (recount c) e = tt
 
   shows : (t : Lent) (q : Asking) → numberOf N t q ≡ 0 → lruShows N t q ≡ servedShown (N .B) (N .P) (N .m) H (lru H N) (state t) q
   unfolding served servedBatch
@@ -75,6 +77,7 @@ module _ (N : Numbers) (x : Fitting N) where
       let y = batch-served N t l buffer e in
       (λ j. folder (e j) (hitsSaid (y j .answer)) (y j .buffer)) ∙ ap batchShown (sym (lru-folder H N (start (boxIn N t) (t .counters)) l))
   shows t (report w lent) e = ap number e
+  shows t (recount c) e = refl
 
   leaves : (t : Lent) (q : Asking) → numberOf N t q ≡ 0 → state (next N t q) ≡ servedState (N .B) (N .P) (N .m) H (lru H N) (state t) q
   unfolding lentOf
@@ -89,6 +92,7 @@ module _ (N : Numbers) (x : Fitting N) where
       let c = ap (λ x. x .counters) (batch-lent N t l buffer e) ∙ ap (λ x. x .counters) r in
       λ j. record { kept = tt; box = b j; counters = c j }
   leaves t (report w lent) e = refl
+  leaves t (recount c) e = let b = counters-box N t c in λ j. record { kept = tt; box = b j; counters = c }
 
   refuses : (t : Lent) (q : Asking) → numberOf N t q ≢ 0 → lruShows N t q ≡ refusedShown (numberOf N t q) q
   unfolding kept
@@ -99,11 +103,13 @@ module _ (N : Numbers) (x : Fitting N) where
       let y = batch-keeps N t l buffer z in
       λ j. folder (numberOf N t (many l buffer)) (hitsSaid (y .answer j)) (y .buffer-kept j)
   refuses t (report w lent) z = refl
+  refuses t (recount c) z = refl
 
   stays : (t : Lent) (q : Asking) → numberOf N t q ≢ 0 → next N t q ≡ t
   stays t (one q) z = keeps N t q z .lent
   stays t (many l buffer) z = batch-keeps N t l buffer z .lent
   stays t (report w lent) z = refl
+  stays t (recount c) z = absurd (z refl)
 
   lru-kind : Serves (N .B) (N .P) (N .m) H (lru H N) (lruKind N)
   lru-kind =

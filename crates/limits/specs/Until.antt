@@ -16,7 +16,7 @@ use Rattle.paper.specs.Lent.{Ask, callOf, aboutAsk, addressOf, lentBlock, count
 use Rattle.paper.specs.Lent.{outside, over}
 use Rattle.paper.specs.Reports.{width}
 use Rattle.paper.specs.Batch.{Batched, start, blocksIn}
-use Rattle.paper.specs.BatchLent.{Asking, one, many, report, badCount, anyOutside}
+use Rattle.paper.specs.BatchLent.{Asking, one, many, report, recount, badCount, anyOutside}
 use Rattle.arc.specs.Policy.{Policy, Served, serveBy}
 use Rattle.arc.specs.Promise.{Promise}
 use Rattle.arc.specs.Folder as Folder
@@ -35,6 +35,7 @@ abbrev pub refusedShown : ℕ → Asking → Shown
 refusedShown k (one q) = single k none (cond (aboutAsk q .reads) (lentBlock q) (cond (aboutAsk q .returns) (some []) none))
 refusedShown k (many l buffer) = folder k none buffer
 refusedShown k (report w lent) = number k
+refusedShown k (recount c) = number k
 
 module _ {F : Type 0} {B : ℕ} where
   abbrev pub outcomeShown : Ask → Outcome F (Fixed B) → Shown
@@ -52,6 +53,7 @@ numberBy B P m o (one q) = first (test (wrongBlock B (lentBlock q)) 2 ∷ test (
 numberBy B P m o (many l buffer) =
     first (test (otherLength buffer (length l * B)) 2 ∷ test (badCount l) 10 ∷ test (anyOutside P l) 3 ∷ test o 9 ∷ [])
 numberBy B P m o (report w lent) = first (test (otherLength lent (m * width w)) 2 ∷ [])
+numberBy B P m o (recount k) = 0
 
 -- where neither is 9 they are the same
 same-number : (B P m : ℕ) (o p : Bool) (q : Asking) → numberBy B P m o q ≢ 9 → numberBy B P m p q ≢ 9 → numberBy B P m o q ≡ numberBy B P m p q
@@ -74,12 +76,14 @@ same-number B P m o p (many l buffer) =
     (λ h. rw h (λ x y. absurd (x refl)))
     (λ h. rw h (by-test p (λ i. rw i (λ x y. absurd (y refl))) (λ i. rw i (λ x y. refl))))))))))
 same-number B P m o p (report w lent) = λ x y. refl
+same-number B P m o p (recount k) = λ x y. refl
 
 -- the addresses asked for are the disk's
 abbrev pub Inside : (B P : ℕ) → Asking → Type 0
 Inside B P (one q) = Within P (callOf B q)
 Inside B P (many l buffer) = All (λ a. a < P) l
 Inside B P (report w lent) = Unit {0}
+Inside B P (recount k) = Unit {0}
 
 module _ {S : Type 0} (B P m : ℕ) (H : Hashing (Fixed 32) (Fixed B)) (pol : Policy (Fixed 32) (Fixed B) S) where
   abbrev pub servedBy : State (Fixed 32) (Fixed B) S → Ask → Served (Fixed 32) (Fixed B) S
@@ -93,6 +97,7 @@ module _ {S : Type 0} (B P m : ℕ) (H : Hashing (Fixed 32) (Fixed B)) (pol : Po
   servedShown s (one q) = outcomeShown q ((servedBy s q) .outcome)
   servedShown s (many l buffer) = batchShown ((folderBy s l) .batched)
   servedShown s (report w lent) = number 0
+  servedShown s (recount k) = number 0
 
   abbrev pub servedState : State (Fixed 32) (Fixed B) S → Asking → State (Fixed 32) (Fixed B) S
   servedState s (one q) =
@@ -102,6 +107,7 @@ module _ {S : Type 0} (B P m : ℕ) (H : Hashing (Fixed 32) (Fixed B)) (pol : Po
       let r = folderBy s l in
       record { kept = r .kept; box = r .batched .box; counters = r .batched .counters }
   servedState s (report w lent) = s
+  servedState s (recount k) = record { kept = s .kept; box = s .box; counters = k }
 
   -- A kind of box whose calls are those over the policy. `Good` is what holds of lent memory in a state reached.
   pub record Serves {M : Type 0} (kind : Kind M) : Type 1 where
@@ -141,6 +147,7 @@ module _ {S : Type 0} (N : Numbers) (pol : Policy (Fixed 32) (Fixed (N .B)) S) (
       (record { same = λ j. record { kept = e j; batched = start (b j) noCounts }; beside = k }) w in
       (ap (λ x. batchShown (x .batched)) (r .same), r .beside)
   near-calls s u (report w lent) k i = (refl, k)
+  near-calls s u (recount c) k i = (refl, k)
 
   module _ {M : Type 0} (a b : Kind M) (sa : Serves (N .B) (N .P) (N .m) H pol a) (sb : Serves (N .B) (N .P) (N .m) H (capped n pol) b) where
     pub record Like (t u : M) : Type 0 where

@@ -17,7 +17,7 @@ use Rattle.paper.specs.Lent.{Ask, refused, answered, callOf, aboutAsk, addressO
 use Rattle.paper.specs.Lent.{Test, test, first, limitOutside, otherLength, wrongBlock, outside, over}
 use Rattle.paper.specs.Reports.{desk, width, reportRow, reportOf}
 use Rattle.paper.specs.Batch.{Batched, start, blocksIn}
-use Rattle.paper.specs.BatchLent.{Asking, one, many, report, badCount, anyOutside, BatchAnswer, batched}
+use Rattle.paper.specs.BatchLent.{Asking, one, many, report, recount, badCount, anyOutside, BatchAnswer, batched}
 use Rattle.arc.specs.Policy.{Policy, Served, serveBy}
 use Rattle.arc.specs.Folder as Folder
 use Rattle.arc.specs.Folder.{FolderBy}
@@ -46,6 +46,7 @@ asking-twice : (q : Asking) → bareAsking (bareAsking q) ≡ bareAsking q
 asking-twice (one q) = ap one (ask-bare q .twice)
 asking-twice (many l buffer) = refl
 asking-twice (report w lent) = refl
+asking-twice (recount k) = refl
 
 -- the desk's report has nothing of the seats
 rows-bare : {F : Type 0} (rows : List (AddressRow F)) → map (reportRow desk) (bares true rows) ≡ map (reportRow desk) rows
@@ -72,6 +73,7 @@ abbrev pub refusedTold : ℕ → Asking → Told
 refusedTold k (one q) = single (refused k) (lentBlock q) []
 refusedTold k (many l buffer) = folder (BatchAnswer.refused k) buffer
 refusedTold k (report w lent) = number k
+refusedTold k (recount c) = number k
 
 module _ {F : Type 0} {B : ℕ} where
   abbrev pub outcomeTold : Ask → Outcome F (Fixed B) → Told
@@ -100,6 +102,7 @@ numberBy N x b k (many l buffer) =
     first (x ∷ test (limitOutside N) 12 ∷ test (b .buffers || otherLength buffer (length l * N .B)) 2 ∷ test (badCount l) 10 ∷ test (anyOutside (N .P) l) 3
     ∷ tableTests b (test (over k) 9 ∷ []))
 numberBy N x b k (report w lent) = first (x ∷ test (limitOutside N) 12 ∷ test (b .buffers || otherLength lent (N .m * width w)) 2 ∷ tableTests b [])
+numberBy N x b k (recount c) = 0
 
 number-bare : (N : Numbers) (x : Test) (b : Tests) (k : Counters) (q : Asking) → numberBy N x b k (bareAsking q) ≡ numberBy N x b k q
 number-bare N x b k (one q) =
@@ -109,11 +112,13 @@ number-bare N x b k (one q) =
     ∷ tableTests b (test (a i .counts && over k) 9 ∷ []))
 number-bare N x b k (many l buffer) = refl
 number-bare N x b k (report w lent) = refl
+number-bare N x b k (recount c) = refl
 
 refused-bare : (k : ℕ) (q : Asking) → refusedTold k (bareAsking q) ≡ refusedTold k q
 refused-bare k (one q) = ap (λ b. single (refused k) b []) (ask-bare q .lent)
 refused-bare k (many l buffer) = refl
 refused-bare k (report w lent) = refl
+refused-bare k (recount c) = refl
 
 module _ {S : Type 0} (N : Numbers) (pol : Policy (Fixed 32) (Fixed (N .B)) S) where
   abbrev Held : Type 0
@@ -133,6 +138,7 @@ module _ {S : Type 0} (N : Numbers) (pol : Policy (Fixed 32) (Fixed (N .B)) S) w
   servedTold s (one q) = outcomeTold q ((servedBy s q) .outcome)
   servedTold s (many l buffer) = batchTold ((folderBy s l) .batched)
   servedTold s (report w lent) = number 0
+  servedTold s (recount k) = number 0
 
   abbrev pub servedState : Held → Asking → Held
   servedState s (one q) =
@@ -142,6 +148,7 @@ module _ {S : Type 0} (N : Numbers) (pol : Policy (Fixed 32) (Fixed (N .B)) S) w
       let r = folderBy s l in
       record { kept = r .kept; box = r .batched .box; counters = r .batched .counters }
   servedState s (report w lent) = s
+  servedState s (recount k) = record { kept = s .kept; box = s .box; counters = k }
 
   -- A kind of box whose calls are those over the policy. What two served calls leave passes the same tests, or both leave all as it was.
   pub record Serves {M : Type 0} (runs : Runs M) : Type 0 where
@@ -175,6 +182,7 @@ module _ {S : Type 0} (N : Numbers) (pol : Policy (Fixed 32) (Fixed (N .B)) S) w
     told-bare s (one q) = ap (λ o. outcomeTold (bareAsk q) (o .outcome)) (served-bare s q) ∙ outcome-bare q ((servedBy s q) .outcome)
     told-bare s (many l buffer) = ap (λ r. batchTold (r .batched)) (files-bare s l)
     told-bare s (report w lent) = refl
+    told-bare s (recount k) = refl
 
     state-bare : (s : Held) (q : Asking) → servedState (bareState s) (bareAsking q) ≡ bareState (servedState s q)
     state-bare s (one q) =
@@ -187,6 +195,7 @@ module _ {S : Type 0} (N : Numbers) (pol : Policy (Fixed 32) (Fixed (N .B)) S) w
         let r = files-bare s l in
         λ i. record { kept = r i .kept; box = r i .batched .box; counters = r i .batched .counters }
     state-bare s (report w lent) = refl
+    state-bare s (recount k) = refl
 
     module _ {M : Type 0} (runs : Runs M) (sv : Serves runs) where
       -- Two lent memories are alike: the same but for seats, and they pass the same tests.
