@@ -11,7 +11,6 @@ use Rattle.paper.specs.Cache.{Hashing}
 use Rattle.paper.specs.KeyedLaws.{or-both, or-false-left}
 use Rattle.paper.specs.Engine.{Fixed, labelled}
 use Rattle.paper.specs.Lent.{opening, otherLength, limitOutside, wrongBuffers, over, fresh}
-use Rattle.paper.specs.LentLaws.{counters-box}
 use Rattle.paper.specs.BatchLent.{Asking, one, many, report, recount}
 use Rattle.paper.specs.BatchLentLaws.{right-buffers}
 use Rattle.paper.specs.Demand3.{saidWord}
@@ -25,11 +24,12 @@ use Rattle.arc.specs.ArcFolder.{arcFolderRefusal, arcServedFolder}
 use Rattle.arc.specs.ArcReports.{arcReportRefusal}
 use Rattle.arc.specs.ArcExactly.{arc-exactly-opening}
 use Rattle.arc.specs.ArcDemand.{listsOf, boxOf, arcNumber, arcNext, arcReturned}
-use Rattle.arc.specs.ArcDemandLaws.{ArcPasses, arc-fits, found, passes-right, served-is, arc-keeps, served-box, served-lists, served-counters, folder-found}
-use Rattle.arc.specs.ArcDemandLaws.{folder-served, arc-folder-keeps, folder-box, folder-lists, folder-counters, passes-next, no-6, no-8, no-13, fresh-passes}
+use Rattle.arc.specs.ArcDemandLaws.{ArcPasses, arc-fits, found, passes-right, served-is, arc-keeps, folder-found}
+use Rattle.arc.specs.ArcDemandLaws.{folder-served, arc-folder-keeps, passes-next, no-6, no-8, no-13, fresh-passes}
+use Rattle.blind.specs.Serving.{servedState, arcState, arc-leaves, arc-stays}
 use Rattle.limits.specs.AsWithout.{single, folder, number, hitsSaid, arcShows, arcKind, arcUnlimited, ArcAsWithout}
 use Rattle.limits.specs.Beside.{capped, Beside, beside-itself}
-use Rattle.limits.specs.Until.{State, refusedShown, numberBy, Inside, servedShown, servedState, Serves, until-nine}
+use Rattle.limits.specs.Until.{refusedShown, numberBy, Inside, servedShown, Serves, until-nine}
 use Rattle.limits.specs.ArcSees.{arc-parallel}
 use Rattle.limits.specs.Unlimited.{unlimited-unfit-arc, unlimited-limit, unlimited-buffers, label-right, unlimited-box, fresh-rows, arc-capped}
 
@@ -44,9 +44,6 @@ record Fitting (Z : Sizes) : Type 0 where
 module _ (Z : Sizes) (x : Fitting Z) where
   abbrev H : Hashing (Fixed 32) (Fixed (Z .B))
   H = labelled (baseNumbers Z)
-
-  abbrev state : ArcLent → State (Fixed 32) (Fixed (Z .B)) Lists
-  state t = record { kept = listsOf t; box = boxOf Z t; counters = t .base .counters }
 
   right-arc : (t : ArcLent) → ArcPasses Z t → wrongArcBuffers Z t ≡ false
   right-arc t p =
@@ -66,26 +63,12 @@ module _ (Z : Sizes) (x : Fitting Z) where
   inside t (report w lent) e = tt
   inside t (recount c) e = tt
 
-  shows : (t : ArcLent) (q : Asking) → arcNumber Z t q ≡ 0 → arcShows Z t q ≡ servedShown (Z .B) (Z .P) (mOf Z) H (arc H Z) (state t) q
+  shows : (t : ArcLent) (q : Asking) → arcNumber Z t q ≡ 0 → arcShows Z t q ≡ servedShown (Z .B) (Z .P) (mOf Z) H (arc H Z) (arcState Z t) q
   unfolding arcServed arcServedFolder
   shows t (one q) e = let y = served-is Z t q e in λ j. single (e j) (saidWord (y j .answer)) (arcReturned q (y j))
   shows t (many l buffer) e = let y = folder-served Z t l buffer e in λ j. folder (e j) (hitsSaid (y j .answer)) (y j .buffer)
   shows t (report w lent) e = ap number e
   shows t (recount c) e = refl
-
-  leaves : (t : ArcLent) (q : Asking) → arcNumber Z t q ≡ 0 → state (arcNext Z t q) ≡ servedState (Z .B) (Z .P) (mOf Z) H (arc H Z) (state t) q
-  leaves t (one q) e =
-      let l = served-lists Z t q e in
-      let b = served-box Z t q e in
-      let c = served-counters Z t q e in
-      λ j. record { kept = l j; box = b j; counters = c j }
-  leaves t (many l buffer) e =
-      let k = folder-lists Z t l buffer e in
-      let b = folder-box Z t l buffer e in
-      let c = folder-counters Z t l buffer e in
-      λ j. record { kept = k j; box = b j; counters = c j }
-  leaves t (report w lent) e = refl
-  leaves t (recount c) e = let b = counters-box (baseNumbers Z) (t .base) c in λ j. record { kept = listsOf t; box = b j; counters = c }
 
   refuses : (t : ArcLent) (q : Asking) → arcNumber Z t q ≢ 0 → arcShows Z t q ≡ refusedShown (arcNumber Z t q) q
   refuses t (one q) z =
@@ -97,24 +80,18 @@ module _ (Z : Sizes) (x : Fitting Z) where
   refuses t (report w lent) z = refl
   refuses t (recount c) z = refl
 
-  stays : (t : ArcLent) (q : Asking) → arcNumber Z t q ≢ 0 → arcNext Z t q ≡ t
-  stays t (one q) z = ap (λ x. x .lent) (arc-keeps Z t q z)
-  stays t (many l buffer) z = ap (λ x. x .lent) (arc-folder-keeps Z t l buffer z)
-  stays t (report w lent) z = refl
-  stays t (recount c) z = absurd (z refl)
-
   abbrev arc-kind : (pol : Policy (Fixed 32) (Fixed (Z .B)) Lists) → arc H Z ≡ pol → Serves (Z .B) (Z .P) (mOf Z) H pol (arcKind Z)
   arc-kind pol e =
       record {
-        state = state;
+        state = arcState Z;
         Good = ArcPasses Z;
         numbered = numbered;
         inside = inside;
-        shows = subst (λ y. (t : ArcLent) (q : Asking) → arcNumber Z t q ≡ 0 → arcShows Z t q ≡ servedShown (Z .B) (Z .P) (mOf Z) H y (state t) q) e shows;
+        shows = subst (λ y. (t : ArcLent) (q : Asking) → arcNumber Z t q ≡ 0 → arcShows Z t q ≡ servedShown (Z .B) (Z .P) (mOf Z) H y (arcState Z t) q) e shows;
         leaves = subst (λ y. (t : ArcLent) (q : Asking) → arcNumber Z t q ≡ 0
-            → state (arcNext Z t q) ≡ servedState (Z .B) (Z .P) (mOf Z) H y (state t) q) e leaves;
+            → arcState Z (arcNext Z t q) ≡ servedState (Z .B) H y (arcState Z t) q) e (arc-leaves Z);
         refuses = refuses;
-        keeps = stays;
+        keeps = arc-stays Z;
         stays = passes-next Z;
       }
 

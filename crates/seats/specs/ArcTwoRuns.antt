@@ -8,18 +8,18 @@ use Rattle.tables.specs.Unsound.{addressesUnsound, blocksUnsound, dirtyUncached
 use Rattle.paper.specs.Cache.{Numbers, Hashing, Counters}
 use Rattle.paper.specs.Engine.{Fixed, labelled}
 use Rattle.paper.specs.Lent.{test, wrongBuffers, overLimit, boxIn}
-use Rattle.paper.specs.LentLaws.{counters-box}
 use Rattle.paper.specs.BatchLent.{Asking, one, many, report, recount}
-use Rattle.arc.specs.Arc.{Sizes, baseNumbers, mOf, Lists, arc}
+use Rattle.arc.specs.Arc.{Sizes, baseNumbers, mOf, arc}
 use Rattle.arc.specs.ArcLent.{ArcLent, unfitArc, listsUnsound, topUncached, topsIn, wrongArcBuffers, arcRefusal, arcServed}
 use Rattle.arc.specs.ArcFolder.{arcFolderRefusal, arcServedFolder}
 use Rattle.arc.specs.ArcReports.{arcReportRefusal, arcReported}
-use Rattle.arc.specs.ArcDemand.{listsOf, boxOf, arcNumber, arcNext}
-use Rattle.arc.specs.ArcDemandLaws.{ArcPasses, no-13, served-is, arc-keeps, served-box, served-lists, served-counters, served-passes}
-use Rattle.arc.specs.ArcDemandLaws.{folder-served, arc-folder-keeps, folder-box, folder-lists, folder-counters, folder-passes}
+use Rattle.arc.specs.ArcDemand.{boxOf, arcNumber, arcNext}
+use Rattle.arc.specs.ArcDemandLaws.{ArcPasses, no-13, served-is, arc-keeps, served-passes}
+use Rattle.arc.specs.ArcDemandLaws.{folder-served, arc-folder-keeps, folder-passes}
 use Rattle.seats.specs.TwoRuns.{bareAsk, bareAsking, single, folder, number, arcTells, arcRuns, deskSees}
 use Rattle.blind.specs.ArcBlind.{arc-blind}
-use Rattle.seats.specs.Alike.{State, Tests, numberBy, refusedTold, servedTold, servedState, Serves, runs-alike}
+use Rattle.blind.specs.Serving.{arcState, arc-leaves, arc-stays}
+use Rattle.seats.specs.Alike.{Tests, numberBy, refusedTold, servedTold, Serves, runs-alike}
 use Rattle.seats.specs.TwoRunsLaws.{same-buffers}
 
 module _ (Z : Sizes) where
@@ -28,9 +28,6 @@ module _ (Z : Sizes) where
 
   abbrev M : Numbers
   M = baseNumbers Z
-
-  abbrev state : ArcLent → State (Fixed 32) (Fixed (Z .B)) Lists
-  state t = record { kept = listsOf t; box = boxOf Z t; counters = t .base .counters }
 
   abbrev tests : ArcLent → Tests
   tests t =
@@ -71,26 +68,12 @@ module _ (Z : Sizes) where
   passes t u (report w lent) k e f = k
   passes t u (recount c) k e f = counters-tests t c ∙ k ∙ sym (counters-tests u c)
 
-  tells : (t : ArcLent) (q : Asking) → arcNumber Z t q ≡ 0 → arcTells Z t q ≡ servedTold M (arc H Z) (state t) q
+  tells : (t : ArcLent) (q : Asking) → arcNumber Z t q ≡ 0 → arcTells Z t q ≡ servedTold M (arc H Z) (arcState Z t) q
   unfolding arcServed arcServedFolder
   tells t (one q) e = ap (λ x. single (x .answer) (x .block) (x .part)) (served-is Z t q e)
   tells t (many l buffer) e = ap (λ x. folder (x .answer) (x .buffer)) (folder-served Z t l buffer e)
   tells t (report w lent) e = ap number e
   tells t (recount c) e = refl
-
-  leaves : (t : ArcLent) (q : Asking) → arcNumber Z t q ≡ 0 → state (arcNext Z t q) ≡ servedState M (arc H Z) (state t) q
-  leaves t (one q) e =
-      let l = served-lists Z t q e in
-      let b = served-box Z t q e in
-      let c = served-counters Z t q e in
-      λ i. record { kept = l i; box = b i; counters = c i }
-  leaves t (many l buffer) e =
-      let k = folder-lists Z t l buffer e in
-      let b = folder-box Z t l buffer e in
-      let c = folder-counters Z t l buffer e in
-      λ i. record { kept = k i; box = b i; counters = c i }
-  leaves t (report w lent) e = refl
-  leaves t (recount c) e = let b = counters-box M (t .base) c in λ i. record { kept = listsOf t; box = b i; counters = c }
 
   refuses : (t : ArcLent) (q : Asking) → arcNumber Z t q ≢ 0 → arcTells Z t q ≡ refusedTold (arcNumber Z t q) q
   refuses t (one q) z = ap (λ x. single (x .answer) (x .block) (x .part)) (arc-keeps Z t q z)
@@ -98,27 +81,21 @@ module _ (Z : Sizes) where
   refuses t (report w lent) z = refl
   refuses t (recount c) z = refl
 
-  stays : (t : ArcLent) (q : Asking) → arcNumber Z t q ≢ 0 → arcNext Z t q ≡ t
-  stays t (one q) z = ap (λ x. x .lent) (arc-keeps Z t q z)
-  stays t (many l buffer) z = ap (λ x. x .lent) (arc-folder-keeps Z t l buffer z)
-  stays t (report w lent) z = refl
-  stays t (recount c) z = absurd (z refl)
-
   arc-runs : Serves M (arc H Z) (arcRuns Z)
   unfolding arcReported
   arc-runs =
       record {
-        state = state;
+        state = arcState Z;
         tests = tests;
         unfit = test (unfitArc Z) 11;
         number = arcNumber Z;
         numbered = numbered;
         counters = λ t. refl;
         tells = tells;
-        leaves = leaves;
+        leaves = arc-leaves Z;
         passes = passes;
         refuses = refuses;
-        keeps = stays;
+        keeps = arc-stays Z;
         reports = λ t lent. refl;
       }
 
