@@ -17,7 +17,7 @@ use Rattle.paper.specs.Reports.{Reader}
 use Rattle.reports.specs.Contract.{reports}
 use Rattle.paper.specs.CallLaws.{In64}
 use Rattle.paper.specs.Demand3.{next, Demand3}
-use Rattle.paper.specs.Demand3Laws.{demand-3, Written, opened-written, next-written, next-64, look-stays}
+use Rattle.paper.specs.Demand3Laws.{demand-3, Written, opened-written, next-written, Brings64, next-64, look-stays}
 use Rattle.parts.specs.Rep.{numbersOf}
 use Rattle.refusals.specs.Given.{countersOf, lent}
 use Rattle.fields.specs.Fields.{recordIn, countersIn, fitting, stateBytes}
@@ -37,6 +37,12 @@ abbrev pub askedBy : Made → Asking
 askedBy (single q l) = one q
 askedBy (folder q f l) = many q f
 askedBy (reporting w l) = report w l
+
+-- no C call brings counters
+brings-none : (c : Made) → Brings64 (askedBy c)
+brings-none (single q l) = tt
+brings-none (folder q f l) = tt
+brings-none (reporting w l) = tt
 
 -- the answer's buffer has its length: 24 bytes, of a folder read 32; a report has none
 abbrev pub fitsIts : Made → Bool
@@ -285,7 +291,8 @@ module _ (N : Numbers) where
     k,
     says-its t y c k,
     by-test (fitsIts c)
-        (λ z. rw z (follows (next N t (askedBy c)) (keptIts y c) cs (carries-its t y c k b w z) (next-64 N t (askedBy c) b) (next-written N t (askedBy c) w)))
+        (λ z. rw z (follows (next N t (askedBy c)) (keptIts y c) cs (carries-its t y c k b w z) (next-64 N t (askedBy c) (brings-none c) b)
+        (next-written N t (askedBy c) w)))
         (λ z. rw z (subst (λ (x : Kept). Follows N t x cs) (sym (stays-its t y c k z)) (follows t y cs k b w))),
   )
 
