@@ -334,6 +334,16 @@ module _ (area a t l : List ℕ) where
         (λ y. let z = rw y at (sym (number-is area image-passes a t l) ∙ e) in absurd (omega arith))
         (λ y. y)
 
+    pub lengths-taken : (length a ≡ Given.boxIn (bodyIn area) .rows * 40) × (length t ≡ Given.boxIn (bodyIn area) .slots * 40)
+    lengths-taken =
+        let b = Given.boxIn (bodyIn area) in
+        let p = not (eqb (length a) (b .rows * 40)) in
+        let q = not (eqb (length t) (b .slots * 40)) in
+        let h = or-false-left (p || q) (not (eqb (length l) 0)) lengths-pass in (
+          eqb-true (length a) (b .rows * 40) (not-false (eqb (length a) (b .rows * 40)) (or-false-left p q h)),
+          eqb-true (length t) (b .slots * 40) (not-false (eqb (length t) (b .slots * 40)) (or-false-right p q h)),
+        )
+
     abbrev x : Fields
     x = fieldsFound lruKinds area
 

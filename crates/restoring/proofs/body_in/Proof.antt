@@ -1,3 +1,6 @@
+-- The body follows the header, as long as that says. Assumes nothing.
+use native.Mathlib.Omega.{arith}
+use Rattle.restoring.specs.FoundLaws.{found-header, found-room, taken-body}
 use borrow.Author.Needs.{needs}
 use Rattle.restoring.proofs.body_in.Statement.{statement}
 use Rattle.restoring.proofs.body_in.Tie as tie
@@ -5,33 +8,26 @@ use Rattle.restoring.proofs.body_in.Reads as reads
 use Rattle.restoring.proofs.body_in.Lts as lts
 use Rattle.tables.proofs.row.word_at.Reads as word-at-reads
 
--- src/lib.rt:164:20
 word-at-requires : tie.Need-word-at-requires
-word-at-requires c κs = ?
+word-at-requires c κs = omega (arith, found-header (c .before .args .area .now) (c .before .pre))
 
--- src/lib.rt:164:20
 cast-end : tie.Need-cast-end
 cast-end c = search needs
 
--- src/lib.rt:164:15
 add-end : tie.Need-add-end
 add-end c = search needs
 
--- src/lib.rt:165:5
 sub-result : tie.Need-sub-result
 sub-result c = search needs
 
--- src/lib.rt:165:5
 part-result-start : tie.Need-part-result-start
 part-result-start c = search needs
 
--- src/lib.rt:165:5
 part-result-end : tie.Need-part-result-end
-part-result-end c = ?
+part-result-end c = found-room (c .before .before .args .area .now) (c .before .before .pre) _ (c .word-at .ensures)
 
--- src/lib.rt:160:1
 returns : tie.Need-returns
-returns c = ?
+returns c = taken-body (c .before .before .before .args .area .now) _ (c .before .word-at .ensures)
 
 pub body-in-spec : {M : Type 1} → statement M
 body-in-spec =

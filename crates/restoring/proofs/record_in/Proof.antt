@@ -1,3 +1,5 @@
+-- The record of the words read and the label. Assumes nothing.
+use Rattle.restoring.specs.FoundLaws.{record-made}
 use borrow.Author.Needs.{needs}
 use Rattle.restoring.proofs.record_in.Statement.{statement}
 use Rattle.restoring.proofs.record_in.Tie as tie
@@ -6,61 +8,55 @@ use Rattle.restoring.proofs.record_in.Lts as lts
 use Rattle.restoring.proofs.label_in.Reads as label-in-reads
 use Rattle.tables.proofs.row.word_at.Reads as word-at-reads
 
--- src/lib.rt:77:9
 label-in-requires : tie.Need-label-in-requires
 label-in-requires c κs = search needs
 
--- src/lib.rt:79:15
 word-at-requires : tie.Need-word-at-requires
 word-at-requires c κs = search needs
 
--- src/lib.rt:79:15
 cast-t4 : tie.Need-cast-t4
 cast-t4 c = search needs
 
--- src/lib.rt:80:17
 word-at-requires-2 : tie.Need-word-at-requires-2
 word-at-requires-2 c κs = search needs
 
--- src/lib.rt:80:17
 cast-t6 : tie.Need-cast-t6
 cast-t6 c = search needs
 
--- src/lib.rt:81:15
 word-at-requires-3 : tie.Need-word-at-requires-3
 word-at-requires-3 c κs = search needs
 
--- src/lib.rt:81:15
 cast-t8 : tie.Need-cast-t8
 cast-t8 c = search needs
 
--- src/lib.rt:82:16
 word-at-requires-4 : tie.Need-word-at-requires-4
 word-at-requires-4 c κs = search needs
 
--- src/lib.rt:82:16
 cast-t10 : tie.Need-cast-t10
 cast-t10 c = search needs
 
--- src/lib.rt:83:15
 word-at-requires-5 : tie.Need-word-at-requires-5
 word-at-requires-5 c κs = search needs
 
--- src/lib.rt:83:15
 cast-t12 : tie.Need-cast-t12
 cast-t12 c = search needs
 
--- src/lib.rt:85:16
 word-at-requires-6 : tie.Need-word-at-requires-6
 word-at-requires-6 c κs = search needs
 
--- src/lib.rt:85:16
 cast-t14 : tie.Need-cast-t14
 cast-t14 c = search needs
 
--- src/lib.rt:73:1
 returns : tie.Need-returns
-returns c = ?
+returns c =
+    let w₅ = c .before in
+    let w₄ = w₅ .before in
+    let w₃ = w₄ .before in
+    let w₂ = w₃ .before in
+    let w₁ = w₂ .before in
+    let l = w₁ .before in
+    record-made (l .before .before .args .body .now) _ _ _ _ _ _ _ (l .label-in .ensures) (w₁ .word-at .ensures) (w₂ .word-at2 .ensures)
+    (w₃ .word-at3 .ensures) (w₄ .word-at4 .ensures) (w₅ .word-at5 .ensures) (c .word-at6 .ensures)
 
 pub record-in-spec : {M : Type 1} → statement M
 record-in-spec =
