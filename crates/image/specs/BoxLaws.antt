@@ -90,26 +90,46 @@ module _ (N : Numbers) (u : unfit N ≡ false) (w : limitOutside N ≡ false) (l
         room = rw (length-body lruForm (lruFields N t) (lru-fits t p)) at room;
       }
 
-module _ (forms : ℕ → Option Form) (k : forms 0 ≡ some lruForm) (N : Numbers) (t : Lent) (area : List ℕ) (e : saveRefusal (lruSaver N) t area ≡ 0) where
-  abbrev q : Ask
-  q = Ask.flush (N .m)
+-- what a served flush finds
+pub record LruFound (N : Numbers) (t : Lent) : Type 0 where
+  pub fit : unfit N ≡ false
+  pub limit : limitOutside N ≡ false
+  pub label : length (N .label) ≡ 64
+  pub passes : Passes N t
 
-  abbrev after : Lent
-  after = (call N t q) .lent
+pub lru-found : (N : Numbers) (t : Lent) → refusal N t (calling (Ask.flush (N .m))) ≡ 0 → LruFound N t
+lru-found N t z =
+    let q = Ask.flush (N .m) in
+    let x = exactly N t q .gives-0 .0 z in
+    record {
+      fit = x .0;
+      limit = x .1 .0;
+      label = label-right N t (or-false-left (wrongBuffers N t) false (x .1 .1 .0));
+      passes = served-finds N t q z .passes;
+    }
 
-  flush-0 : (refusal N t (calling q) ≡ 0) × (tooShort area (length (bodyOf (lruFields N t))) ≡ false)
+-- how long the body is
+pub lru-length : (N : Numbers) (t : Lent) → LruFound N t → length (bodyOf (lruFields N t)) ≡ 92 + N .m * 40 + N .d * 40
+unfolding lruForm bodyLength total
+lru-length N t f = length-body lruForm (lruFields N t) (lru-fits N (f .fit) (f .limit) (f .label) t (f .passes)) ∙ omega arith
+
+module _ (N : Numbers) (t : Lent) (area : List ℕ) (e : saveRefusal (lruSaver N) t area ≡ 0) where
+  -- a served save: its flush is served, and there is room
+  pub lru-flush-0 : (refusal N t (calling (Ask.flush (N .m))) ≡ 0) × (tooShort area (length (bodyOf (lruFields N t))) ≡ false)
   unfolding refusal
-  flush-0 = served-save (refusal N t (calling q)) (tooShort area (length (bodyOf (lruFields N t)))) (sym (save-number (lruSaver N) t area refl) ∙ e)
+  lru-flush-0 =
+      served-save (refusal N t (calling (Ask.flush (N .m)))) (tooShort area (length (bodyOf (lruFields N t))))
+      (sym (save-number (lruSaver N) t area refl) ∙ e)
 
   -- what a served save wrote can be found
-  pub lru-saved : Savable forms lruForm (lruFields N after) area
-  lru-saved =
-      let z = flush-0 .0 in
-      let x = exactly N t q .gives-0 .0 z in
-      let l = label-right N t (or-false-left (wrongBuffers N t) false (x .1 .1 .0)) in
+  pub lru-saved : (forms : ℕ → Option Form) → forms 0 ≡ some lruForm → Savable forms lruForm (lruFields N (lruSaver N .flushed t)) area
+  lru-saved forms k =
+      let q = Ask.flush (N .m) in
+      let z = lru-flush-0 .0 in
+      let x = lru-found N t z in
       let few = subst (FewDirty N) (sym (served-box N t q z)) (outcome-few N t q z) in
-      lru-savable N (x .0) (x .1 .0) l forms k t after (served-finds N t q z .passes) (served-passes N t q z)
-      (le-ltb (N .t) (dirtyRows (labelled N) ((boxIn N after) .rows)) few) area (flush-0 .1)
+      lru-savable N (x .fit) (x .limit) (x .label) forms k t (lruSaver N .flushed t) (x .passes) (served-passes N t q z)
+      (le-ltb (N .t) (dirtyRows (labelled N) ((boxIn N (lruSaver N .flushed t)) .rows)) few) area (lru-flush-0 .1)
 
 -- ---- a box that runs D-ARC
 
@@ -207,7 +227,7 @@ module _ (N : Numbers) (t : Lent) (area : List ℕ) (e : saveRefusal (lruSaver N
     (r : RightLengths kinds (lruFields N (lruSaver N .flushed t)) a b l) where
   lru-back : restore kinds ((save (lruSaver N) t area) .area) a b l ≡ givenBack kinds (lruFields N (lruSaver N .flushed t)) ((save (lruSaver N) t area) .area)
   unfolding kinds
-  lru-back = given-back kinds (lruSaver N) lruForm t area e (lru-saved kinds refl N t area e) a b l r
+  lru-back = given-back kinds (lruSaver N) lruForm t area e (lru-saved N t area e kinds refl) a b l r
 
   pub same-numbers : lruNumbers ((restore kinds ((save (lruSaver N) t area) .area) a b l) .given) ≡ N
   same-numbers = ap (λ x. lruNumbers (x .given)) lru-back
