@@ -1,5 +1,6 @@
 -- what each call leaves in the lent bytes
 pub mod Left
+pub mod LeftWarm
 -- a call reads what the call before it wrote
 pub mod Carried
 -- a whole list of C calls from an opening: each is the paper's, and demand 3 holds of the list
