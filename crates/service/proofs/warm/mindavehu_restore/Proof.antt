@@ -1,57 +1,36 @@
+-- A wrong length: `not-restored`. Else the box is restored, and its record is written: `restored`. Assumes nothing.
 use borrow.Author.Needs.{needs}
+use Rattle.service.proofs.Warming.{not-restored, restored}
 use Rattle.service.proofs.warm.mindavehu_restore.Statement.{statement}
 use Rattle.service.proofs.warm.mindavehu_restore.Tie as tie
-use Rattle.service.proofs.warm.mindavehu_restore.Reads as reads
-use Rattle.service.proofs.warm.mindavehu_restore.Lts as lts
-use Rattle.fields.proofs.put_record.Reads as put-record-reads
-use Rattle.restoring.proofs.restore.Reads as restore-reads
 
--- src/warm.rt:58:9
+abbrev start : tie.After-slice-known5 → tie.Start
+start c = c .before .before .before .before .before
+
 returns : tie.Need-returns
-returns c = ?
+returns c =
+    let a = start (c .before) .args in
+    not-restored (a .state .now) (a .area .now) (a .addresses .now) (a .blocks .now) (a .lists .now) (c .if1 .taken)
 
--- src/warm.rt:60:9
-restore-requires : tie.Need-restore-requires
-restore-requires c κs = search needs
-
--- src/warm.rt:62:5
-put-record-requires : tie.Need-put-record-requires
-put-record-requires c κs = search needs
-
--- src/warm.rt:39:1
-same-length : tie.Need-same-length
-same-length c = search needs
-
--- src/warm.rt:39:1
-same-length-2 : tie.Need-same-length-2
-same-length-2 c = search needs
-
--- src/warm.rt:39:1
-same-length-3 : tie.Need-same-length-3
-same-length-3 c = search needs
-
--- src/warm.rt:39:1
-same-length-4 : tie.Need-same-length-4
-same-length-4 c = search needs
-
--- src/warm.rt:39:1
-same-length-5 : tie.Need-same-length-5
-same-length-5 c = search needs
-
--- src/warm.rt:39:1
 returns-2 : tie.Need-returns-2
-returns-2 c = ?
+returns-2 c =
+    let w = c .before .before in
+    let r = w .before .before .before .before .before .before .before .before .before .before .before in
+    let e = r .before .before .before .before .before in
+    let a = start (e .before) .args in
+    restored (a .state .now) (a .area .now) (a .addresses .now) (a .blocks .now) (a .lists .now) (e .if1 .left) _ _ _ _ _ _ _ (r .restore .ensures)
+    (w .put-record .ensures)
 
 pub mindavehu-restore-spec : {M : Type 1} → statement M
 mindavehu-restore-spec =
     tie.close
     (tie.spec
     returns
-    restore-requires
-    put-record-requires
-    same-length
-    same-length-2
-    same-length-3
-    same-length-4
-    same-length-5
+    (λ c κs. search needs)
+    (λ c κs. search needs)
+    (λ c. search needs)
+    (λ c. search needs)
+    (λ c. search needs)
+    (λ c. search needs)
+    (λ c. search needs)
     returns-2)
