@@ -7,6 +7,7 @@ use policy::calls::Outcome;
 use tables::row;
 ghost use mathlib.Core.Path.{_≡_};
 ghost use Prim.Native.Nat.{_≤_};
+ghost use Rattle.tables.specs.Index.{Blank, Indexed};
 ghost use Rattle.parts.specs.Rep.{numbersOf};
 ghost use Rattle.refusals.specs.Given.{countersOf, lent};
 ghost use Rattle.image.specs.Area.{applied, saveWrites};
@@ -21,7 +22,7 @@ pub(crate) fn body_length(b: BoxRecord) -> u32
     (92 + b.rows * row::BYTES + b.slots * row::BYTES) as u32
 }
 
-// What a save is refused with: as a full flush, then 14.
+// What a save is refused with: as a full flush, then 14. Where it is 0, `heads`, 0 everywhere at first, is the index of the block rows.
 pub(crate) fn save_refusal(
     b: BoxRecord,
     disk: &[u8],
@@ -30,12 +31,14 @@ pub(crate) fn save_refusal(
     blocks: &[u8],
     area: &[u8],
     c: Counters,
+    heads: &mut [u16],
 ) -> u32
+    requires { ⌜ Blank (now heads) ⌝ }
     ensures { λ r. ⌜ r ≡ saveRefusal (lruSaver (numbersOf b)) (lent b (now (disk .entry)) (now (flash .entry)) (now (addresses .entry)) (now (blocks .entry))
         (countersOf c)) (now (area .entry)) ⌝ }
+    ensures { λ r. ⌜ (r ≡ 0 → Indexed (b .slots) (now (blocks .entry)) (now (heads .exit))) ⌝ }
 {
-    let mut heads = [0u16; index::ENTRIES];
-    let number = refusals::of_flush(b, disk, flash, addresses, blocks, c, &mut heads);
+    let number = refusals::of_flush(b, disk, flash, addresses, blocks, c, heads);
     if number != 0 {
         return number;
     }
@@ -79,7 +82,8 @@ pub fn save(
     ensures { λ r. ⌜ told r (now (disk .exit)) (now (flash .entry)) (now (addresses .exit)) (now (blocks .entry)) (now (area .exit))
         ≡ savedBy b (lent b (now (disk .entry)) (now (flash .entry)) (now (addresses .entry)) (now (blocks .entry)) (countersOf c)) (now (area .entry)) ⌝ }
 {
-    let number = save_refusal(b, disk, flash, addresses, blocks, area, c);
+    let mut heads = [0u16; index::ENTRIES];
+    let number = save_refusal(b, disk, flash, addresses, blocks, area, c, &mut heads);
     if number != 0 {
         return Outcome {
             answer: Answer::Refused(number),
@@ -87,7 +91,7 @@ pub fn save(
             counters: c,
         };
     }
-    let r = policy::calls::flush(b, disk, flash, addresses, blocks, c);
+    let r = policy::calls::flush_served(b, b.rows, disk, flash, addresses, blocks, c, &heads);
     let next = r.box_record;
     write_box(area, next, addresses, blocks);
     r
