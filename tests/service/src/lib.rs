@@ -5,4 +5,5 @@ pub mod calls;
 pub mod compare;
 #[cfg(feature = "double")]
 mod double;
+pub mod fresh;
 pub mod progress;
