@@ -1,4 +1,5 @@
 //! The proved service as Rust calls it, random boxes to lend to it, and what the tests have in common.
+pub mod areas;
 pub mod asked;
 pub mod boxes;
 pub mod calls;
