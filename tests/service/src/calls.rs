@@ -36,14 +36,14 @@ extern "C" {
 
 /// The buffers of a call in their order: state, disk, flash, address table, block table, lent block, answer and, where a box has all of its own, the label
 /// that is lent to an opening.
-type Buffers<'a, const COUNT: usize> = [&'a mut [u8]; COUNT];
+pub type Buffers<'a, const COUNT: usize> = [&'a mut [u8]; COUNT];
 
 fn buffers(lent: &mut Lent) -> Buffers<'_, 8> {
     let Lent { state, disk, flash, addresses, blocks, block, answer, label } = lent;
     [state, disk, flash, addresses, blocks, block, answer, label]
 }
 
-fn on_slices(call: Call, address: u32, mut buffers: Buffers<8>) -> u32 {
+pub fn on_slices(call: Call, address: u32, mut buffers: Buffers<8>) -> u32 {
     let [s, d, f, a, b, k, w, l] = buffers.each_mut().map(|bytes| bytes.as_mut_ptr());
     let [sl, dl, fl, al, bl, kl, wl, ll] = buffers.map(|bytes| bytes.len());
     // SAFETY: each pointer comes with the length of its own slice.
@@ -83,7 +83,7 @@ fn report_on_slices(report: Report, mut buffers: Buffers<6>) -> u32 {
 }
 
 /// With the area before the answer. Flash and block table are given as if they may be written to, as above.
-fn save_on_slices(mut buffers: Buffers<7>) -> u32 {
+pub fn save_on_slices(mut buffers: Buffers<7>) -> u32 {
     let [s, d, f, a, b, r, w] = buffers.each_mut().map(|bytes| bytes.as_mut_ptr());
     let [sl, dl, fl, al, bl, rl, wl] = buffers.map(|bytes| bytes.len());
     // SAFETY: each pointer comes with the length of its own slice.
@@ -91,7 +91,7 @@ fn save_on_slices(mut buffers: Buffers<7>) -> u32 {
 }
 
 /// State, area, address table, block table and lists.
-fn restore_on_slices(mut buffers: Buffers<5>) -> u32 {
+pub fn restore_on_slices(mut buffers: Buffers<5>) -> u32 {
     let [s, r, a, b, l] = buffers.each_mut().map(|bytes| bytes.as_mut_ptr());
     let [sl, rl, al, bl, ll] = buffers.map(|bytes| bytes.len());
     // SAFETY: each pointer comes with the length of its own slice.

@@ -7,4 +7,5 @@ pub mod compare;
 #[cfg(feature = "double")]
 mod double;
 pub mod fresh;
+pub mod mapped;
 pub mod progress;
