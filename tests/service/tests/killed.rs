@@ -6,6 +6,7 @@ use model::image::{room, writes, HEADER, WRITE};
 use model::machines::PlainDisk;
 use model::{Call, Lent, ANSWER};
 use service::areas::{cold, with_counters};
+use service::boxes::pick;
 use service::calls::call;
 use service::compare::compare_restore;
 use service::mapped::{length, map, parts, Parts, CALLING, OLD, SAVED, SAVING, SHAPE};
@@ -36,8 +37,8 @@ fn killed(random: &mut Random, path: &Path) -> (u64, Vec<u8>) {
         assert!(ended.is_none() && begun.elapsed() < Duration::from_secs(30), "no save has begun: the program is {ended:?}");
         std::thread::yield_now();
     }
-    // Half of the time within the first save or the next ones, half of the time later.
-    let most = if random.below(2) == 0 { 300 } else { 6_000 };
+    // Mostly within the first save or the next ones, also later.
+    let most = pick(random, &[100, 300, 6_000]);
     let wait = Duration::from_micros(random.below(most) as u64);
     let begun = Instant::now();
     while begun.elapsed() < wait {
@@ -136,7 +137,7 @@ fn read_some(random: &mut Random, mut lent: Lent, plain: &PlainDisk, context: &d
 
 #[test]
 fn a_program_that_saves() {
-    let (seed, total) = (seed(921), count(150).max(60));
+    let (seed, total) = (seed(921), count(150).max(100));
     let mut random = Random(seed);
     let mut met = Met::default();
     let mut progress = Progress::new("kills", total);
