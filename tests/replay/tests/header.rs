@@ -77,7 +77,7 @@ fn the_stack() {
     let written = run(&mut Command::new(&program));
     let needs: Vec<u64> = written.lines().skip(1).map(|line| line.split_whitespace().last().unwrap().parse().unwrap()).collect();
     let deepest = *needs.iter().max().unwrap();
-    assert!(needs.len() >= 12 && deepest <= most, "the header says {most}:\n{written}");
+    assert!(needs.len() >= 14 && deepest <= most, "the header says {most}:\n{written}");
     // A number far above the need would say nothing.
     assert!(deepest > most / 2, "the header says {most}, and {deepest} bytes are needed");
     println!("stack: {deepest} bytes of at most {most}");
