@@ -1,6 +1,6 @@
 /* The order of a save's writes, seen while it runs: pages of the area are closed, and the first store to a closed page is caught before it is made. What the
  * area holds then is what a power cut would leave there. For each write of a body in turn the pages from it on are closed; then the header's page is closed
- * again while the body is written, to catch the last write.
+ * again while the body is written, to catch the last write. Before the first of all stores the flush is done.
  * Prints what it checked, or the line that failed. */
 #define _GNU_SOURCE
 #include <signal.h>
@@ -15,7 +15,8 @@
 enum { B = 64, P = 400, M = 300, D = 100, OLD = 0xDD, HEADER = MINDAVEHU_IMAGE_HEADER, WRITE = MINDAVEHU_IMAGE_WRITE };
 enum { LENGTH = 64 + (28 + 64 + (M + D) * 40 + 63) / 64 * 64, WRITES = LENGTH / WRITE - 1 };
 
-static uint8_t disk[MINDAVEHU_DISK_LENGTH(B, P)], flash[MINDAVEHU_FLASH_LENGTH(B, D)], block[B];
+static uint8_t disk[MINDAVEHU_DISK_LENGTH(B, P)], plain[MINDAVEHU_DISK_LENGTH(B, P)], seen_disk[MINDAVEHU_DISK_LENGTH(B, P)];
+static uint8_t flash[MINDAVEHU_FLASH_LENGTH(B, D)], block[B];
 static uint8_t addresses[MINDAVEHU_ADDRESSES_LENGTH(M)], blocks[MINDAVEHU_BLOCKS_LENGTH(D)];
 static const uint8_t label[MINDAVEHU_LABEL] = "Office 7";
 static struct mindavehu_box box;
@@ -42,6 +43,7 @@ static void stored(int number, siginfo_t *info, void *unused)
         return;
     }
     memcpy(seen[caught], area, LENGTH);
+    memcpy(seen_disk, disk, sizeof disk);
     where[caught++] = at;
     close_pages(pages, pages + length, 0);
     if (caught == 1 && twice)
@@ -58,7 +60,6 @@ static void save_up_to(size_t at, int again)
     close_pages(border, pages + length, 1);
     EXPECT(mindavehu_box_save(&box, area, LENGTH) == MINDAVEHU_SERVED);
     close_pages(pages, pages + length, 0);
-    EXPECT(memcmp(area, whole, LENGTH) == 0);
 }
 
 static int filled(const uint8_t *bytes, size_t count, int byte)
@@ -77,6 +78,7 @@ static void open_and_write(void)
     EXPECT(mindavehu_box_open(&box, label, sizeof label, B, P, M, D, M) == MINDAVEHU_SERVED);
     for (uint32_t k = 0; k < P; k++) {
         memset(block, (int)(k * 7 % 251), sizeof block);
+        memcpy(plain + k * B, block, sizeof block);
         EXPECT(mindavehu_box_write_back(&box, k, (uint16_t)(k * 77), block, sizeof block) == MINDAVEHU_SERVED);
     }
 }
@@ -92,17 +94,19 @@ int main(void)
     action.sa_sigaction = stored, action.sa_flags = SA_SIGINFO;
     EXPECT(sigaction(SIGSEGV, &action, NULL) == 0);
     open_and_write();
-    EXPECT(mindavehu_box_save(&box, whole, LENGTH) == MINDAVEHU_SERVED);
 
-    /* The first store of a save is to the header. */
+    /* The first store of a save is to the header, and the dirty addresses have reached the disk before it. */
+    EXPECT(memcmp(disk, plain, sizeof disk) != 0);
     save_up_to(0, 0);
     EXPECT(caught == 1 && where[0] < area + HEADER && filled(seen[0], LENGTH, OLD));
+    EXPECT(memcmp(seen_disk, plain, sizeof disk) == 0);
+    memcpy(whole, area, LENGTH);
     /* The first store to write k of the body: the header is cleared, the writes before it are new, it and those behind it old. */
     for (size_t k = 1; k <= WRITES; k++) {
         save_up_to(k, 0);
         EXPECT(caught == 1 && where[0] >= border && where[0] < border + WRITE);
         EXPECT(filled(seen[0], HEADER, 0) && memcmp(seen[0] + HEADER, whole + HEADER, (k - 1) * WRITE) == 0);
-        EXPECT(filled(seen[0] + k * WRITE, LENGTH - k * WRITE, OLD));
+        EXPECT(filled(seen[0] + k * WRITE, LENGTH - k * WRITE, OLD) && memcmp(area, whole, LENGTH) == 0);
     }
     /* After the first store to the body the next one to the header: the whole body is new, and the header still cleared. */
     save_up_to(1, 1);
