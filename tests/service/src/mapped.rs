@@ -1,6 +1,6 @@
 //! A file that src/saver.rs has mapped while it saves, and that outlives it: what it holds when that program is killed is every store made so far.
 use crate::boxes::Shape;
-use model::image::room;
+use model::image::{room, WRITE};
 use model::{ROW, STATE};
 use std::fs::OpenOptions;
 use std::os::fd::AsRawFd;
@@ -30,34 +30,55 @@ pub struct Parts<'a> {
     pub blocks: &'a mut [u8],
 }
 
-/// The phase is the file's first number, and the parts follow.
+/// The phase is the file's first number, and the parts follow. The area has pages of its own, behind them.
 const PHASE: usize = 8;
 
-fn lengths() -> [usize; 7] {
+fn lengths() -> [usize; 6] {
     let Shape { b, p, m, d } = SHAPE;
-    [room(m, d) + BEHIND, p * b, d * b, p * b, STATE, m * ROW, d * ROW]
+    [p * b, d * b, p * b, STATE, m * ROW, d * ROW]
+}
+
+fn page() -> usize {
+    // SAFETY: it takes nothing and changes nothing.
+    unsafe { getpagesize() as usize }
+}
+
+/// The border of a page at which write `at` of an area starts, counted from the header, which is write 0.
+fn border(at: usize) -> usize {
+    (PHASE + lengths().iter().sum::<usize>()).next_multiple_of(page()) + (at * WRITE).next_multiple_of(page())
 }
 
 pub fn length() -> usize {
-    PHASE + lengths().iter().sum::<usize>()
+    border(0) + (room(SHAPE.m, SHAPE.d) + BEHIND).next_multiple_of(page()) + page()
 }
 
-pub fn parts(bytes: &mut [u8]) -> Parts<'_> {
-    let mut rest = &mut bytes[PHASE..];
-    let [area, disk, flash, plain, state, addresses, blocks] = lengths().map(|length| {
+/// The parts, with the area where its write `at` starts a page.
+pub fn parts(bytes: &mut [u8], at: usize) -> Parts<'_> {
+    let (before, behind) = bytes.split_at_mut(border(at) - at * WRITE);
+    let mut rest = &mut before[PHASE..];
+    let [disk, flash, plain, state, addresses, blocks] = lengths().map(|length| {
         let (part, behind) = std::mem::take(&mut rest).split_at_mut(length);
         rest = behind;
         part
     });
-    Parts { area, disk, flash, plain, state, addresses, blocks }
+    Parts { area: &mut behind[..room(SHAPE.m, SHAPE.d) + BEHIND], disk, flash, plain, state, addresses, blocks }
 }
 
 extern "C" {
     fn mmap(address: *mut u8, length: usize, protection: i32, flags: i32, file: i32, offset: i64) -> *mut u8;
+    fn mprotect(address: *mut u8, length: usize, protection: i32) -> i32;
+    fn getpagesize() -> i32;
 }
 
+const READ: i32 = 1;
 const READ_AND_WRITE: i32 = 3;
 const SHARED: i32 = 1;
+
+/// Closes the mapping from write `at` of the area on: the first store to it ends the program.
+pub fn close(start: *mut u8, at: usize) {
+    // SAFETY: whole pages of the mapping, which can still be read.
+    assert_eq!(unsafe { mprotect(start.add(border(at)), length() - border(at), READ) }, 0, "pages cannot be closed");
+}
 
 /// Maps the file for as long as this program runs. Its phase, and its bytes, which are the other program's while that runs.
 pub fn map(path: &Path) -> (&'static AtomicU64, *mut u8) {

@@ -1,10 +1,11 @@
-//! Saves a box again and again into a mapped file, until it is killed. The arguments: the file and a seed.
+//! Saves a box again and again into a mapped file, until it is killed. The arguments: the file and a seed; and the number of a write, to end at the first store
+//! to it or to what is behind it.
 use common::Random;
 use model::image::HEADER;
 use model::{Call, ANSWER, ROW};
 use service::boxes::{any_label, bytes, pick_call, Contents, Shape};
 use service::calls::{on_slices, restore_on_slices, save_on_slices, Buffers};
-use service::mapped::{enter, length, map, parts, Parts, CALLING, OLD, SAVED, SAVING, SHAPE};
+use service::mapped::{close, enter, length, map, parts, Parts, CALLING, OLD, SAVED, SAVING, SHAPE};
 use std::time::{Duration, Instant};
 
 const CALLS: usize = 30;
@@ -19,10 +20,11 @@ fn on(call: Call, address: u32, buffers: Buffers<8>) {
 fn main() {
     let mut arguments = std::env::args().skip(1);
     let (path, seed) = (arguments.next().expect("a file"), arguments.next().expect("a seed").parse().expect("a seed"));
+    let at: Option<usize> = arguments.next().map(|at| at.parse().expect("the number of a write"));
     let (phase, start) = map(path.as_ref());
     // SAFETY: the mapping is of this length and stays, and its phase is not among the parts.
     let Parts { area, disk, flash, plain, state: saved_state, addresses: saved_addresses, blocks: saved_blocks } =
-        parts(unsafe { std::slice::from_raw_parts_mut(start, length()) });
+        parts(unsafe { std::slice::from_raw_parts_mut(start, length()) }, at.unwrap_or(0));
     let Shape { b, p, m, d } = SHAPE;
     let mut random = Random(seed);
     let contents = Contents::new(&mut random, b, 2 * d);
@@ -51,6 +53,7 @@ fn main() {
         saved_blocks.copy_from_slice(&blocks);
         let (mut copied_disk, mut copied_flash) = (disk.to_vec(), flash.to_vec());
         on(Call::Flush, 0, [saved_state, &mut copied_disk, &mut copied_flash, saved_addresses, saved_blocks, &mut block, &mut answer, &mut label]);
+        at.into_iter().for_each(|at| close(start, at));
         for _ in 0..SAVES {
             enter(phase, SAVING);
             assert_eq!(save_on_slices([&mut state, disk, flash, &mut addresses, &mut blocks, area, &mut answer]), 0, "a save");

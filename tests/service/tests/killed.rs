@@ -1,4 +1,4 @@
-//! A program that saves is killed at any time. What it leaves in its file: an area from which the saved box is restored, or which is refused with 15; then the
+//! A program that saves is killed at any time, or ends at the first store to a chosen write of a save. What it leaves in its file: an area from which the saved box is restored, or which is refused with 15; then the
 //! disk is the plain disk's, if a byte of the image was written.
 //! A killed program leaves every store made so far, so the header may be found half written, which no power cut leaves by document 02; all else must hold then.
 use common::Random;
@@ -11,10 +11,13 @@ use service::calls::call;
 use service::compare::compare_restore;
 use service::mapped::{length, map, parts, Parts, CALLING, OLD, SAVED, SAVING, SHAPE};
 use service::progress::{count, seed, Progress};
+use std::os::unix::process::ExitStatusExt;
 use std::path::{Path, PathBuf};
 use std::process::{Child, Command};
 use std::sync::atomic::Ordering;
 use std::time::{Duration, Instant};
+
+const SEGMENTATION_FAULT: i32 = 11;
 
 /// The program, which never outlives the test.
 struct Running(Child);
@@ -26,11 +29,17 @@ impl Drop for Running {
     }
 }
 
+fn saver(random: &mut Random, path: &Path) -> Command {
+    let mut command = Command::new(env!("CARGO_BIN_EXE_saver"));
+    command.arg(path).arg(random.number().to_string());
+    command
+}
+
 /// Starts the program on a new file, and kills it some time after a save of it has begun. Gives the file's phase and its bytes.
 fn killed(random: &mut Random, path: &Path) -> (u64, Vec<u8>) {
     std::fs::write(path, vec![0; length()]).unwrap();
     let (phase, _) = map(path);
-    let mut running = Running(Command::new(env!("CARGO_BIN_EXE_saver")).arg(path).arg(random.number().to_string()).spawn().unwrap());
+    let mut running = Running(saver(random, path).spawn().unwrap());
     let begun = Instant::now();
     while phase.load(Ordering::SeqCst) != SAVING {
         let ended = running.0.try_wait().unwrap();
@@ -65,8 +74,9 @@ fn all(bytes: &[u8], byte: u8) -> bool {
     bytes.iter().all(|other| *other == byte)
 }
 
-fn look_at(random: &mut Random, phase: u64, mut file: Vec<u8>, met: &mut Met, context: &dyn Fn() -> String) {
-    let Parts { area, disk, flash, plain, state, addresses, blocks } = parts(&mut file);
+/// What the file holds, with the area where it is for this write. Gives how many writes of the body are new.
+fn look_at(random: &mut Random, phase: u64, mut file: Vec<u8>, at: usize, met: &mut Met, context: &dyn Fn() -> String) -> usize {
+    let Parts { area, disk, flash, plain, state, addresses, blocks } = parts(&mut file, at);
     let [disk, flash, state, addresses, blocks] = [disk, flash, state, addresses, blocks].map(|bytes| bytes.to_vec());
     let saved = Lent { state, disk, flash, addresses, blocks, block: vec![0; SHAPE.b], answer: vec![0; ANSWER], label: vec![0; 64] };
     let plain = PlainDisk::new(plain, SHAPE.b);
@@ -78,7 +88,7 @@ fn look_at(random: &mut Random, phase: u64, mut file: Vec<u8>, met: &mut Met, co
         assert!(no_image, "the header between saves, {}", context());
         assert_eq!(compare_restore(&mut warm, area, &mut [], 1, context), 15, "{}", context());
         met.calling += 1;
-        return;
+        return 0;
     }
     let writes = writes(&saved);
     let (body, last) = (&writes[1..writes.len() - 1], writes[writes.len() - 1].1);
@@ -124,6 +134,7 @@ fn look_at(random: &mut Random, phase: u64, mut file: Vec<u8>, met: &mut Met, co
         }
         (false, false) => met.torn += 1,
     }
+    new
 }
 
 /// Reads by the box are the plain disk's.
@@ -135,16 +146,46 @@ fn read_some(random: &mut Random, mut lent: Lent, plain: &PlainDisk, context: &d
     }
 }
 
+fn place(name: &str) -> PathBuf {
+    PathBuf::from(env!("CARGO_TARGET_TMPDIR")).join(format!("{name}-{}", std::process::id()))
+}
+
+/// Ended at the first store to a write or to what is behind it: the flush is done, the header is cleared, the writes before that one are new and no other is.
+#[test]
+fn a_program_that_ends_at_a_write() {
+    let (seed, path) = (seed(922), place("ended"));
+    let mut random = Random(seed);
+    let last = room(SHAPE.m, SHAPE.d) / WRITE - 1;
+    let chosen: Vec<usize> = [0, 1, 2, 3, last - 1, last].into_iter().chain((0..24).map(|_| random.below(last + 1))).collect();
+    for at in &chosen {
+        let context = || format!("write {at} of {last}, seed {seed}");
+        std::fs::write(&path, vec![0; length()]).unwrap();
+        let ended = saver(&mut random, &path).arg(at.to_string()).status().unwrap();
+        assert_eq!(ended.signal(), Some(SEGMENTATION_FAULT), "{ended}, {}", context());
+        let mut file = std::fs::read(&path).unwrap();
+        let phase = u64::from_le_bytes(file[..8].try_into().unwrap());
+        assert_eq!(phase, SAVING, "{}", context());
+        let Parts { area, disk, plain, .. } = parts(&mut file, *at);
+        assert!(disk == plain, "the flush is not done, {}", context());
+        assert!(all(&area[..HEADER], if *at == 0 { OLD } else { 0 }), "the header, {}", context());
+        assert!(all(&area[(at * WRITE).max(HEADER)..], OLD), "what is behind, {}", context());
+        let new = look_at(&mut random, phase, file, *at, &mut Met::default(), &context);
+        assert_eq!(new, at.saturating_sub(1), "new writes of the body, {}", context());
+    }
+    std::fs::remove_file(&path).unwrap();
+    println!("{} saves that end at a write of their {}: all writes before it are new, none behind it (seed {seed})", chosen.len(), last + 2);
+}
+
 #[test]
 fn a_program_that_saves() {
     let (seed, total) = (seed(921), count(150).max(100));
     let mut random = Random(seed);
     let mut met = Met::default();
     let mut progress = Progress::new("kills", total);
-    let path = PathBuf::from(env!("CARGO_TARGET_TMPDIR")).join(format!("killed-{}", std::process::id()));
+    let path = place("killed");
     for kill in 0..total {
         let (phase, file) = killed(&mut random, &path);
-        look_at(&mut random, phase, file, &mut met, &|| format!("kill {kill}, phase {phase}, seed {seed}"));
+        look_at(&mut random, phase, file, 0, &mut met, &|| format!("kill {kill}, phase {phase}, seed {seed}"));
         progress.at(kill);
     }
     std::fs::remove_file(&path).unwrap();
