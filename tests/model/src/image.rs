@@ -70,8 +70,8 @@ pub fn apply(area: &mut [u8], writes: &[Write]) {
     }
 }
 
-/// What power failing at write `at` leaves: "earlier writes are new, later ones old, and the one at the cut is junk, except that a header write is wholly old or
-/// wholly new".
+/// What power failing at write `at` leaves: "earlier writes are new, later ones old, and the one at the cut is junk, except that a header write is
+/// wholly old or wholly new".
 pub fn cut(area: &mut [u8], writes: &[Write], at: usize, junk: [u8; WRITE], header_is_new: bool) {
     apply(area, &writes[..at]);
     let (place, bytes) = writes[at];
@@ -103,8 +103,8 @@ pub fn carry_out_save(lent: &mut Lent, area: &mut [u8]) -> u32 {
     number
 }
 
-/// The box in a body, without counters, disk and flash. 16 where "it starts above" what this library runs, "isn't as long as its record says or fails 1 [..], 12,
-/// 6, 7, 8 or 13". Bodies that start with 1 are of D-ARC boxes, which this library doesn't run.
+/// The box in a body, without counters, disk and flash. 16 where "it starts above" what this library runs, "isn't as long as its record says or fails 1
+/// [..], 12, 6, 7, 8 or 13". Bodies that start with 1 are of D-ARC boxes, which this library doesn't run.
 fn read_body(body: &[u8]) -> Result<Lent, u32> {
     if body.len() < BODY_NUMBERS {
         return Err(16);
@@ -141,8 +141,8 @@ pub fn found(area: &[u8], addresses: usize, blocks: usize, lists: usize) -> Resu
     Ok(saved)
 }
 
-/// A restore: "reads the header, clears it, and gives back the saved box, touching nothing else". "A refused restore returns a record of zeros." The counters in
-/// the state are the caller's. The bytes of `lists` are never looked at.
+/// A restore: "reads the header, clears it, and gives back the saved box, touching nothing else". "A refused restore returns a record of zeros." The
+/// counters in the state are the caller's. The bytes of `lists` are never looked at.
 pub fn carry_out_restore(lent: &mut Lent, area: &mut [u8], lists: usize) -> u32 {
     if lent.state.len() != STATE {
         return 2;

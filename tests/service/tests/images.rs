@@ -113,7 +113,8 @@ fn every_number_at_its_edges() {
     assert!([numbers[0], numbers[14], numbers[16]].iter().all(|count| *count > turns));
 }
 
-/// Makes tables, header and area as long as the numbers of the body say, where that is not much, with rows of zeros where rows are missing; the lent tables too.
+/// Makes tables, header and area as long as the numbers of the body say, where that is not much, with rows of zeros where rows are missing; the lent
+/// tables too.
 fn fit(input: &mut Input) {
     let (m, d) = (input.word(HEADER + 12) as usize, input.word(HEADER + 16) as usize);
     if m > 1_100 || d > 300 {

@@ -1,5 +1,5 @@
-//! A program that saves is killed at any time, or ends at the first store to a chosen write of a save. What it leaves in its file: an area from which the saved box is restored, or which is refused with 15; then the
-//! disk is the plain disk's, if a byte of the image was written.
+//! A program that saves is killed at any time, or ends at the first store to a chosen write of a save. What it leaves in its file: an area from
+//! which the saved box is restored, or which is refused with 15; and the disk is the plain disk's, if a byte of the image was written.
 //! A killed program leaves every store made so far, so the header may be found half written, which no power cut leaves by document 02; all else must hold then.
 use common::Random;
 use model::image::{room, writes, HEADER, WRITE};

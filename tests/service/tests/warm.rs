@@ -118,7 +118,8 @@ fn going_on() {
     }
     let Met { calls, lists, refused, saves, flushed, warm_hits } = met;
     println!("{calls} calls in {lists} lists with {saves} saves and restores beside the same lists without (seed {seed}, {:.1} s)", progress.seconds());
-    println!("  {refused} calls refused, {flushed} rows flushed by saves, {warm_hits} hits right after a warm start: the plain disk's blocks, and every byte the same");
+    println!("  {refused} calls refused, {flushed} rows flushed by saves, {warm_hits} hits right after a warm start");
+    println!("  every block read is the plain disk's, and every byte of the box the same");
     assert!([saves, refused * 2, flushed, warm_hits].iter().all(|count| *count > total / 20));
 }
 

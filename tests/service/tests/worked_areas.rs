@@ -5,8 +5,8 @@ use model::{AddressRow, BlockRow, Lent, Numbers, ANSWER, ROW};
 use service::areas::cold;
 use service::compare::{compare_restore, compare_save};
 
-/// The D-LRU box that crates/image/specs/Examples.antt works with: two addresses, two blocks, a limit of 2. Address 1 is held, from seat 770, and its block is in
-/// slot 0; slot 1 is free.
+/// The D-LRU box that crates/image/specs/Examples.antt works with: two addresses, two blocks, a limit of 2. Address 1 is held, from seat 770, and its
+/// block is in slot 0; slot 1 is free.
 fn worked_box() -> Lent {
     let one = [1; 32];
     let blocks = [BlockRow { fingerprint: [0; 32], slot: 1, used: 0, padding: [0; 3] }, BlockRow { fingerprint: one, slot: 0, used: 1, padding: [0; 3] }];
