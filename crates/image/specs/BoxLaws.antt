@@ -191,15 +191,15 @@ module _ (Z : Sizes) (u : unfitArc Z ≡ false) (w : limitOutside (baseNumbers Z
         room = rw (length-body arcForm (arcFields Z t) (arc-fields-fit t p)) at room;
       }
 
-module _ (forms : ℕ → Option Form) (k : forms 1 ≡ some arcForm) (Z : Sizes) (t : ArcLent) (area : List ℕ) (e : saveRefusal (arcSaver Z) t area ≡ 0) where
-  arc-flush-0 : (arcRefusal Z t (calling (Ask.flush (mOf Z))) ≡ 0) × (tooShort area (length (bodyOf (arcFields Z t))) ≡ false)
+module _ (Z : Sizes) (t : ArcLent) (area : List ℕ) (e : saveRefusal (arcSaver Z) t area ≡ 0) where
+  pub arc-flush-0 : (arcRefusal Z t (calling (Ask.flush (mOf Z))) ≡ 0) × (tooShort area (length (bodyOf (arcFields Z t))) ≡ false)
   unfolding arcRefusal
   arc-flush-0 =
       served-save (arcRefusal Z t (calling (Ask.flush (mOf Z)))) (tooShort area (length (bodyOf (arcFields Z t))))
       (sym (save-number (arcSaver Z) t area refl) ∙ e)
 
-  pub arc-saved : Savable forms arcForm (arcFields Z (arcSaver Z .flushed t)) area
-  arc-saved =
+  pub arc-saved : (forms : ℕ → Option Form) → forms 1 ≡ some arcForm → Savable forms arcForm (arcFields Z (arcSaver Z .flushed t)) area
+  arc-saved forms k =
       let q = Ask.flush (mOf Z) in
       let z = arc-flush-0 .0 in
       let x = arc-exactly Z t q .gives-0 .0 z in
@@ -240,7 +240,7 @@ module _ (Z : Sizes) (t : ArcLent) (area : List ℕ) (e : saveRefusal (arcSaver 
     (r : RightLengths kinds (arcFields Z (arcSaver Z .flushed t)) a b l) where
   arc-back : restore kinds ((save (arcSaver Z) t area) .area) a b l ≡ givenBack kinds (arcFields Z (arcSaver Z .flushed t)) ((save (arcSaver Z) t area) .area)
   unfolding kinds
-  arc-back = given-back kinds (arcSaver Z) arcForm t area e (arc-saved kinds refl Z t area e) a b l r
+  arc-back = given-back kinds (arcSaver Z) arcForm t area e (arc-saved Z t area e kinds refl) a b l r
 
   pub same-sizes : arcSizes ((restore kinds ((save (arcSaver Z) t area) .area) a b l) .given) ≡ Z
   same-sizes = ap (λ x. arcSizes (x .given)) arc-back

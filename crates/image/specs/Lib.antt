@@ -13,3 +13,4 @@ pub mod ImageLaws
 pub mod KindLaws
 pub mod SavedLaws
 pub mod BoxLaws
+pub mod CutLaws
