@@ -170,8 +170,31 @@ module _ (Z : Sizes) (u : unfitArc Z ≡ false) (w : limitOutside (baseNumbers Z
       let s3 = s .2 in
       record {
         count = refl;
-        small = (omega arith, (omega arith, (omega arith, (omega arith, (omega arith, (omega arith, (omega arith, (omega arith,
-            (omega arith, (omega arith, (omega arith, (omega arith, (omega arith, tt)))))))))))));
+        small = (
+          omega arith,
+          (
+            omega arith,
+            (
+              omega arith,
+              (
+                omega arith,
+                (
+                  omega arith,
+                  (
+                    omega arith,
+                    (
+                      omega arith,
+                      (
+                        omega arith,
+                        (omega arith, (omega arith, (omega arith, (omega arith, (omega arith, tt))))),
+                      ),
+                    ),
+                  ),
+                ),
+              ),
+            ),
+          ),
+        );
         sizes = λ i. l i ∷ la i ∷ lb i ∷ ll i ∷ [];
       }
 

@@ -227,7 +227,8 @@ module _ (label s disk flash addresses blocks : List ℕ) (h : length s ≡ stat
       (λ y.
       let e = eqb-true (refusal N given opening) 0 y in
       rw (y, opened-is N given e, label-carried N given e)
-      (relabelled _ disk flash _ _ (numbersOf (recordIn s)) (fresh N given) label (label-right N given (exactly-opening N given .gives-0 .0 e .1 .1 .0)) (written s h (fresh N given) (omega arith) bounds)))
+      (relabelled _ disk flash _ _ (numbersOf (recordIn s)) (fresh N given) label
+      (label-right N given (exactly-opening N given .gives-0 .0 e .1 .1 .0)) (written s h (fresh N given) (omega arith) bounds)))
       (λ y.
       let n = eqb-false (refusal N given opening) 0 y in
       rw (y, refused-opening N given n, label-zeros N given n) (relabelled _ disk flash _ _ (numbersOf (recordIn s)) given (zeros 64) refl alone)))

@@ -3,7 +3,7 @@
 use mathlib.Core.Path.{_≡_, refl, sym, ap, _∙_, subst}
 use mathlib.Core.Bool.{true}
 use mathlib.Core.List.{List, []}
-use Prim.Native.Nat.{ℕ, _*_, _^_, _<_}
+use Prim.Native.Nat.{ℕ, _^_, _<_}
 use native.Mathlib.Omega.{arith}
 use lib.Dec.{eqb}
 use lib.ListN.{length}
@@ -17,7 +17,7 @@ use Rattle.parts.specs.Rep.{numbersOf}
 use Rattle.refusals.specs.Given.{countersOf}
 use Rattle.image.specs.Area.{put, clearing}
 use Rattle.image.specs.Kinds.{lruFields, lruKinds}
-use Rattle.image.specs.Saved.{Saved, lruSaver, saveRefusal, save, Restored, recordOf, restore}
+use Rattle.image.specs.Saved.{Saved, lruSaver, saveRefusal, save, Restored, recordOf}
 use Rattle.image.specs.SavedLaws.{save-is, save-keeps, givenBack, restore-once}
 use Rattle.image.specs.BoxLaws.{lru-flush-0, lru-found, lru-saved, lru-back}
 use Rattle.restoring.specs.Given.{boxOf}
@@ -25,7 +25,7 @@ use Rattle.fields.specs.Fields.{stateBytes, recordIn, countersIn, putRecord, fi
 use Rattle.fields.specs.FieldLaws.{length-putRecord, record-put, counters-put}
 use Rattle.fields.specs.Noted.{answerNumber}
 use Rattle.service.specs.Left.{lentIn}
-use Rattle.service.specs.LeftWarm.{LeftRestore, savedIn, leavesSave, restoredIn, leavesRestore}
+use Rattle.service.specs.LeftWarm.{savedIn, leavesSave, restoredIn, leavesRestore}
 use Rattle.service.specs.Carried.{Carries, written, held-below, served-word, state-long}
 
 -- ---- a save

@@ -7,7 +7,7 @@ use Prim.Native.Nat.{ℕ, _<_}
 use native.Mathlib.Omega.{arith}
 use lib.Dec.{eqb}
 use lib.ListN.{length, getD}
-use borrow.Author.Tests.{eq-eqb, eqb-true, eqb-false}
+use borrow.Author.Tests.{eq-eqb, eqb-true}
 use Rattle.tables.specs.Rows.{tableBytes}
 use Rattle.paper.specs.KeyedLaws.{All, by-test, and-left, and-right}
 use Rattle.paper.specs.Cache.{Numbers}
@@ -23,10 +23,10 @@ use Rattle.parts.specs.Rep.{numbersOf}
 use Rattle.refusals.specs.Given.{countersOf, lent}
 use Rattle.image.specs.Area.{put, clearing}
 use Rattle.image.specs.Kinds.{lruFields, lruKinds}
-use Rattle.image.specs.Saved.{Saved, lruSaver, saveRefusal, save}
-use Rattle.image.specs.SavedLaws.{save-is, save-keeps, givenBack}
+use Rattle.image.specs.Saved.{lruSaver, saveRefusal, save}
+use Rattle.image.specs.SavedLaws.{save-is, givenBack}
 use Rattle.fields.specs.Fields.{recordIn, countersIn, fitting, stateBytes}
-use Rattle.fields.specs.Noted.{LeftLook, answerNumber}
+use Rattle.fields.specs.Noted.{LeftLook}
 use Rattle.service.specs.Left.{lentIn, toldIn, Left, leaves, LeftMany, toldManyIn, leavesMany, freshRecord, openedIn, leavesOpen, leavesLook}
 use Rattle.service.specs.Left.{leavesReport}
 use Rattle.service.specs.Left.{Shows}
