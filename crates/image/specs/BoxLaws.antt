@@ -170,8 +170,31 @@ module _ (Z : Sizes) (u : unfitArc Z ≡ false) (w : limitOutside (baseNumbers Z
       let s3 = s .2 in
       record {
         count = refl;
-        small = (omega arith, (omega arith, (omega arith, (omega arith, (omega arith, (omega arith, (omega arith, (omega arith,
-            (omega arith, (omega arith, (omega arith, (omega arith, (omega arith, tt)))))))))))));
+        small = (
+          omega arith,
+          (
+            omega arith,
+            (
+              omega arith,
+              (
+                omega arith,
+                (
+                  omega arith,
+                  (
+                    omega arith,
+                    (
+                      omega arith,
+                      (
+                        omega arith,
+                        (omega arith, (omega arith, (omega arith, (omega arith, (omega arith, tt))))),
+                      ),
+                    ),
+                  ),
+                ),
+              ),
+            ),
+          ),
+        );
         sizes = λ i. l i ∷ la i ∷ lb i ∷ ll i ∷ [];
       }
 
@@ -223,16 +246,16 @@ module _ (forms : ℕ → Option Form) {M : Type 0} (k : Saver M) (f : Form) (t 
 
 -- The record that is given back, and the calls after it: they go on from what the full flush left, with counters of the caller's. So for every list of calls
 -- a save and its restore are a full flush and a `recount`.
-module _ (N : Numbers) (t : Lent) (area : List ℕ) (e : saveRefusal (lruSaver N) t area ≡ 0) (a b l : List ℕ)
-    (r : RightLengths kinds (lruFields N (lruSaver N .flushed t)) a b l) where
-  lru-back : restore kinds ((save (lruSaver N) t area) .area) a b l ≡ givenBack kinds (lruFields N (lruSaver N .flushed t)) ((save (lruSaver N) t area) .area)
-  unfolding kinds
-  lru-back = given-back kinds (lruSaver N) lruForm t area e (lru-saved N t area e kinds refl) a b l r
+module _ (forms : ℕ → Option Form) (k : forms 0 ≡ some lruForm) (N : Numbers) (t : Lent) (area : List ℕ) (e : saveRefusal (lruSaver N) t area ≡ 0)
+    (a b l : List ℕ) (r : RightLengths forms (lruFields N (lruSaver N .flushed t)) a b l) where
+  pub lru-back : restore forms ((save (lruSaver N) t area) .area) a b l
+      ≡ givenBack forms (lruFields N (lruSaver N .flushed t)) ((save (lruSaver N) t area) .area)
+  lru-back = given-back forms (lruSaver N) lruForm t area e (lru-saved N t area e forms k) a b l r
 
-  pub same-numbers : lruNumbers ((restore kinds ((save (lruSaver N) t area) .area) a b l) .given) ≡ N
+  pub same-numbers : lruNumbers ((restore forms ((save (lruSaver N) t area) .area) a b l) .given) ≡ N
   same-numbers = ap (λ x. lruNumbers (x .given)) lru-back
 
-  pub warm-start : (c : Counters) → goesOn (lruSaver N .flushed t) (restore kinds ((save (lruSaver N) t area) .area) a b l) c
+  pub warm-start : (c : Counters) → goesOn (lruSaver N .flushed t) (restore forms ((save (lruSaver N) t area) .area) a b l) c
       ≡ withCounters (lruSaver N .flushed t) c
   warm-start c = ap (λ x. goesOn (lruSaver N .flushed t) x c) lru-back
 
