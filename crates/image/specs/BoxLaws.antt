@@ -16,14 +16,16 @@ use Rattle.tables.specs.Unsound.{nonzero}
 use Rattle.paper.specs.KeyedLaws.{All, by-test, or-false-left, or-false-right}
 use Rattle.paper.specs.Cache.{Numbers, Counters, dirtyRows}
 use Rattle.paper.specs.Engine.{labelled}
-use Rattle.paper.specs.Lent.{Lent, Ask, calling, unfit, limitOutside, wrongBuffers, otherLength, overLimit, FewDirty, refusal, call, boxIn, withCounters}
+use Rattle.paper.specs.Lent.{Lent, Ask, calling, unfit, limitOutside, wrongBuffers, otherLength, overLimit, FewDirty, refusal, call, boxIn}
+use Rattle.paper.specs.BatchLent.{one, recount}
+use Rattle.paper.specs.Demand3.{next}
 use Rattle.paper.specs.SoundTests.{addresses-good}
 use Rattle.paper.specs.LentLaws.{Passes, label-right}
 use Rattle.paper.specs.RefusalLaws.{exactly}
 use Rattle.paper.specs.CallLaws.{fits, limit-fits, served-finds, served-box, served-passes, outcome-few}
 use Rattle.arc.specs.Arc.{Sizes, baseNumbers, mOf}
 use Rattle.arc.specs.ArcLent.{ArcLent, words, totalOf, unfitArc, misnamed, oversized, listsUnsound, topUncached, wrongArcBuffers, arcRefusal}
-use Rattle.arc.specs.ArcDemand.{boxOf}
+use Rattle.arc.specs.ArcDemand.{boxOf, arcNext}
 use Rattle.arc.specs.ArcExactly.{arc-exactly}
 use Rattle.arc.specs.ArcDemandLaws as Arc
 use Rattle.arc.specs.ArcDemandLaws.{ArcPasses, arc-fits, no-6, no-8, no-13}
@@ -256,7 +258,7 @@ module _ (forms : ℕ → Option Form) (k : forms 0 ≡ some lruForm) (N : Numbe
   same-numbers = ap (λ x. lruNumbers (x .given)) lru-back
 
   pub warm-start : (c : Counters) → goesOn (lruSaver N .flushed t) (restore forms ((save (lruSaver N) t area) .area) a b l) c
-      ≡ withCounters (lruSaver N .flushed t) c
+      ≡ next N (next N t (one (Ask.flush (N .m)))) (recount c)
   warm-start c = ap (λ x. goesOn (lruSaver N .flushed t) x c) lru-back
 
 module _ (Z : Sizes) (t : ArcLent) (area : List ℕ) (e : saveRefusal (arcSaver Z) t area ≡ 0) (a b l : List ℕ)
@@ -269,5 +271,5 @@ module _ (Z : Sizes) (t : ArcLent) (area : List ℕ) (e : saveRefusal (arcSaver 
   same-sizes = ap (λ x. arcSizes (x .given)) arc-back
 
   pub arc-warm-start : (c : Counters) → arcGoesOn (arcSaver Z .flushed t) (restore kinds ((save (arcSaver Z) t area) .area) a b l) c
-      ≡ (let x = arcSaver Z .flushed t in record { base = withCounters (x .base) c; sizes = x .sizes; lists = x .lists })
+      ≡ arcNext Z (arcNext Z t (one (Ask.flush (mOf Z)))) (recount c)
   arc-warm-start c = ap (λ x. arcGoesOn (arcSaver Z .flushed t) x c) arc-back
