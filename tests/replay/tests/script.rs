@@ -218,7 +218,8 @@ fn put_rt(path: &Path) {
     write_command(&path.join("rt"), &text);
 }
 
-const BUILDING: [&str; 17] = ["bash", "env", "readlink", "sed", "find", "tr", "tee", "tail", "cut", "mkdir", "touch", "mv", "cp", "cat", "gcc", "as", "ld"];
+const BUILDING: [&str; 19] =
+    ["bash", "env", "readlink", "sed", "find", "tr", "tee", "tail", "cut", "mkdir", "touch", "mv", "cp", "cat", "gcc", "as", "ld", "flock", "sleep"];
 
 #[test]
 fn an_unbuilt_checkout() {
@@ -272,6 +273,29 @@ fn built_at_once() {
     let done = with_commands(&place.join("exam"), &path, &["64", "2", "1", "1", "2"]);
     assert!(done.status.success() && done.stderr.is_empty() && !done.stdout.is_empty(), "exam: {}", String::from_utf8_lossy(&done.stderr));
     println!("--build, and nothing is left to prove then");
+}
+
+/// Two replays in one unbuilt checkout: one builds, the other waits for it and says so, and both answer.
+#[test]
+fn two_at_once() {
+    let (place, path) = (unbuilt("unbuilt-twice"), commands("building-twice", &BUILDING));
+    put_rt(&path);
+    let rt = std::fs::read_to_string(path.join("rt")).unwrap();
+    write_command(&path.join("rt"), &rt.replace("case $1 in", "echo started >> target/starts\nsleep 2\ncase $1 in"));
+    let list = root().join("lessons/week.txt");
+    let said: Vec<String> = std::thread::scope(|scope| {
+        let one = || {
+            let done = with_commands(&place.join("replay"), &path, &["--states", list.to_str().unwrap()]);
+            assert!(done.status.success(), "{}", String::from_utf8_lossy(&done.stderr));
+            assert_eq!(String::from_utf8(done.stdout).unwrap(), replay::states::states(&std::fs::read(&list).unwrap(), false));
+            String::from_utf8(done.stderr).unwrap()
+        };
+        let both = [scope.spawn(one), scope.spawn(one)];
+        both.into_iter().map(|running| running.join().unwrap()).collect()
+    });
+    assert_eq!(std::fs::read_to_string(place.join("target/starts")).unwrap(), "started\n");
+    assert_eq!(said.iter().filter(|said| said.contains("another replay is building the engine: waiting for it")).count(), 1, "{said:?}");
+    println!("two replays at once in an unbuilt checkout: one builds, the other waits");
 }
 
 #[test]
