@@ -18,6 +18,8 @@
  *   answer     24             the word, the flash writes and the primary writes: 8 bytes each, little-endian
  *                             (a look: the word, the byte where the part starts, the part's length)
  *   report     m x 7 or m x 5 the manager's report or the desk's: a part of 7 or 5 bytes for each held address, then zeros
+ *   area       see below      where a save puts the image of a box, and a restore takes it from: MINDAVEHU_AREA_LENGTH(m, d) or more
+ *   lists      0              a restore's alone; no box of this library has lists
  * for an opening, beside the state, the disk, the flash and the tables:
  *   label      64             the office's label, any bytes: a served opening puts it into the state, from which all other calls take it
  * and for the one call that reads a list of addresses, in place of the block and of that answer:
@@ -28,11 +30,17 @@
  *   counts     72             how many lists have 0, 1, up to 8 hits: 8 bytes each, little-endian
  *
  * The result of each function is the number of a refusal, or MINDAVEHU_SERVED. A refused call changes no buffer, but for a refused
- * opening, which writes n = 0 and a label of zeros into the state, and a refused exam question, which writes nine counts of 0. A state that is not 144
- * bytes, or an answer that is not 24 (of the call for a list: not 32), gives MINDAVEHU_WRONG_LENGTH before anything else is looked at, and nothing at all
- * is changed.
- * Where several refusals apply, the first of 1, 12, 2, 10, 3, 6, 7, 8, 13, 9 is told. Only the call for a list has 10. Flush has no 3, look no 9, a report
- * neither, opening only 1, 12 and 2, an exam question only 1, 12, 2 and 17.
+ * opening, which writes n = 0 and a label of zeros into the state, a refused restore, which writes zeros into all of the state but its counters, and a
+ * refused exam question, which writes nine counts of 0. A state that is not 144 bytes, or an answer that is not 24 (of the call for a list: not 32), gives
+ * MINDAVEHU_WRONG_LENGTH before anything else is looked at, and nothing at all is changed.
+ * Where several refusals apply, the first of 1, 12, 2, 10, 3, 6, 7, 8, 13, 9, 14 is told. Only the call for a list has 10, only a save has 14 here. Flush
+ * and save have no 3, look no 9, a report neither, opening only 1, 12 and 2, an exam question only 1, 12, 2 and 17. Of a restore the first of 15, 14, 16, 2
+ * is told.
+ *
+ * Images. A save puts what a box is beside its disk and its flash into the area, and a restore takes it back, so that a box need not start empty. An image
+ * is a header of 64 bytes: VBX, then 1 in 2 bytes, the length L of the body in 4, and 55 zeros; then the body: 0, B, P, m, d, n, t in 4 bytes each, the
+ * label, the address table and the block table, L = 28 + 64 + 40 x m + 40 x d; then zeros up to a multiple of 64 bytes. All numbers are little-endian. The
+ * counters are no part of it: a caller who wants to go on counting keeps them. Whoever may not see the seats is not shown an area either.
  *
  * Seats. Each write is given the number of the seat that makes it, and a held address has the number of the seat that wrote it last; 0 where a read has
  * brought it and no seat has written it since. The office manager may be shown the manager's report, which has the seats. The desk may be shown the desk's
@@ -131,6 +139,60 @@
  * It prints
  *
  *     hits 2, fetches 2, byte 7
+ *
+ * A box that is saved to a file and started from it. Here disk and flash stay in memory; where they are files as well, they are kept with the area:
+ *
+ *     #include <stdio.h>
+ *     #include <string.h>
+ *     #include "mindavehu.h"
+ *
+ *     enum { B = 64, P = 8, M = 3, D = 2, T = 3 };
+ *     static uint8_t disk[MINDAVEHU_DISK_LENGTH(B, P)], flash[MINDAVEHU_FLASH_LENGTH(B, D)], block[MINDAVEHU_BLOCK_LENGTH(B)];
+ *     static uint8_t addresses[MINDAVEHU_ADDRESSES_LENGTH(M)], blocks[MINDAVEHU_BLOCKS_LENGTH(D)], area[MINDAVEHU_AREA_LENGTH(M, D)];
+ *     static const uint8_t label[MINDAVEHU_LABEL] = "Office 7";
+ *
+ *     static int friday(FILE *file)
+ *     {
+ *         struct mindavehu_box box;
+ *         mindavehu_box_lend(&box, disk, sizeof disk, flash, sizeof flash, addresses, sizeof addresses, blocks, sizeof blocks);
+ *         if (mindavehu_box_open(&box, label, sizeof label, B, P, M, D, T) != MINDAVEHU_SERVED)
+ *             return 0;
+ *         memset(block, 7, sizeof block);
+ *         if (mindavehu_box_write_back(&box, 5, 17, block, sizeof block) != MINDAVEHU_SERVED)
+ *             return 0;
+ *         return mindavehu_box_save(&box, area, sizeof area) == MINDAVEHU_SERVED && fwrite(area, sizeof area, 1, file) == 1;
+ *     }
+ *
+ *     static int monday(FILE *file)
+ *     {
+ *         struct mindavehu_box box;
+ *         mindavehu_box_lend(&box, disk, sizeof disk, flash, sizeof flash, addresses, sizeof addresses, blocks, sizeof blocks);
+ *         if (fread(area, sizeof area, 1, file) != 1 || mindavehu_box_restore(&box, area, sizeof area) != MINDAVEHU_SERVED)
+ *             return 0;
+ *         // The area's header is cleared now; in the file too, before the first call, or the image would be found a second time.
+ *         rewind(file);
+ *         if (fwrite(area, MINDAVEHU_IMAGE_HEADER, 1, file) != 1 || fflush(file) != 0)
+ *             return 0;
+ *         return mindavehu_box_read(&box, 5, block, sizeof block) == MINDAVEHU_SERVED
+ *             && printf("%s, byte %d\n", mindavehu_word_name(mindavehu_get(box.answer, MINDAVEHU_WORD)), block[0]) > 0;
+ *     }
+ *
+ *     int main(void)
+ *     {
+ *         FILE *file = tmpfile();
+ *         if (file == NULL || !friday(file))
+ *             return 1;
+ *         memset(addresses, 1, sizeof addresses);
+ *         memset(blocks, 1, sizeof blocks);
+ *         memset(area, 1, sizeof area);
+ *         memset(block, 1, sizeof block);
+ *         rewind(file);
+ *         return !monday(file);
+ *     }
+ *
+ * It prints
+ *
+ *     hit, byte 7
  */
 #ifndef MINDAVEHU_H
 #define MINDAVEHU_H
@@ -146,17 +208,18 @@ extern "C" {
  * version 2 the layout of the state is another: the label follows the nine numbers; version 2.1 has mindavehu_scores besides. In version 3 each of the
  * three writes takes a seat behind its address, the address table keeps the seats in two bytes of a row that were zero before, and there are two reports.
  * Boxes of version 2 are boxes of version 3 in which every seat is 0. In version 4 the state has the limit behind the label, and mindavehu_box_open and
- * mindavehu_scores take it behind d. A box of version 3, with m behind its 136 bytes, is one of version 4. */
-#define MINDAVEHU_VERSION "4.0.0"
+ * mindavehu_scores take it behind d. A box of version 3, with m behind its 136 bytes, is one of version 4. Version 4.1 has mindavehu_save and
+ * mindavehu_restore besides, and changes nothing of the calls that were there. */
+#define MINDAVEHU_VERSION "4.1.0"
 #define MINDAVEHU_VERSION_MAJOR 4
-#define MINDAVEHU_VERSION_MINOR 0
+#define MINDAVEHU_VERSION_MINOR 1
 #define MINDAVEHU_VERSION_PATCH 0
 
 /* The most bytes of stack that a call needs. */
 #define MINDAVEHU_STACK 24576
 
 /* Lengths in bytes: of the state, of a label, of an answer, of the answer of the call for a list, of the counts of an exam question, of a row of either
- * table, and of the part of each held address in the manager's report and in the desk's. */
+ * table, of the part of each held address in the manager's report and in the desk's, of an image's header and of each write of a save. */
 #define MINDAVEHU_STATE 144
 #define MINDAVEHU_LABEL 64
 #define MINDAVEHU_ANSWER 24
@@ -165,6 +228,8 @@ extern "C" {
 #define MINDAVEHU_ROW 40
 #define MINDAVEHU_MANAGER_PART 7
 #define MINDAVEHU_DESK_PART 5
+#define MINDAVEHU_IMAGE_HEADER 64
+#define MINDAVEHU_IMAGE_WRITE 64
 
 /* The length in bytes of each other buffer, by the box's numbers and the number of addresses in a list. */
 #define MINDAVEHU_DISK_LENGTH(B, P) ((size_t)(P) * (size_t)(B))
@@ -175,6 +240,11 @@ extern "C" {
 #define MINDAVEHU_BUFFER_LENGTH(B, count) ((size_t)(count) * (size_t)(B))
 #define MINDAVEHU_MANAGER_REPORT_LENGTH(m) ((size_t)(m) * MINDAVEHU_MANAGER_PART)
 #define MINDAVEHU_DESK_REPORT_LENGTH(m) ((size_t)(m) * MINDAVEHU_DESK_PART)
+
+/* The length of an image's body: seven numbers of 4 bytes, the label and both tables; and of the area that has room for header, body and fill. */
+#define MINDAVEHU_BODY_LENGTH(m, d) (28 + MINDAVEHU_LABEL + MINDAVEHU_ADDRESSES_LENGTH(m) + MINDAVEHU_BLOCKS_LENGTH(d))
+#define MINDAVEHU_AREA_LENGTH(m, d) \
+    (MINDAVEHU_IMAGE_HEADER + (MINDAVEHU_BODY_LENGTH(m, d) + MINDAVEHU_IMAGE_WRITE - 1) / MINDAVEHU_IMAGE_WRITE * MINDAVEHU_IMAGE_WRITE)
 
 /* The most addresses in a list. */
 #define MINDAVEHU_MANY_MOST 64
@@ -196,6 +266,9 @@ extern "C" {
 #define MINDAVEHU_BAD_COUNT 10       /* a list of no address, or of more than 64 */
 #define MINDAVEHU_BAD_LIMIT 12       /* the limit t is not 1 to m */
 #define MINDAVEHU_TOO_DIRTY 13       /* more than t addresses are dirty */
+#define MINDAVEHU_NO_ROOM 14         /* the area is too short for header, body and fill */
+#define MINDAVEHU_NO_IMAGE 15        /* the area does not start with the header of an image of version 1 */
+#define MINDAVEHU_BAD_IMAGE 16       /* the image's body is not of a box that this library runs, or that box would be refused */
 #define MINDAVEHU_TOO_LARGE 17       /* an exam question: P is above 4, B is not 64 or k is above 8 */
 
 /* The words of an answer. */
@@ -205,7 +278,7 @@ extern "C" {
 #define MINDAVEHU_NEW 4    /* a write: none was */
 #define MINDAVEHU_CACHE 5  /* a look: the part is of the flash */
 #define MINDAVEHU_DISK 6   /* a look: the part is of the disk */
-#define MINDAVEHU_DONE 7   /* a flush, whole or in parts */
+#define MINDAVEHU_DONE 7   /* a flush, whole or in parts, and a save */
 
 /* The fields of the state, by the byte where each starts. STATE_LABEL is no number but the MINDAVEHU_LABEL bytes of the label. */
 #define MINDAVEHU_B 0
@@ -280,6 +353,9 @@ static inline const char *mindavehu_refusal_text(uint32_t refusal)
     case MINDAVEHU_BAD_COUNT: return "the list has no address, or more than 64";
     case MINDAVEHU_BAD_LIMIT: return "the limit t is not 1 to m";
     case MINDAVEHU_TOO_DIRTY: return "more than t addresses are dirty";
+    case MINDAVEHU_NO_ROOM: return "the area is too short for the image";
+    case MINDAVEHU_NO_IMAGE: return "the area has no image of version 1";
+    case MINDAVEHU_BAD_IMAGE: return "the image is not of a sound box";
     case MINDAVEHU_TOO_LARGE: return "P is above 4, B is not 64 or k is above 8";
     default: return "no refusal has this number";
     }
@@ -407,6 +483,36 @@ uint32_t mindavehu_desk_report(const uint8_t *state, size_t state_length,
                                const uint8_t *blocks, size_t blocks_length,
                                uint8_t *report, size_t report_length);
 
+/* Saves a box before it is shut down: flushes it as mindavehu_flush does, with the same answer and counts, then writes its image, as the flush has left it,
+ * into the area. Bytes of the area behind the image are kept. Refused as a flush is, with 1, 12, 2, 6, 7, 8, 13 or 9, then with 14 if the area is shorter than
+ * MINDAVEHU_AREA_LENGTH(m, d): a refused save flushes nothing and keeps every byte.
+ * The area is written in parts of 64 bytes: first the header is cleared, then the body is written from its start to its end, then the header is written. If
+ * power fails during these writes, where the area had no image before them (a restore takes it away) and a part that is a header is written wholly or not at
+ * all, the area has no image, and a restore gets 15, or it has this one. In both cases the flush is done, and the disk is what was written. That the parts
+ * reach what keeps the area in this order is the caller's part, wherever the area is more than memory. */
+uint32_t mindavehu_save(uint8_t *state, size_t state_length,
+                        uint8_t *disk, size_t disk_length,
+                        const uint8_t *flash, size_t flash_length,
+                        uint8_t *addresses, size_t addresses_length,
+                        const uint8_t *blocks, size_t blocks_length,
+                        uint8_t *area, size_t area_length,
+                        uint8_t *answer, size_t answer_length);
+
+/* Gives back the box that is saved in the area: B, P, m, d, n, the label and t in the state, and both tables, which may hold any bytes before. The counters in
+ * the state stay as they are. The area's first 64 bytes become zeros, so that an image is found once; nothing else is touched.
+ * Promised only where the save was the last call on its box, and disk and flash are as that save left them: neither is lent, so nothing of this can be
+ * checked. On a disk and a flash of another time the box would give blocks of another time.
+ * `lists` has length 0; its pointer is not NULL.
+ * Refused with 15 if the area has fewer than 64 bytes or does not start with the header of an image of version 1; then with 14 if it is too short for the
+ * length in that header; then with 16 if the body starts with another number than 0, has another length than its m and d say, or is of a box that would be
+ * refused with 1, 12, 6, 7, 8 or 13 (the bytes behind the body may be any); then with 2 if the tables are not m x 40 and d x 40 bytes, or the lists not 0.
+ * A refused restore writes zeros for B, P, m, d, n, the label and t, and keeps all else, the header too: after a 2 the caller may lend other tables. */
+uint32_t mindavehu_restore(uint8_t *state, size_t state_length,
+                           uint8_t *area, size_t area_length,
+                           uint8_t *addresses, size_t addresses_length,
+                           uint8_t *blocks, size_t blocks_length,
+                           uint8_t *lists, size_t lists_length);
+
 /* How hard an exam question is: counts, over all lists of k reads (k from 0 to 8) from a fresh box of these numbers and this label over the disk, how many
  * have 0, 1, up to 8 hits. Count h starts at byte 8 x h of `counts` (mindavehu_get(counts, 8 * h)); those beyond k are 0, and their total is P to the power k.
  * Refused with 1, 12, 2 or 17: `counts`, where it has its 72 bytes, gets nine counts of 0; with another length, which gives 2 unless 1 or 12 comes first, it
@@ -505,6 +611,18 @@ static inline uint32_t mindavehu_box_manager_report(const struct mindavehu_box *
 static inline uint32_t mindavehu_box_desk_report(const struct mindavehu_box *box, uint8_t *report, size_t report_length)
 {
     return mindavehu_desk_report(MINDAVEHU_BOX_STATE, MINDAVEHU_BOX_MEMORY, report, report_length);
+}
+
+static inline uint32_t mindavehu_box_save(struct mindavehu_box *box, uint8_t *area, size_t area_length)
+{
+    return mindavehu_save(MINDAVEHU_BOX_STATE, MINDAVEHU_BOX_MEMORY, area, area_length, MINDAVEHU_BOX_ANSWER);
+}
+
+/* Into the state of the box and the tables that it was lent. Its counters are those of the state before: 0 after mindavehu_box_lend. */
+static inline uint32_t mindavehu_box_restore(struct mindavehu_box *box, uint8_t *area, size_t area_length)
+{
+    uint8_t no_lists = 0;
+    return mindavehu_restore(MINDAVEHU_BOX_STATE, area, area_length, box->addresses, box->addresses_length, box->blocks, box->blocks_length, &no_lists, 0);
 }
 
 #undef MINDAVEHU_BOX_STATE

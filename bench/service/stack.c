@@ -11,7 +11,7 @@ enum { B = 4096, P = 2048, M = 1024, D = 256, STACK = 1 << 20, PAINT = 0xA5 };
 
 static uint8_t buffer[MINDAVEHU_MANY_MOST * B], many[MINDAVEHU_MANY_ANSWER];
 static uint8_t state[MINDAVEHU_STATE], answer[MINDAVEHU_ANSWER], addresses[M * MINDAVEHU_ROW], blocks[D * MINDAVEHU_ROW], block[B];
-static uint8_t manager[MINDAVEHU_MANAGER_REPORT_LENGTH(M)], desk[MINDAVEHU_DESK_REPORT_LENGTH(M)];
+static uint8_t manager[MINDAVEHU_MANAGER_REPORT_LENGTH(M)], desk[MINDAVEHU_DESK_REPORT_LENGTH(M)], area[MINDAVEHU_AREA_LENGTH(M, D)];
 static const uint8_t label[MINDAVEHU_LABEL] = "Office 7";
 static uint8_t *disk, *flash;
 
@@ -102,6 +102,19 @@ static void *desk_reports(void *unused)
     return unused;
 }
 
+/* The restore takes the image of the save. */
+static void *saves(void *unused)
+{
+    mindavehu_save(state, sizeof state, MEMORY, area, sizeof area, answer, sizeof answer);
+    return unused;
+}
+
+static void *restores(void *unused)
+{
+    mindavehu_restore(state, sizeof state, area, sizeof area, addresses, sizeof addresses, blocks, sizeof blocks, block, 0);
+    return unused;
+}
+
 /* Eight reads of four addresses. */
 static void *asks(void *unused)
 {
@@ -136,7 +149,7 @@ int main(void)
     static const struct { const char *name; void *(*call)(void *); } calls[] = {
         {"open", opens}, {"write back", writes_back}, {"read", reads}, {"folder", folders}, {"flush in parts", flushes_in_parts}, {"flush", flushes},
         {"look", looks}, {"manager's report", manager_reports}, {"desk's report", desk_reports}, {"write invalidate", invalidates},
-        {"write through", writes_through}, {"exam question", asks},
+        {"write through", writes_through}, {"save", saves}, {"restore", restores}, {"exam question", asks},
     };
     long none = used(nothing);
     disk = calloc(P, B);

@@ -7,14 +7,14 @@
 #include "mindavehu.h"
 #include "expect.h"
 
-enum { B = 128, P = 16, M = 5, D = 3, T = 2, COUNT = 4, CALLS = 5000, KINDS = 10 };
+enum { B = 128, P = 16, M = 5, D = 3, T = 2, COUNT = 4, CALLS = 5000, KINDS = 12 };
 
 /* The memory of a box, the bytes behind the state and the answers included. */
 struct memory {
     uint8_t disk[MINDAVEHU_DISK_LENGTH(B, P)], flash[MINDAVEHU_FLASH_LENGTH(B, D)], addresses[MINDAVEHU_ADDRESSES_LENGTH(M)];
     uint8_t blocks[MINDAVEHU_BLOCKS_LENGTH(D)], block[MINDAVEHU_BLOCK_LENGTH(B)], buffer[MINDAVEHU_BUFFER_LENGTH(B, COUNT)];
     uint8_t state[MINDAVEHU_STATE], answer[MINDAVEHU_ANSWER], many[MINDAVEHU_MANY_ANSWER];
-    uint8_t manager[MINDAVEHU_MANAGER_REPORT_LENGTH(M)], desk[MINDAVEHU_DESK_REPORT_LENGTH(M)];
+    uint8_t manager[MINDAVEHU_MANAGER_REPORT_LENGTH(M)], desk[MINDAVEHU_DESK_REPORT_LENGTH(M)], area[MINDAVEHU_AREA_LENGTH(M, D)];
 };
 
 static struct memory one, other;
@@ -41,6 +41,35 @@ static void expect_same(void)
     memcpy(one.answer, box.answer, sizeof one.answer);
     memcpy(one.many, box.many, sizeof one.many);
     EXPECT(memcmp(&one, &other, sizeof one) == 0);
+}
+
+/* A save and a restore both ways, into tables of other bytes. Before the save a restore finds no image; the state, then a record of zeros, is put back. */
+static uint32_t call_restore(void)
+{
+    static struct memory kept;
+    static struct mindavehu_box kept_box;
+    uint8_t no_lists = 0;
+    kept = other, kept_box = box;
+    memset(one.area, 0, MINDAVEHU_IMAGE_HEADER), memset(other.area, 0, MINDAVEHU_IMAGE_HEADER);
+    for (int saved = 0; saved < 2; saved++) {
+        if (saved) {
+            EXPECT(mindavehu_box_save(&box, one.area, sizeof one.area) == MINDAVEHU_SERVED);
+            EXPECT(mindavehu_save(STATE, MEMORY, other.area, sizeof other.area, ANSWER) == MINDAVEHU_SERVED);
+            expect_same();
+            memset(one.addresses, 5, sizeof one.addresses), memset(one.blocks, 5, sizeof one.blocks);
+            memset(other.addresses, 5, sizeof other.addresses), memset(other.blocks, 5, sizeof other.blocks);
+        }
+        uint32_t first = mindavehu_box_restore(&box, one.area, sizeof one.area);
+        uint32_t second = mindavehu_restore(STATE, other.area, sizeof other.area, other.addresses, sizeof other.addresses, other.blocks, sizeof other.blocks,
+                                            &no_lists, 0);
+        EXPECT(first == (saved ? MINDAVEHU_SERVED : MINDAVEHU_NO_IMAGE) && first == second);
+        expect_same();
+        EXPECT(mindavehu_get(box.state, MINDAVEHU_M) == (saved ? M : 0));
+        if (!saved)
+            memcpy(other.state, kept.state, sizeof other.state), box = kept_box;
+    }
+    EXPECT(mindavehu_get(box.state, MINDAVEHU_READS) == mindavehu_get(kept.state, MINDAVEHU_READS));
+    return MINDAVEHU_SERVED;
 }
 
 /* One call both ways. Gives its result. Now and then an address or a length is not right. */
@@ -84,6 +113,12 @@ static uint32_t call(unsigned kind)
         first = mindavehu_box_desk_report(&box, one.desk, sizeof one.desk - (length < B));
         second = mindavehu_desk_report(STATE, MEMORY, other.desk, sizeof other.desk - (length < B));
         break;
+    case 9:
+        first = mindavehu_box_save(&box, one.area, sizeof one.area - (length < B));
+        second = mindavehu_save(STATE, MEMORY, other.area, sizeof other.area - (length < B), ANSWER);
+        break;
+    case 10:
+        return call_restore();
     default:
         first = mindavehu_box_read_many(&box, asked, COUNT, one.buffer, sizeof one.buffer);
         second = mindavehu_read_many(STATE, asked, COUNT, MEMORY, other.buffer, sizeof other.buffer, other.many, sizeof other.many);
@@ -118,7 +153,7 @@ static void the_same_calls(void)
             refused++;
     }
     for (unsigned kind = 0; kind < KINDS; kind++)
-        EXPECT(served[kind] > CALLS / 20);
+        EXPECT(served[kind] > CALLS / 25);
     EXPECT(seen);
     EXPECT(refused > CALLS / 40);
 }
@@ -143,6 +178,13 @@ static void the_lengths(void)
             }
     }
     EXPECT(MINDAVEHU_DISK_LENGTH(4096, 65536) == (size_t)4096 * 65536);
+    EXPECT(MINDAVEHU_BODY_LENGTH(1, 1) == 172 && MINDAVEHU_AREA_LENGTH(1, 1) == 64 + 192);
+    EXPECT(MINDAVEHU_BODY_LENGTH(1024, 256) == 51292 && MINDAVEHU_AREA_LENGTH(1024, 256) == 64 + 51328);
+    /* A body is never a multiple of 64 bytes, so there is a fill, and it is less than a write. */
+    for (size_t m = 1; m < 100; m++) {
+        size_t fill = MINDAVEHU_AREA_LENGTH(m, 7) - MINDAVEHU_IMAGE_HEADER - MINDAVEHU_BODY_LENGTH(m, 7);
+        EXPECT(MINDAVEHU_AREA_LENGTH(m, 7) % MINDAVEHU_IMAGE_WRITE == 0 && fill > 0 && fill < MINDAVEHU_IMAGE_WRITE);
+    }
 }
 
 /* Two addresses, one of each held: of the four lists of two reads two have a hit. A refused question leaves zeros, one with other lengths nothing. */
@@ -171,14 +213,16 @@ static void the_texts(void)
     for (unsigned k = 0; k < 7; k++)
         EXPECT(strcmp(mindavehu_word_name(k + 1), words[k]) == 0);
     EXPECT(strcmp(mindavehu_word_name(0), "no word has this number") == 0 && strcmp(mindavehu_word_name(8), "no word has this number") == 0);
-    static const uint32_t refusals[] = {0, 1, 2, 3, 4, 5, 6, 7, 8, 9, 10, MINDAVEHU_BAD_LIMIT, MINDAVEHU_TOO_DIRTY, MINDAVEHU_TOO_LARGE, 11};
-    for (size_t k = 0; k < 14; k++)
-        for (size_t i = 0; i < 15; i++)
+    static const uint32_t refusals[] = {0, 1, 2, 3, 4, 5, 6, 7, 8, 9, 10, MINDAVEHU_BAD_LIMIT, MINDAVEHU_TOO_DIRTY, MINDAVEHU_NO_ROOM, MINDAVEHU_NO_IMAGE,
+                                        MINDAVEHU_BAD_IMAGE, MINDAVEHU_TOO_LARGE, 11};
+    for (size_t k = 0; k < 17; k++)
+        for (size_t i = 0; i < 18; i++)
             EXPECT((strcmp(mindavehu_refusal_text(refusals[k]), mindavehu_refusal_text(refusals[i])) == 0) == (k == i));
     EXPECT(strcmp(mindavehu_refusal_text(MINDAVEHU_SERVED), "served") == 0);
     EXPECT(strcmp(mindavehu_refusal_text(MINDAVEHU_NO_ADDRESS), "the address is P or more") == 0);
     EXPECT(strcmp(mindavehu_refusal_text(MINDAVEHU_BAD_LIMIT), "the limit t is not 1 to m") == 0);
     EXPECT(strcmp(mindavehu_refusal_text(MINDAVEHU_TOO_DIRTY), "more than t addresses are dirty") == 0);
+    EXPECT(MINDAVEHU_NO_ROOM == 14 && MINDAVEHU_NO_IMAGE == 15 && MINDAVEHU_BAD_IMAGE == 16);
     EXPECT(strcmp(mindavehu_refusal_text(11), "no refusal has this number") == 0);
 }
 

@@ -1,5 +1,5 @@
 /* A week of calls through the header: the document's replay (E1), write back and sharing, eviction, flush, whole and in parts, looks, a folder opened
- * with one call, two offices with equal pages, seats and both reports, a limit on dirty addresses, and refusals.
+ * with one call, two offices with equal pages, seats and both reports, a limit on dirty addresses, a warm start, and refusals.
  * Prints what it checked, or the line that failed. */
 #include <stdio.h>
 #include <stdlib.h>
@@ -630,6 +630,105 @@ static void folder_refusals(void)
     drop(&b), drop_folder(&f), drop_folder(&none), drop_folder(&above);
 }
 
+/* An area for a box of three addresses and two blocks, its own piece of the heap: 28 + 64 + 5 x 40 bytes in five writes behind the header. */
+#define AREA_LENGTH MINDAVEHU_AREA_LENGTH(3, 2)
+static uint32_t save(struct box *b, uint8_t *area) { return mindavehu_save(STATE(b), MEMORY(b), area, AREA_LENGTH, ANSWER(b)); }
+static uint32_t restore_from(struct box *b, uint8_t *area, size_t area_length, size_t lists_length)
+{
+    uint8_t *lists = piece(lists_length + (lists_length == 0));
+    uint32_t refusal = mindavehu_restore(STATE(b), area, area_length, b->addresses, b->addresses_length, b->blocks, b->blocks_length, lists, lists_length);
+    free(lists);
+    return refusal;
+}
+static uint32_t restore(struct box *b, uint8_t *area) { return restore_from(b, area, AREA_LENGTH, 0); }
+
+/* Whether the record in the state is zeros, and the counters are these four of one number. */
+static int blank(const struct box *b, uint64_t counter)
+{
+    return filled(b->state, MINDAVEHU_READS, 0) && filled(b->state + MINDAVEHU_STATE_LABEL, MINDAVEHU_STATE - MINDAVEHU_STATE_LABEL, 0)
+        && counted(b, counter, counter, counter, counter);
+}
+
+/* A box whose state and tables are lost: other bytes, with counters of one number. */
+static void lose(struct box *b, uint64_t counter)
+{
+    memset(b->state, 0x5A, MINDAVEHU_STATE), memset(b->addresses, 0x5A, b->addresses_length), memset(b->blocks, 0x5A, b->blocks_length);
+    for (size_t field = MINDAVEHU_READS; field <= MINDAVEHU_PRIMARY_WRITES; field += 8)
+        mindavehu_put(b->state, field, counter);
+}
+
+/* The next Monday: a save flushes and makes an image, a restore gives the box back once, and its pages are hits at once. */
+static void warm_start(void)
+{
+    struct box b = make(64, 8, 3, 2), twin = make(64, 8, 3, 2);
+    uint8_t *area = piece(AREA_LENGTH), *image = piece(AREA_LENGTH), *end = area + MINDAVEHU_IMAGE_HEADER + MINDAVEHU_BODY_LENGTH(3, 2);
+    EXPECT(MINDAVEHU_BODY_LENGTH(3, 2) == 292 && AREA_LENGTH == 64 + 320);
+    memset(area, 0xDD, AREA_LENGTH);
+    EXPECT(open_box(&b) == 0 && read_block(&b, 1) == 0 && back(&b, 5, 9) == 0);
+    EXPECT(open_box(&twin) == 0 && read_block(&twin, 1) == 0 && back(&twin, 5, 9) == 0 && flush(&twin) == 0);
+    EXPECT(save(&b, area) == MINDAVEHU_SERVED && says(&b, MINDAVEHU_DONE, 0, 1) && counted(&b, 1, 0, 2, 1) && filled(b.disk + 5 * 64, 64, 9));
+    EXPECT(same(b.state, twin.state, MINDAVEHU_STATE) && same(b.addresses, twin.addresses, 120) && same(b.blocks, twin.blocks, 80));
+    static const uint8_t header[9] = {'V', 'B', 'X', 1, 0, 36, 1, 0, 0};
+    static const uint8_t numbers[28] = {0, 0, 0, 0, 64, 0, 0, 0, 8, 0, 0, 0, 3, 0, 0, 0, 2, 0, 0, 0, 2, 0, 0, 0, 3, 0, 0, 0};
+    EXPECT(same(area, header, 9) && filled(area + 9, 55, 0) && same(area + 64, numbers, 28) && filled(area + 92, 64, 0x4F));
+    EXPECT(same(area + 156, b.addresses, 120) && same(area + 276, b.blocks, 80) && filled(end, 28, 0));
+    memcpy(image, area, AREA_LENGTH);
+    lose(&b, 7);
+    EXPECT(restore(&b, area) == MINDAVEHU_SERVED && counted(&b, 7, 7, 7, 7) && labelled(&b, 0x4F) && mindavehu_get(b.state, MINDAVEHU_N) == 2);
+    EXPECT(mindavehu_get(b.state, MINDAVEHU_B) == 64 && mindavehu_get(b.state, MINDAVEHU_P) == 8 && mindavehu_get(b.state, MINDAVEHU_M) == 3);
+    EXPECT(mindavehu_get(b.state, MINDAVEHU_D) == 2 && mindavehu_get(b.state, MINDAVEHU_T) == 3);
+    EXPECT(same(b.addresses, twin.addresses, 120) && same(b.blocks, twin.blocks, 80));
+    EXPECT(filled(area, 64, 0) && same(area + 64, image + 64, AREA_LENGTH - 64));
+    EXPECT(read_block(&b, 5) == 0 && says(&b, MINDAVEHU_HIT, 0, 0) && filled(b.block, 64, 9) && read_block(&b, 1) == 0 && says(&b, MINDAVEHU_HIT, 0, 0));
+    lose(&b, 8);
+    EXPECT(restore(&b, area) == MINDAVEHU_NO_IMAGE && blank(&b, 8) && filled(b.addresses, 120, 0x5A) && filled(b.blocks, 80, 0x5A));
+    drop(&b), drop(&twin), free(area), free(image);
+}
+
+/* A refused restore leaves a record of zeros and keeps all else, the area's header too. */
+#define NO_RESTORE(b, area, call, number)                                                                                                   \
+    do {                                                                                                                                    \
+        uint8_t *kept_area = piece(AREA_LENGTH);                                                                                            \
+        memcpy(kept_area, area, AREA_LENGTH);                                                                                               \
+        lose(b, 6);                                                                                                                         \
+        EXPECT((call) == (number));                                                                                                         \
+        EXPECT(blank(b, 6) && filled((b)->addresses, (b)->addresses_length, 0x5A) && filled((b)->blocks, (b)->blocks_length, 0x5A));        \
+        EXPECT(same(kept_area, area, AREA_LENGTH));                                                                                         \
+        free(kept_area);                                                                                                                    \
+    } while (0)
+
+/* The refusals of a save, 14 after 9, and of a restore: 2, then 16, 14 and 15 before it. */
+static void image_refusals(void)
+{
+    struct box b = make(64, 8, 3, 2), other = make(64, 8, 3, 3);
+    uint8_t *area = piece(AREA_LENGTH), *kept_area = piece(AREA_LENGTH);
+    memset(area, 0xDD, AREA_LENGTH), memcpy(kept_area, area, AREA_LENGTH);
+    EXPECT(open_box(&b) == 0 && back(&b, 5, 9) == 0);
+    KEPT(&b, mindavehu_save(STATE(&b), MEMORY(&b), area, AREA_LENGTH - 1, ANSWER(&b)), MINDAVEHU_NO_ROOM);
+    KEPT(&b, mindavehu_save(STATE(&b), MEMORY(&b), area, AREA_LENGTH, b.answer, 16), MINDAVEHU_WRONG_LENGTH);
+    mindavehu_put(b.state, MINDAVEHU_READS, (1ull << 63) + 1);
+    KEPT(&b, mindavehu_save(STATE(&b), MEMORY(&b), area, 0, ANSWER(&b)), MINDAVEHU_COUNTER_FULL);
+    mindavehu_put(b.state, MINDAVEHU_T, 0);
+    KEPT(&b, save(&b, area), MINDAVEHU_BAD_LIMIT);
+    EXPECT(same(area, kept_area, AREA_LENGTH) && filled(b.disk + 5 * 64, 64, 5));
+    mindavehu_put(b.state, MINDAVEHU_T, 3), mindavehu_put(b.state, MINDAVEHU_READS, 0);
+    EXPECT(save(&b, area) == MINDAVEHU_SERVED && filled(b.disk + 5 * 64, 64, 9));
+    NO_RESTORE(&other, area, restore(&other, area), MINDAVEHU_WRONG_LENGTH);
+    NO_RESTORE(&b, area, restore_from(&b, area, AREA_LENGTH, 1), MINDAVEHU_WRONG_LENGTH);
+    KEPT(&b, mindavehu_restore(b.state, 136, area, AREA_LENGTH, b.addresses, 120, b.blocks, 80, b.block, 0), MINDAVEHU_WRONG_LENGTH);
+    area[64 + 24] = 0;
+    NO_RESTORE(&other, area, restore(&other, area), MINDAVEHU_BAD_IMAGE);
+    area[64 + 24] = 3, area[64] = 1;
+    NO_RESTORE(&b, area, restore(&b, area), MINDAVEHU_BAD_IMAGE);
+    NO_RESTORE(&b, area, restore_from(&b, area, AREA_LENGTH - 1, 0), MINDAVEHU_NO_ROOM);
+    area[3] = 2;
+    NO_RESTORE(&b, area, restore_from(&b, area, AREA_LENGTH - 1, 0), MINDAVEHU_NO_IMAGE);
+    area[3] = 1, area[64] = 0;
+    NO_RESTORE(&b, area, restore_from(&b, area, 63, 0), MINDAVEHU_NO_IMAGE);
+    EXPECT(restore(&b, area) == MINDAVEHU_SERVED && read_block(&b, 5) == 0 && says(&b, MINDAVEHU_HIT, 0, 0) && filled(b.block, 64, 9));
+    drop(&b), drop(&other), free(area), free(kept_area);
+}
+
 int main(void)
 {
     replay();
@@ -647,6 +746,8 @@ int main(void)
     limit_refusals();
     two_runs();
     folder_refusals();
+    warm_start();
+    image_refusals();
     printf("week: %u facts hold\n", checks);
     return 0;
 }

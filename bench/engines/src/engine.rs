@@ -10,7 +10,7 @@ const CACHE: u64 = 5;
 const DISK: u64 = 6;
 const DONE: u64 = 7;
 
-const FIRST_COUNTER: usize = 5;
+pub(crate) const FIRST_COUNTER: usize = 5;
 const MOST_COUNTED: u64 = 1 << 63;
 const MOST_ASKED: usize = 64;
 
@@ -193,7 +193,7 @@ pub fn open(state: &mut [u8], label: &[u8], disk: &[u8], flash: &[u8], addresses
 
 /// The refusals of a call, in their order. Where there is none the index has the used block rows.
 #[allow(clippy::too_many_arguments)]
-fn checked<I: Index>(
+pub(crate) fn checked<I: Index>(
     index: &mut I,
     state: &[u8],
     a: Option<u32>,

@@ -7,6 +7,7 @@
 pub mod array;
 mod checks;
 mod engine;
+mod image;
 mod layout;
 pub mod maps;
 pub mod persistent;
@@ -105,6 +106,12 @@ macro_rules! calls {
         }
         pub fn desk_report(state: &[u8], disk: &[u8], flash: &[u8], addresses: &[u8], blocks: &[u8], report: &mut [u8]) -> u32 {
             crate::number_of(crate::engine::report::<$index>(state, disk, flash, addresses, blocks, report, false))
+        }
+        pub fn save(state: &mut [u8], disk: &mut [u8], flash: &[u8], addresses: &mut [u8], blocks: &[u8], area: &mut [u8], answer: &mut [u8]) -> u32 {
+            crate::number_of(crate::image::save::<$index>(state, disk, flash, addresses, blocks, area, answer))
+        }
+        pub fn restore(state: &mut [u8], area: &mut [u8], addresses: &mut [u8], blocks: &mut [u8], lists: &[u8]) -> u32 {
+            crate::number_of(crate::image::restore::<$index>(state, area, addresses, blocks, lists))
         }
     };
 }

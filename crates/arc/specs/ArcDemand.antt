@@ -10,8 +10,8 @@ use lib.ListN.{length, getD}
 use Rattle.paper.specs.KeyedLaws.{All}
 use Rattle.paper.specs.Cache.{AddressRow, Box, held, rowWithBlock}
 use Rattle.paper.specs.Engine.{Fixed, labelled}
-use Rattle.paper.specs.Lent.{Ask, calling, callOf, aboutAsk, boxIn, FewDirty, join, split, oneOf}
-use Rattle.paper.specs.BatchLent.{Asking, one, many, report}
+use Rattle.paper.specs.Lent.{Ask, calling, callOf, aboutAsk, boxIn, FewDirty, join, split, oneOf, withCounters}
+use Rattle.paper.specs.BatchLent.{Asking, one, many, report, recount}
 use Rattle.paper.specs.Machines.{plainNext, plainBlock, writtenBy, TrueFingerprints, NoTwoShare}
 use Rattle.arc.specs.Arc.{Sizes, baseNumbers, mOf, Lists, onTop}
 use Rattle.arc.specs.ArcMid.{named}
@@ -31,12 +31,15 @@ abbrev pub arcNumber : Sizes → ArcLent → Asking → ℕ
 arcNumber Z t (one q) = arcRefusal Z t (calling q)
 arcNumber Z t (many l buffer) = arcFolderRefusal Z t l buffer
 arcNumber Z t (report w lent) = arcReportRefusal Z t w lent
+arcNumber Z t (recount k) = 0
 
 -- "Box record, disk, flash, both tables and counters pass from call to call.": the lists and their record too. A report writes none of them.
+-- Only `recount` writes other counters.
 abbrev pub arcNext : Sizes → ArcLent → Asking → ArcLent
 arcNext Z t (one q) = (arcCall Z t q) .lent
 arcNext Z t (many l buffer) = (arcFolderCall Z t l buffer) .lent
 arcNext Z t (report w lent) = t
+arcNext Z t (recount k) = record { base = withCounters (t .base) k; sizes = t .sizes; lists = t .lists }
 
 -- "Plain disk: P blocks, first those of the disk. It is fed the calls and their arguments in turn and, of the answers, only which are refusals."
 abbrev pub diskOf : (Z : Sizes) → ArcLent → List (Fixed (Z .B))
@@ -46,6 +49,7 @@ abbrev pub arcPlain : (Z : Sizes) → ArcLent → List (Fixed (Z .B)) → Asking
 arcPlain Z t plain (one q) = cond (eqb (arcRefusal Z t (calling q)) 0) (plainNext plain (callOf (Z .B) q)) plain
 arcPlain Z t plain (many l buffer) = plain
 arcPlain Z t plain (report w lent) = plain
+arcPlain Z t plain (recount k) = plain
 
 -- a claim "in every state reached, the fresh one included"
 unfoldable pub ArcThroughout : (Z : Sizes) (Q : ArcLent → List (Fixed (Z .B)) → Type 0) → ArcLent → List (Fixed (Z .B)) → List Asking → Type 0
@@ -70,6 +74,7 @@ abbrev pub arcWrites : (Z : Sizes) → Asking → List (Fixed (Z .B))
 arcWrites Z (one q) = writtenBy (callOf (Z .B) q)
 arcWrites Z (many l buffer) = []
 arcWrites Z (report w lent) = []
+arcWrites Z (recount k) = []
 
 unfoldable pub arcWritten : (Z : Sizes) → ArcLent → List Asking → List (Fixed (Z .B))
 arcWritten Z t [] = []
@@ -84,12 +89,14 @@ ArcShows Z t plain (one q) =
     arcReturned q (arcCall Z t q) ≡ Option·map (λ (b : Fixed (Z .B)). b .0) (plainBlock (labelled (baseNumbers Z) .blank) plain (callOf (Z .B) q))
 ArcShows Z t plain (many l buffer) = (arcFolderCall Z t l buffer) .buffer ≡ join (map (λ a. getD plain a (labelled (baseNumbers Z) .blank)) l)
 ArcShows Z t plain (report w lent) = Unit {0}
+ArcShows Z t plain (recount k) = Unit {0}
 
 -- U2: "blocks, flash, tables, counters and disk are those of the reads done in turn, with 9 checked only before the first": the lists and p too
 abbrev pub ArcAsReads : (Z : Sizes) → ArcLent → List (Fixed (Z .B)) → Asking → Type 0
 ArcAsReads Z t plain (one q) = Unit {0}
 ArcAsReads Z t plain (many l buffer) = (arcFolderCall Z t l buffer) .lent ≡ arcServedInTurn Z t l
 ArcAsReads Z t plain (report w lent) = Unit {0}
+ArcAsReads Z t plain (recount k) = Unit {0}
 
 -- after a full flush the disk is the plain disk
 abbrev pub ArcFlushes : (Z : Sizes) → ArcLent → List (Fixed (Z .B)) → Asking → Type 0

@@ -25,11 +25,12 @@ use Rattle.paper.specs.Faithful.{at, BlockTrue, Faithful}
 use Rattle.paper.specs.PlainDisk.{clean-is-plain}
 use Rattle.paper.specs.FewWrites.{one-if-le, few-by}
 use Rattle.paper.specs.Parts.{length-split, join-split}
-use Rattle.paper.specs.LentLaws.{Lengths, right-lengths, Passes, passes-sound, sound-passes, lent-back}
-use Rattle.paper.specs.CallLaws.{about-call, Grown, In64, not-over}
+use Rattle.hash.specs.LastChunk.{Size}
+use Rattle.paper.specs.LentLaws.{Lengths, right-lengths, Passes, counters-box, counters-pass, passes-sound, sound-passes, lent-back}
+use Rattle.paper.specs.CallLaws.{seven, about-call, Grown, In64, not-over}
 use Rattle.paper.specs.Batch.{start, firstRead, source, blocksIn}
 use Rattle.paper.specs.BatchLent as Folders
-use Rattle.paper.specs.BatchLent.{Asking, one, many, report, badCount, anyOutside}
+use Rattle.paper.specs.BatchLent.{Asking, one, many, report, recount, badCount, anyOutside}
 use Rattle.paper.specs.BatchLaws.{GrownBy}
 use Rattle.paper.specs.Reports as Reports
 use Rattle.arc.specs.Policy.{Served, serveBy}
@@ -52,6 +53,7 @@ use Rattle.arc.specs.ArcDemand.{arcWrites, arcWritten, ArcShows, ArcAsRe
 
 -- numbers that pass 11
 pub record ArcFits (Z : Sizes) : Type 0 where
+  pub B-size : Size (Z .B)
   pub P-most : Z .P ≤ 65536
   pub C-least : 1 ≤ Z .C
   pub C-most : Z .C ≤ 256
@@ -68,6 +70,7 @@ arc-fits Z h =
     let p = not-false (between 1 65536 (Z .P)) (or-false-right a b (or-false-left (a || b) c h₃)) in
     let m = not-false (between 1 256 (Z .C)) (or-false-right (a || b) c h₃) in
     record {
+      B-size = seven (Z .B) (not-false _ (or-false-left a b (or-false-left (a || b) c h₃)));
       P-most = leb-true (Z .P) 65536 (and-right (leb 1 (Z .P)) (leb (Z .P) 65536) p);
       C-least = leb-true 1 (Z .C) (and-left (leb 1 (Z .C)) (leb (Z .C) 256) m);
       C-most = leb-true (Z .C) 256 (and-right (leb 1 (Z .C)) (leb (Z .C) 256) m);
@@ -445,6 +448,15 @@ module _ (Z : Sizes) where
       (λ y. folder-passes t l b (eqb-true (arcFolderRefusal Z t l b) 0 y))
       (λ y. subst ArcPasses (sym (folder-kept t l b y)) p)
   passes-next t (report w lent) p = p
+  passes-next t (recount k) p =
+      let e = sym (counters-box M (t .base) k) in
+      record {
+        base = counters-pass M (t .base) k (p .base);
+        width = p .width;
+        six = subst (λ b. listsUnsound Z (b .rows) (t .sizes) (t .lists) ≡ false) e (p .six);
+        eight = subst (λ b. topUncached H b (topsIn (t .sizes) (t .lists)) ≡ false) e (p .eight);
+        few = subst (FewDirty M) e (p .few);
+      }
 
   state-law : (t : ArcLent) → ArcPasses t → ArcStateLaw Z t
   state-law t p =
@@ -500,6 +512,7 @@ module _ (Z : Sizes) where
       rw (u, k) (by-test (wrongArcBuffers Z t || otherLength lent (mOf Z * Reports.width w))
       (λ e. rw e refl)
       (λ e. rw (e, no-6 t p, p .base .blocks, no-8 t p, no-13 t p) refl))
+  in-list t (recount c) u k p = refl
 
   numbers-are : (t : ArcLent) (qs : List Asking) → unfitArc Z ≡ false → limitOutside M ≡ false → ArcPasses t → All ArcInList (arcRefusals Z t qs)
   unfolding arcRefusals
@@ -561,6 +574,11 @@ module _ (Z : Sizes) where
         })
         (λ y. subst (λ u. Held u plain) (sym (folder-kept t l b y)) k)
     held-next t plain (report w lent) k = λ i. k
+    held-next t plain (recount c) k = λ i.
+        record {
+          passes = passes-next t (recount c) (k .passes);
+          faithful = subst (Faithful H In (Z .P) plain) (sym (counters-box M (t .base) c)) (k .faithful);
+        }
 
     -- a claim of each state, and one of each served call
     throughout : (Q : ArcLent → List (Fixed (Z .B)) → Type 0) → ((t : ArcLent) (plain : List (Fixed (Z .B))) → Held t plain → Q t plain)
@@ -609,6 +627,7 @@ module _ (Z : Sizes) where
     shown t plain (one q) k e i = shows t plain q e ((faithful-one t plain q k e i) .1)
     shown t plain (many l b) k e i = ap (λ x. x .buffer) (folder-served t l b e) ∙ ap join ((good-folder t plain l b k e) .1)
     shown t plain (report w lent) k e i = tt
+    shown t plain (recount c) k e i = tt
 
     flushed : (t : ArcLent) (plain : List (Fixed (Z .B))) (q : Asking) → Held t plain → arcNumber Z t q ≡ 0 → All In (arcWrites Z q) → ArcFlushes Z t plain q
     unfolding callOf lentOf
@@ -632,6 +651,7 @@ module _ (Z : Sizes) where
         (passes-right t (k .passes), k .faithful) tt (x .inside) in
         folder-lent t (a ∷ l) b e ∙ ap (folderLent Z) same ∙ sym (in-turn-is (x .fits) t a l (k .passes) (x .inside))
     as-reads t plain (report w lent) k e i = tt
+    as-reads t plain (recount c) k e i = tt
 
     -- where the lent memory passes, its disk is that of its box
     clean : (t : ArcLent) (plain : List (Fixed (Z .B))) → Held t plain → ArcCleanIsPlain Z t plain

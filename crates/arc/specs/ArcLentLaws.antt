@@ -5,8 +5,8 @@ use mathlib.Core.List.{List, [], _∷_, _++_, map, append-assoc}
 use Prim.Native.Nat.{ℕ, zero, suc, _+_, _-_, _*_, _^_, _≤_, _<_}
 use native.Mathlib.Omega.{arith}
 use lib.Dec.{eqb, ltb}
-use lib.ListN.{length, take, drop, length-append, length-drop, take-append-drop}
-use lib.Seq.{take-append-seam, drop-append-seam, take-append-add}
+use lib.ListN.{length, take, drop, getD, length-append, length-drop, take-append-drop}
+use lib.Seq.{getD-drop, take-append-seam, drop-append-seam, take-append-add}
 use borrow.Author.Tests.{ltb-false, le-ltb, eqb-true, eq-eqb, not-false}
 use Rattle.tables.specs.Rows.{zeros, le4}
 use Rattle.tables.specs.OperationLaws.{le4-bytes4}
@@ -69,6 +69,22 @@ pub words-back : (ws rest : List ℕ) → All (λ a. a < 2 ^ 32) ws → words (l
 unfolding words wordBytes
 words-back [] rest h = refl
 words-back (a ∷ ws) rest h = ap₂ {C = List ℕ} (λ x l. x ∷ l) (le4-bytes4 a (h .0)) (words-back ws rest (h .1))
+
+le4-drop : (t : List ℕ) (k : ℕ) → le4 (drop 4 t) (k * 4) ≡ le4 t (suc k * 4)
+le4-drop t k =
+    let e0 : 4 + k * 4 ≡ suc k * 4 = omega arith in
+    let e1 : 4 + (k * 4 + 1) ≡ suc k * 4 + 1 = omega arith in
+    let e2 : 4 + (k * 4 + 2) ≡ suc k * 4 + 2 = omega arith in
+    let e3 : 4 + (k * 4 + 3) ≡ suc k * 4 + 3 = omega arith in
+    let g : (j n : ℕ) → 4 + j ≡ n → getD (drop 4 t) j 0 ≡ getD t n 0 = λ j n e. getD-drop 4 t j 0 ∙ ap (λ (x : ℕ). getD t x 0) e in
+    rw (g (k * 4) (suc k * 4) e0, g (k * 4 + 1) (suc k * 4 + 1) e1, g (k * 4 + 2) (suc k * 4 + 2) e2, g (k * 4 + 3) (suc k * 4 + 3) e3) refl
+
+-- address k of bytes
+pub words-at : (n : ℕ) (t : List ℕ) (k : ℕ) → k < n → getD (words n t) k 0 ≡ le4 t (k * 4)
+unfolding words
+words-at zero t k h = absurd (omega (arith, h))
+words-at (suc n) t zero h = refl
+words-at (suc n) t (suc k) h = words-at n (drop 4 t) k (omega (arith, h)) ∙ le4-drop t k
 
 pub length-words : (ws : List ℕ) → length (wordBytes ws) ≡ length ws * 4
 unfolding wordBytes

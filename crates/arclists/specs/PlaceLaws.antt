@@ -6,31 +6,15 @@ use Prim.Native.Nat.{ℕ, zero, suc, _+_, _*_, _≤_, _<_}
 use native.Mathlib.Omega.{arith}
 use lib.Dec.{eqb}
 use lib.ListN.{length, getD, drop}
-use lib.Seq.{drop-cons, getD-drop}
+use lib.Seq.{drop-cons}
 use borrow.Author.Tests.{eq-eqb, ne-eqb}
 use lib.ListN.{drop-of-length-le}
-use Rattle.tables.specs.Rows.{le4, removeAt}
+use Rattle.tables.specs.Rows.{removeAt}
 use Rattle.paper.specs.KeyedLaws.{by-test, or-false-left, or-false-right, without-absent}
 use Rattle.arc.specs.Arc.{isIn, out}
 use Rattle.arc.specs.Tally.{count, tally-has}
 use Rattle.arc.specs.ArcLent.{words}
 use Rattle.arclists.specs.Listed.{placeOf}
-
-le4-drop : (t : List ℕ) (k : ℕ) → le4 (drop 4 t) (k * 4) ≡ le4 t (suc k * 4)
-le4-drop t k =
-    let e0 : 4 + k * 4 ≡ suc k * 4 = omega arith in
-    let e1 : 4 + (k * 4 + 1) ≡ suc k * 4 + 1 = omega arith in
-    let e2 : 4 + (k * 4 + 2) ≡ suc k * 4 + 2 = omega arith in
-    let e3 : 4 + (k * 4 + 3) ≡ suc k * 4 + 3 = omega arith in
-    let g : (j n : ℕ) → 4 + j ≡ n → getD (drop 4 t) j 0 ≡ getD t n 0 = λ j n e. getD-drop 4 t j 0 ∙ ap (λ (x : ℕ). getD t x 0) e in
-    rw (g (k * 4) (suc k * 4) e0, g (k * 4 + 1) (suc k * 4 + 1) e1, g (k * 4 + 2) (suc k * 4 + 2) e2, g (k * 4 + 3) (suc k * 4 + 3) e3) refl
-
--- address k
-pub words-at : (n : ℕ) (t : List ℕ) (k : ℕ) → k < n → getD (words n t) k 0 ≡ le4 t (k * 4)
-unfolding words
-words-at zero t k h = absurd (omega (arith, h))
-words-at (suc n) t zero h = refl
-words-at (suc n) t (suc k) h = words-at n (drop 4 t) k (omega (arith, h)) ∙ le4-drop t k
 
 -- a search's turn
 module _ (a : ℕ) (ws : List ℕ) (k : ℕ) where

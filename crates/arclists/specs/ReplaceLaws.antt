@@ -15,7 +15,7 @@ use Rattle.arc.specs.ArcLent.{endToEnd}
 use Rattle.arc.specs.ArcEnds.{get-seam}
 use Rattle.arclists.specs.declared.ListSizes.{ListSizes}
 use Rattle.arclists.specs.Holding.{total, Sized, Holds, Low, roomed, replaced, managed}
-use Rattle.arclists.specs.PlaceLaws.{words-at}
+use Rattle.arc.specs.ArcLentLaws.{words-at}
 use Rattle.arclists.specs.LeaveLaws.{read-back}
 use Rattle.arclists.specs.MoveLaws.{Some, some-of}
 

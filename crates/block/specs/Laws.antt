@@ -1,14 +1,14 @@
 -- The laws of `splice` and `part` that this crate's proofs and those above cite. Assumes nothing.
-use mathlib.Core.Path.{_≡_, sym, ap, _∙_}
+use mathlib.Core.Path.{_≡_, sym, ap, ap₂, _∙_}
 use Prim.Native.Nat.{ℕ, _+_, _-_, _*_, _≤_}
 use native.Mathlib.Omega.{arith}
-use native.Mathlib.Nat.{mul-le-mul}
+use native.Mathlib.Nat.{mul-le-mul, add-assoc}
 use mir.Syntax.{w64}
 use mir.Val.{Fits}
 use mir.Facts.{fits-le}
 use mathlib.Core.List.{List, _++_, append-assoc}
 use lib.ListN.{length, take, drop, length-append, length-take, length-drop}
-use lib.Seq.{drop-drop, drop-at, take-at, length-take-le}
+use lib.Seq.{drop-drop, drop-at, drop-append-add, take-at, length-take-le}
 use borrow.Rule.Slice.PartMut.{putMid}
 use Rattle.block.specs.Blocks.{part, splice}
 
@@ -28,6 +28,25 @@ part-is a n s = rw (within a n)
 pub length-splice : (at : ℕ) (s d : List ℕ) → at + length s ≤ length d → length (splice at s d) ≡ length d
 unfolding splice
 length-splice at s d h = simp (length-append, length-take, length-drop) (omega arith)
+
+-- two that touch are one
+pub splice-next : (at : ℕ) (s t d : List ℕ) → at ≤ length d → splice (at + length s) t (splice at s d) ≡ splice at (s ++ t) d
+unfolding splice
+splice-next at s t d h =
+    let p = take at d in
+    let r = drop (at + length s) d in
+    let e : p ++ (s ++ r) ≡ p ++ s ++ r = sym (append-assoc p s r) in
+    let l : length (p ++ s) ≡ at + length s = length-append p s ∙ ap (λ k. k + length s) (length-take-le at d h) in
+    let head : take (at + length s) (p ++ (s ++ r)) ≡ p ++ s = ap (take (at + length s)) e ∙ take-at (p ++ s) r (at + length s) l in
+    let tail : drop (at + length s + length t) (p ++ (s ++ r)) ≡ drop (at + length (s ++ t)) d =
+    ap (drop (at + length s + length t)) e
+    ∙ ap (λ k. drop (k + length t) (p ++ s ++ r)) (sym l)
+    ∙ drop-append-add (p ++ s) r (length t)
+    ∙ drop-drop (length t) (at + length s) d
+    ∙ ap (λ k. drop k d) (add-assoc at (length s) (length t) ∙ ap (λ k. at + k) (sym (length-append s t))) in
+    ap₂ (λ x y. x ++ (t ++ y)) head tail
+    ∙ append-assoc p s (t ++ drop (at + length (s ++ t)) d)
+    ∙ ap (λ x. p ++ x) (sym (append-assoc s t (drop (at + length (s ++ t)) d)))
 
 pub length-part : (at n : ℕ) (s : List ℕ) → at + n ≤ length s → length (part at n s) ≡ n
 unfolding part

@@ -51,6 +51,11 @@ putState n k s = put8 64 (k .primaryWrites) (put8 56 (k .flashWrites) (put8 48 (
 unfoldable pub putLabel : List ℕ → List ℕ → List ℕ
 putLabel label s = splice 72 label s
 
+-- the box record written into the state; the counters stay
+unfoldable pub putRecord : BoxRecord → List ℕ → List ℕ
+putRecord b s =
+    put8 136 (b .limit) (putLabel (b .label) (put8 32 (b .held) (put8 24 (b .slots) (put8 16 (b .rows) (put8 8 (b .blocks) (put8 0 (b .size) s))))))
+
 -- the answer, 24 bytes: the word, then the flash writes and the primary writes; of a look, where its part starts and how long it is
 unfoldable pub putAnswer : (word second third : ℕ) → List ℕ → List ℕ
 putAnswer word second third l = put8 16 third (put8 8 second (put8 0 word l))

@@ -19,7 +19,7 @@ ghost use Rattle.policy.specs.Contract.{wordOf, answerOf, manyAnswerOf};
 ghost use Rattle.open.specs.Contract.{openingNumber};
 ghost use Rattle.block.specs.Blocks.{part, splice};
 ghost use Rattle.tables.specs.Rows.{le8};
-ghost use Rattle.fields.specs.Fields.{lowBytes, stateBytes, recordIn, countersIn, put8, putState, putLabel, putAnswer, putMany, countsAfter};
+ghost use Rattle.fields.specs.Fields.{lowBytes, stateBytes, recordIn, countersIn, put8, putState, putLabel, putRecord, putAnswer, putMany, countsAfter};
 ghost use Rattle.fields.specs.Fields.{wordNumber, fitting};
 ghost use Rattle.fields.specs.Noted.{noted, notedMany, stateOpened, startOf, notedPlace};
 
@@ -235,6 +235,21 @@ pub(crate) fn put_label(state: &mut [u8], label: [u8; 64])
     ensures { λ _. ⌜ now (state .exit) ≡ putLabel label (now (state .entry)) ⌝ }
 {
     block::put(&label, state, 72);
+}
+
+// Writes the box record into the state; the counters stay.
+pub fn put_record(state: &mut [u8], b: BoxRecord)
+    requires { ⌜ length (now state) ≡ stateBytes ⌝ }
+    ensures { λ _. ⌜ now (state .exit) ≡ putRecord b (now (state .entry)) ⌝ }
+{
+    put8(state, 0, b.size as u64);
+    put8(state, 8, b.blocks as u64);
+    put8(state, 16, b.rows as u64);
+    put8(state, 24, b.slots as u64);
+    put8(state, 32, b.held as u64);
+    let label = b.label;
+    put_label(state, label);
+    put8(state, 136, b.limit as u64);
 }
 
 // Writes what an opening tells into the state: n and the label, and the counters where it was served. The number of the refusal, 0 where the box is open.

@@ -16,16 +16,17 @@ use Rattle.arc.specs.ArcLent.{words, wordBytes}
 use Rattle.arc.specs.ArcLentLaws.{length-words, words-back}
 use Rattle.image.specs.Body.{pieces, total, Fields, bodyOf, Form, bodyLength, numbersIn, fieldsIn, failsAs, failsIn, noBody}
 
-pub length-flat : (ss : List (List ℕ)) → length (flat ss) ≡ total (map length ss)
+pub length-strings : (ss : List (List ℕ)) → length (flat ss) ≡ total (map length ss)
 unfolding flat total
-length-flat [] = refl
-length-flat (s ∷ ss) = length-append s (flat ss) ∙ ap (λ k. length s + k) (length-flat ss)
+length-strings [] = refl
+length-strings (s ∷ ss) = length-append s (flat ss) ∙ ap (λ k. length s + k) (length-strings ss)
 
 pub pieces-back : (ss : List (List ℕ)) → pieces (map length ss) (flat ss) ≡ ss
 unfolding flat pieces
 pieces-back [] = refl
 pieces-back (s ∷ ss) =
-    ap₂ {C = List (List ℕ)} (λ a l. a ∷ l) (take-at s (flat ss) (length s) refl) (ap (pieces (map length ss)) (drop-at s (flat ss) (length s) refl) ∙ pieces-back ss)
+    ap₂ {C = List (List ℕ)} (λ a l. a ∷ l) (take-at s (flat ss) (length s) refl)
+    (ap (pieces (map length ss)) (drop-at s (flat ss) (length s) refl) ∙ pieces-back ss)
 
 -- fields that a form has: as many numbers, each of 4 bytes, and byte strings of the lengths that they say
 pub record Fits (f : Form) (x : Fields) : Type 0 where
@@ -38,7 +39,7 @@ module _ (f : Form) (x : Fields) (h : Fits f x) where
   unfolding bodyOf bodyLength
   length-body =
       length-append (wordBytes (x .numbers)) (flat (x .strings))
-      ∙ ap₂ _+_ (length-words (x .numbers) ∙ ap (λ k. k * 4) (h .count)) (length-flat (x .strings) ∙ ap total (h .sizes))
+      ∙ ap₂ _+_ (length-words (x .numbers) ∙ ap (λ k. k * 4) (h .count)) (length-strings (x .strings) ∙ ap total (h .sizes))
 
   pub numbers-back : numbersIn f (bodyOf x) ≡ x .numbers
   unfolding bodyOf numbersIn

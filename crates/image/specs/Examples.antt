@@ -11,10 +11,11 @@ use Rattle.tables.specs.Find as Find
 use Rattle.tables.specs.Unsound as Unsound
 use Rattle.block.specs.Blocks.{splice}
 use Rattle.paper.specs.Cache as Cache
-use Rattle.paper.specs.Cache.{Numbers, noCounts}
+use Rattle.paper.specs.Cache.{Numbers, Counters, noCounts}
 use Rattle.paper.specs.Engine as Engine
 use Rattle.paper.specs.Lent as Lent
 use Rattle.paper.specs.Lent.{Lent}
+use Rattle.arc.specs.Policy as Policy
 use Rattle.arc.specs.Arc as Arc
 use Rattle.arc.specs.Arc.{Sizes}
 use Rattle.arc.specs.ArcLent as ArcLent
@@ -27,6 +28,7 @@ use Rattle.image.specs.Image as Image
 use Rattle.image.specs.Image.{imageRefusal}
 use Rattle.image.specs.Kinds as Kinds
 use Rattle.image.specs.Kinds.{lruFields, arcFields, kinds}
+use Rattle.image.specs.Saved.{Saved, lruSaver, arcSaver, saveRefusal, save, Restored, fieldsFound, wrongTables, restoreRefusal, restored, restore}
 
 -- a header, byte by byte
 pub header-bytes : header 70000 ≡ (86 ∷ 66 ∷ 88 ∷ 1 ∷ 0 ∷ 112 ∷ 17 ∷ 1 ∷ 0 ∷ []) ++ replicate 55 0
@@ -96,6 +98,24 @@ arcNumbers =
 
 abbrev arcImage : List ℕ
 arcImage = headed 244 (arcNumbers ++ (filled 9 ++ (rows ++ (arcBlocks ++ (1 ∷ replicate 19 0)))))
+
+-- "0, B, P, m, d, n, t, or for D-ARC 1, B, P, C, X, n, t, p and the five list sizes": boxes in which no two numbers are equal
+pub in-order : lruFields (record { B = 64; P = 2; m = 3; d = 4; label = []; t = 6 }) (record {
+  n = 5;
+  disk = [];
+  flash = [];
+  addresses = [];
+  blocks = [];
+  counters = noCounts;
+}) .numbers ≡ 0 ∷ 64 ∷ 2 ∷ 3 ∷ 4 ∷ 5 ∷ 6 ∷ []
+in-order = refl
+
+pub arc-in-order : arcFields (record { B = 64; P = 2; C = 3; X = 4; label = []; t = 6 }) (record {
+  base = record { n = 5; disk = []; flash = []; addresses = []; blocks = []; counters = noCounts };
+  sizes = record { t1 = 8; t2 = 9; b1 = 10; b2 = 11; b3 = 12; p = 7 };
+  lists = [];
+}) .numbers ≡ 1 ∷ 64 ∷ 2 ∷ 3 ∷ 4 ∷ 5 ∷ 6 ∷ 7 ∷ 8 ∷ 9 ∷ 10 ∷ 11 ∷ 12 ∷ []
+arc-in-order = refl
 
 -- "bytes after the fill are kept": the areas have 3 bytes more
 pub images : map (λ x. applied (saveWrites (bodyOf x)) (replicate 323 7)) (lruFields small memory ∷ arcFields arcSmall arcMemory ∷ [])
@@ -218,3 +238,138 @@ unfolding imageRefusal Image.noImage Image.isImage Image.lengthIn Image.bodyIn I
     Records.readBlock Records.heldRows Records.blockRows addressTable blockTable Find.any Find.all Find.same Unsound.elem Unsound.twice Unsound.count
     Unsound.addressesUnsound Unsound.freeAfterUsed Unsound.eachOnce Unsound.usedTwice Unsound.blocksUnsound Unsound.dirtyUncached
 areas-refused = refl
+
+-- What is lent to a restore beside the area, and the number that it gets: 15, 14 and 16 as above, "then 2"
+pub record Lending : Type 0 where
+  pub area : List ℕ
+  pub addresses : ℕ
+  pub blocks : ℕ
+  pub lists : ℕ
+  pub number : ℕ
+
+abbrev lending : List ℕ → (addresses blocks lists number : ℕ) → Lending
+lending area a b l k = record { area = area; addresses = a; blocks = b; lists = l; number = k }
+
+abbrev pub lent-to : List Lending
+lent-to =
+    lending image 80 80 0 0
+    ∷ lending arcImage 80 40 8 0
+    -- each length alone; "for a D-LRU image the lists' buffer has length 0"
+    ∷ lending image 79 80 0 2
+    ∷ lending image 80 81 0 2
+    ∷ lending image 80 80 1 2
+    ∷ lending image 80 80 8 2
+    ∷ lending arcImage 80 80 8 2
+    ∷ lending arcImage 80 40 0 2
+    -- 2 comes last
+    ∷ lending (changed 0 87) 0 0 0 15
+    ∷ lending (take 319 image) 0 0 0 14
+    ∷ lending (changed 64 2) 0 0 0 16
+    -- "clears it": a second restore
+    ∷ lending ((restore kinds image (replicate 80 5) (replicate 80 5) []) .area) 80 80 0 15
+    ∷ []
+
+abbrev made : Lending → Restored
+made c = restore kinds (c .area) (replicate (c .addresses) 5) (replicate (c .blocks) 5) (replicate (c .lists) 5)
+
+-- "gives back the saved box"
+abbrev back : Restored
+back =
+    record {
+      number = 0;
+      given = record { numbers = 0 ∷ 64 ∷ 2 ∷ 2 ∷ 2 ∷ 1 ∷ 2 ∷ []; strings = filled 9 ∷ [] };
+      area = filled 0 ++ drop 64 image;
+      addresses = rows;
+      blocks = blocks;
+      lists = [];
+    }
+
+-- "A refused restore returns a record of zeros."
+abbrev notBack : Restored
+notBack =
+    record {
+      number = 2;
+      given = record { numbers = replicate 13 0; strings = filled 0 ∷ [] };
+      area = image;
+      addresses = replicate 79 5;
+      blocks = replicate 80 5;
+      lists = [];
+    }
+
+pub restores : (map (λ c. made c .number) lent-to ≡ map (λ c. c .number) lent-to) × (made (lending image 80 80 0 0) ≡ back)
+    × (made (lending image 79 80 0 2) ≡ notBack)
+unfolding restore restoreRefusal restored wrongTables fieldsFound Image.noImage Image.isImage Image.lengthIn Image.bodyIn Image.tooShort kinds
+    Kinds.lruForm Kinds.arcForm Body.noBody Body.failsIn Body.failsAs Body.fieldsIn Body.numbersIn Body.bodyLength Body.total Body.pieces ArcLent.words
+    ArcLent.unfitArc ArcLent.misnamed ArcLent.oversized ArcLent.listsUnsound ArcLent.topUncached Lent.unfit Lent.boxIn Lent.freeSlots Lent.usedRows Lent.split
+    Engine.fit writesFor splice Rows.rows Rows.flat Rows.zeros Records.addressBytes Records.blockBytes Records.readAddress
+    Records.readBlock Records.heldRows Records.blockRows addressTable blockTable Find.any Find.all Find.same Unsound.elem Unsound.twice Unsound.count
+    Unsound.addressesUnsound Unsound.freeAfterUsed Unsound.eachOnce Unsound.usedTwice Unsound.blocksUnsound Unsound.dirtyUncached
+restores = (refl, refl, refl)
+
+-- A save: the memory, the area's length and the number that it gets. The box above with its row dirty, its block of 3s in flash.
+pub record Saving : Type 0 where
+  pub numbers : Numbers
+  pub memory : Lent
+  pub area : ℕ
+  pub number : ℕ
+
+abbrev dirty : List ℕ
+dirty = addressTable 2 (addressRow 1 one 1 (bytes2 770) ∷ [])
+
+abbrev unsaved : Counters → Lent
+unsaved k = record { n = 1; disk = replicate 128 4; flash = filled 3 ++ filled 6; addresses = dirty; blocks = blocks; counters = k }
+
+abbrev over : Counters
+over = record { reads = 9223372036854775809; hits = 0; flashWrites = 0; primaryWrites = 0 }
+
+abbrev saving : Numbers → Lent → ℕ → ℕ → Saving
+saving N t area k = record { numbers = N; memory = t; area = area; number = k }
+
+abbrev pub saves : List Saving
+saves =
+    saving small (unsaved noCounts) 320 0
+    ∷ saving small (unsaved noCounts) 500 0
+    -- "14 .. in a save after all else"
+    ∷ saving small (unsaved noCounts) 319 14
+    ∷ saving small (unsaved noCounts) 0 14
+    ∷ saving small (unsaved over) 319 9
+    ∷ saving small (record { n = 3; disk = replicate 128 4; flash = replicate 128 3; addresses = dirty; blocks = blocks; counters = over }) 319 6
+    ∷ saving (record { B = 65; P = 2; m = 2; d = 2; label = filled 9; t = 2 }) (unsaved over) 319 1
+    ∷ []
+
+-- "A save call flushes, then writes a body": the row is clean in the table and in the image, and its block is on the disk
+abbrev after : Saved Lent
+after = save (lruSaver small) (unsaved noCounts) (replicate 323 7)
+
+pub saves-made : (map (λ c. saveRefusal (lruSaver (c .numbers)) (c .memory) (replicate (c .area) 7)) saves ≡ map (λ c. c .number) saves)
+    × (after .lent .disk ∷ after .lent .addresses ∷ after .area ∷ [] ≡ (filled 4 ++ filled 3) ∷ rows ∷ (image ++ replicate 3 7) ∷ [])
+unfolding save saveRefusal Cache.serve Cache.flushed applied bodyOf wordBytes Lent.call Lent.served Lent.refusal Lent.wrongBuffers Lent.over Lent.callOf
+    Lent.lentOf Image.tooShort Lent.unfit Lent.boxIn Lent.freeSlots Lent.usedRows Lent.split Engine.fit Area.padded
+    Area.bodyWrite Area.bodyWrites header writesFor saveWrites splice Rows.rows Rows.flat Rows.zeros Records.addressBytes Records.blockBytes Records.readAddress
+    Records.readBlock Records.heldRows Records.blockRows addressTable blockTable Find.any Find.all Find.same Unsound.elem Unsound.twice Unsound.count
+    Unsound.addressesUnsound Unsound.freeAfterUsed Unsound.eachOnce Unsound.usedTwice Unsound.blocksUnsound Unsound.dirtyUncached
+saves-made = (refl, refl)
+
+-- The same of a D-ARC box: the one above, with its row dirty
+abbrev arcUnsaved : Counters → ArcLent
+arcUnsaved k =
+    record {
+      base = record { n = 1; disk = replicate 128 4; flash = filled 3; addresses = dirty; blocks = arcBlocks; counters = k };
+      sizes = arcMemory .sizes;
+      lists = arcMemory .lists;
+    }
+
+abbrev arcAfter : Saved ArcLent
+arcAfter = save (arcSaver arcSmall) (arcUnsaved noCounts) (replicate 323 7)
+
+pub arc-saves-made : (map (saveRefusal (arcSaver arcSmall) (arcUnsaved noCounts)) (replicate 320 7 ∷ replicate 319 7 ∷ []) ≡ 0 ∷ 14 ∷ [])
+    × (saveRefusal (arcSaver arcSmall) (arcUnsaved over) [] ≡ 9)
+    × (arcAfter .lent .base .disk ∷ arcAfter .lent .lists ∷ arcAfter .area ∷ [] ≡ (filled 4 ++ filled 3) ∷ arcMemory .lists ∷ (arcImage ++ replicate 3 7) ∷ [])
+unfolding save saveRefusal Policy.serveBy Cache.flushed applied bodyOf wordBytes ArcLent.arcCall ArcLent.arcServed ArcLent.arcRefusal
+    ArcLent.arcLentOf ArcLent.listBytes ArcLent.parts ArcLent.words ArcLent.unfitArc ArcLent.misnamed ArcLent.oversized ArcLent.listsUnsound
+    ArcLent.topUncached Lent.wrongBuffers Lent.over Lent.callOf
+    Lent.lentOf Image.tooShort Lent.unfit Lent.boxIn Lent.freeSlots Lent.usedRows Lent.split Engine.fit Area.padded
+    Area.bodyWrite Area.bodyWrites header writesFor saveWrites splice Rows.rows Rows.flat Rows.zeros Records.addressBytes Records.blockBytes Records.readAddress
+    Records.readBlock Records.heldRows Records.blockRows addressTable blockTable Find.any Find.all Find.same Unsound.elem Unsound.twice Unsound.count
+    Unsound.addressesUnsound Unsound.freeAfterUsed Unsound.eachOnce Unsound.usedTwice Unsound.blocksUnsound Unsound.dirtyUncached
+arc-saves-made = (refl, refl, refl)

@@ -1,7 +1,7 @@
 -- The image in an area: its header, its body, and what a restore refuses it with.
 -- Assumes nothing.
-use mathlib.Core.Bool.{Bool, not, _&&_, _||_, cond}
-use mathlib.Core.List.{List}
+use mathlib.Core.Bool.{Bool, not, _&&_, _||_}
+use mathlib.Core.List.{List, [], _∷_}
 use mathlib.Core.Option.{Option}
 use Prim.Native.Nat.{ℕ, _+_, _*_}
 use lib.Dec.{ltb}
@@ -9,6 +9,7 @@ use lib.ListN.{length, take, drop}
 use Rattle.tables.specs.Rows.{le4}
 use Rattle.tables.specs.Find.{all, same}
 use Rattle.tables.specs.Sound.{isZero}
+use Rattle.paper.specs.Lent.{Test, test, first}
 use Rattle.image.specs.Body.{Form, noBody}
 use Rattle.image.specs.Area.{mark, version, writesFor}
 
@@ -32,5 +33,9 @@ unfoldable pub tooShort : List ℕ → ℕ → Bool
 tooShort area n = ltb (length area) (64 + writesFor n * 64)
 
 -- "a restore checks 15 first .. then 14, then 16 .. then 2": the first three, of the area alone
+abbrev pub imageTests : (ℕ → Option Form) → List ℕ → List Test → List Test
+imageTests forms area rest =
+    test (noImage area) 15 ∷ test (tooShort area (lengthIn area)) 14 ∷ test (noBody forms (bodyIn area)) 16 ∷ rest
+
 unfoldable pub imageRefusal : (ℕ → Option Form) → List ℕ → ℕ
-imageRefusal forms area = cond (noImage area) 15 (cond (tooShort area (lengthIn area)) 14 (cond (noBody forms (bodyIn area)) 16 0))
+imageRefusal forms area = first (imageTests forms area [])

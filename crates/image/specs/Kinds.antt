@@ -45,11 +45,12 @@ abbrev pub arcSizes : Fields → Sizes
 arcSizes x =
     record { B = numberAt x 1; P = numberAt x 2; C = numberAt x 3; X = numberAt x 4; label = stringAt x 0; t = numberAt x 6 }
 
+abbrev pub listSizes : Fields → ListRecord
+listSizes x =
+    record { t1 = numberAt x 8; t2 = numberAt x 9; b1 = numberAt x 10; b2 = numberAt x 11; b3 = numberAt x 12; p = numberAt x 7 }
+
 abbrev pub listsFound : Fields → ArcLent
-listsFound x =
-    let r : ListRecord
-    = record { t1 = numberAt x 8; t2 = numberAt x 9; b1 = numberAt x 10; b2 = numberAt x 11; b3 = numberAt x 12; p = numberAt x 7 } in
-    record { base = tablesIn x; sizes = r; lists = stringAt x 3 }
+listsFound x = record { base = tablesIn x; sizes = listSizes x; lists = stringAt x 3 }
 
 -- "fails 1, 11, 12, 6, 7, 8 or 13": none of these tests of a call reads the disk, the flash or the counters
 abbrev pub lruChecks : Fields → List Test
@@ -85,3 +86,7 @@ arcForm =
 -- "a body that starts above 1" has no form
 unfoldable pub kinds : ℕ → Option Form
 kinds k = cond (eqb k 0) (some lruForm) (cond (eqb k 1) (some arcForm) none)
+
+-- nor has one that starts above 0, where boxes run D-LRU alone
+unfoldable pub lruKinds : ℕ → Option Form
+lruKinds k = cond (eqb k 0) (some lruForm) none

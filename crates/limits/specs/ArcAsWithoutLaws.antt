@@ -11,7 +11,8 @@ use Rattle.paper.specs.Cache.{Hashing}
 use Rattle.paper.specs.KeyedLaws.{or-both, or-false-left}
 use Rattle.paper.specs.Engine.{Fixed, labelled}
 use Rattle.paper.specs.Lent.{opening, otherLength, limitOutside, wrongBuffers, over, fresh}
-use Rattle.paper.specs.BatchLent.{Asking, one, many, report}
+use Rattle.paper.specs.LentLaws.{label-right}
+use Rattle.paper.specs.BatchLent.{Asking, one, many, report, recount}
 use Rattle.paper.specs.BatchLentLaws.{right-buffers}
 use Rattle.paper.specs.Demand3.{saidWord}
 use Rattle.arc.specs.Policy.{Policy}
@@ -24,13 +25,14 @@ use Rattle.arc.specs.ArcFolder.{arcFolderRefusal, arcServedFolder}
 use Rattle.arc.specs.ArcReports.{arcReportRefusal}
 use Rattle.arc.specs.ArcExactly.{arc-exactly-opening}
 use Rattle.arc.specs.ArcDemand.{listsOf, boxOf, arcNumber, arcNext, arcReturned}
-use Rattle.arc.specs.ArcDemandLaws.{ArcPasses, arc-fits, found, passes-right, served-is, arc-keeps, served-box, served-lists, served-counters, folder-found}
-use Rattle.arc.specs.ArcDemandLaws.{folder-served, arc-folder-keeps, folder-box, folder-lists, folder-counters, passes-next, no-6, no-8, no-13, fresh-passes}
+use Rattle.arc.specs.ArcDemandLaws.{ArcPasses, arc-fits, found, passes-right, served-is, arc-keeps, folder-found}
+use Rattle.arc.specs.ArcDemandLaws.{folder-served, arc-folder-keeps, passes-next, no-6, no-8, no-13, fresh-passes}
+use Rattle.blind.specs.Serving.{servedState, arcState, arc-leaves, arc-stays}
 use Rattle.limits.specs.AsWithout.{single, folder, number, hitsSaid, arcShows, arcKind, arcUnlimited, ArcAsWithout}
 use Rattle.limits.specs.Beside.{capped, Beside, beside-itself}
-use Rattle.limits.specs.Until.{State, refusedShown, numberBy, Inside, servedShown, servedState, Serves, until-nine}
+use Rattle.limits.specs.Until.{refusedShown, numberBy, Inside, servedShown, Serves, until-nine}
 use Rattle.limits.specs.ArcSees.{arc-parallel}
-use Rattle.limits.specs.Unlimited.{unlimited-unfit-arc, unlimited-limit, unlimited-buffers, label-right, unlimited-box, fresh-rows, arc-capped}
+use Rattle.limits.specs.Unlimited.{unlimited-unfit-arc, unlimited-limit, unlimited-buffers, unlimited-box, fresh-rows, arc-capped}
 
 -- ---- the calls of a D-ARC box in lent bytes are those over its policy
 
@@ -44,9 +46,6 @@ module _ (Z : Sizes) (x : Fitting Z) where
   abbrev H : Hashing (Fixed 32) (Fixed (Z .B))
   H = labelled (baseNumbers Z)
 
-  abbrev state : ArcLent → State (Fixed 32) (Fixed (Z .B)) Lists
-  state t = record { kept = listsOf t; box = boxOf Z t; counters = t .base .counters }
-
   right-arc : (t : ArcLent) → ArcPasses Z t → wrongArcBuffers Z t ≡ false
   right-arc t p =
       or-both (wrongBuffers (baseNumbers Z) (t .base)) (otherLength (t .lists) (mOf Z * 4))
@@ -57,30 +56,20 @@ module _ (Z : Sizes) (x : Fitting Z) where
   numbered t (one q) p = rw (x .numbers, x .limit, right-arc t p, no-6 Z t p, p .base .blocks, no-8 Z t p, no-13 Z t p) refl
   numbered t (many l buffer) p = rw (x .numbers, x .limit, right-arc t p, no-6 Z t p, p .base .blocks, no-8 Z t p, no-13 Z t p) refl
   numbered t (report w lent) p = rw (x .numbers, x .limit, right-arc t p, no-6 Z t p, p .base .blocks, no-8 Z t p, no-13 Z t p) refl
+  numbered t (recount c) p = refl
 
   inside : (t : ArcLent) (q : Asking) → arcNumber Z t q ≡ 0 → Inside (Z .B) (Z .P) q
   inside t (one q) e = (found Z t q e) .inside
   inside t (many l buffer) e = (folder-found Z t l buffer e) .inside
   inside t (report w lent) e = tt
+  inside t (recount c) e = tt
 
-  shows : (t : ArcLent) (q : Asking) → arcNumber Z t q ≡ 0 → arcShows Z t q ≡ servedShown (Z .B) (Z .P) (mOf Z) H (arc H Z) (state t) q
+  shows : (t : ArcLent) (q : Asking) → arcNumber Z t q ≡ 0 → arcShows Z t q ≡ servedShown (Z .B) (Z .P) (mOf Z) H (arc H Z) (arcState Z t) q
   unfolding arcServed arcServedFolder
   shows t (one q) e = let y = served-is Z t q e in λ j. single (e j) (saidWord (y j .answer)) (arcReturned q (y j))
   shows t (many l buffer) e = let y = folder-served Z t l buffer e in λ j. folder (e j) (hitsSaid (y j .answer)) (y j .buffer)
   shows t (report w lent) e = ap number e
-
-  leaves : (t : ArcLent) (q : Asking) → arcNumber Z t q ≡ 0 → state (arcNext Z t q) ≡ servedState (Z .B) (Z .P) (mOf Z) H (arc H Z) (state t) q
-  leaves t (one q) e =
-      let l = served-lists Z t q e in
-      let b = served-box Z t q e in
-      let c = served-counters Z t q e in
-      λ j. record { kept = l j; box = b j; counters = c j }
-  leaves t (many l buffer) e =
-      let k = folder-lists Z t l buffer e in
-      let b = folder-box Z t l buffer e in
-      let c = folder-counters Z t l buffer e in
-      λ j. record { kept = k j; box = b j; counters = c j }
-  leaves t (report w lent) e = refl
+  shows t (recount c) e = refl
 
   refuses : (t : ArcLent) (q : Asking) → arcNumber Z t q ≢ 0 → arcShows Z t q ≡ refusedShown (arcNumber Z t q) q
   refuses t (one q) z =
@@ -90,24 +79,20 @@ module _ (Z : Sizes) (x : Fitting Z) where
       let y = arc-folder-keeps Z t l buffer z in
       λ j. folder (arcNumber Z t (many l buffer)) (hitsSaid (y j .answer)) (y j .buffer)
   refuses t (report w lent) z = refl
-
-  stays : (t : ArcLent) (q : Asking) → arcNumber Z t q ≢ 0 → arcNext Z t q ≡ t
-  stays t (one q) z = ap (λ x. x .lent) (arc-keeps Z t q z)
-  stays t (many l buffer) z = ap (λ x. x .lent) (arc-folder-keeps Z t l buffer z)
-  stays t (report w lent) z = refl
+  refuses t (recount c) z = refl
 
   abbrev arc-kind : (pol : Policy (Fixed 32) (Fixed (Z .B)) Lists) → arc H Z ≡ pol → Serves (Z .B) (Z .P) (mOf Z) H pol (arcKind Z)
   arc-kind pol e =
       record {
-        state = state;
+        state = arcState Z;
         Good = ArcPasses Z;
         numbered = numbered;
         inside = inside;
-        shows = subst (λ y. (t : ArcLent) (q : Asking) → arcNumber Z t q ≡ 0 → arcShows Z t q ≡ servedShown (Z .B) (Z .P) (mOf Z) H y (state t) q) e shows;
+        shows = subst (λ y. (t : ArcLent) (q : Asking) → arcNumber Z t q ≡ 0 → arcShows Z t q ≡ servedShown (Z .B) (Z .P) (mOf Z) H y (arcState Z t) q) e shows;
         leaves = subst (λ y. (t : ArcLent) (q : Asking) → arcNumber Z t q ≡ 0
-            → state (arcNext Z t q) ≡ servedState (Z .B) (Z .P) (mOf Z) H y (state t) q) e leaves;
+            → arcState Z (arcNext Z t q) ≡ servedState (Z .B) H y (arcState Z t) q) e (arc-leaves Z);
         refuses = refuses;
-        keeps = stays;
+        keeps = arc-stays Z;
         stays = passes-next Z;
       }
 

@@ -7,7 +7,7 @@ use mathlib.Core.Option.{Option, none, some}
 use Prim.Native.Nat.{ℕ}
 use Rattle.paper.specs.Cache.{Numbers, Word}
 use Rattle.paper.specs.Lent.{Lent, call, opened}
-use Rattle.paper.specs.BatchLent.{Asking, one, many, report, BatchAnswer, refused, batched, callBatch}
+use Rattle.paper.specs.BatchLent.{Asking, one, many, report, recount, BatchAnswer, refused, batched, callBatch}
 use Rattle.paper.specs.Demand3.{numberOf, next, returned, saidWord}
 use Rattle.arc.specs.Arc.{Sizes, mOf}
 use Rattle.arc.specs.ArcLent.{ArcLent, arcCall, arcOpened}
@@ -15,7 +15,7 @@ use Rattle.arc.specs.ArcFolder.{arcFolderCall}
 use Rattle.arc.specs.ArcDemand.{arcNumber, arcNext, arcReturned}
 
 -- What is compared of a call that gets a number: of a single one its word, a read's hit or miss, and the block that it returns; of a folder read the hits and
--- the buffer. A report has the dirty bytes, which the limit changes: its number alone.
+-- the buffer. A report has the dirty bytes, which the limit changes: its number alone. A recount has no more.
 pub data Shown : Type 0 where
   single : (number : ℕ) → Option Word → (block : Option (List ℕ)) → Shown
   folder : (number : ℕ) → (hits : Option ℕ) → (buffer : List ℕ) → Shown
@@ -36,6 +36,7 @@ abbrev pub lruShows : Numbers → Lent → Asking → Shown
 lruShows N t (one q) = single (numberOf N t (one q)) (saidWord ((call N t q) .answer)) (returned q (call N t q))
 lruShows N t (many l buffer) = let a = callBatch N t l buffer in folder (numberOf N t (many l buffer)) (hitsSaid (a .answer)) (a .buffer)
 lruShows N t (report w lent) = number (numberOf N t (report w lent))
+lruShows N t (recount k) = number 0
 
 abbrev pub lruKind : Numbers → Kind Lent
 lruKind N = record { number = numberOf N; shows = lruShows N; next = next N }
@@ -45,6 +46,7 @@ abbrev pub arcShows : Sizes → ArcLent → Asking → Shown
 arcShows Z t (one q) = single (arcNumber Z t (one q)) (saidWord ((arcCall Z t q) .answer)) (arcReturned q (arcCall Z t q))
 arcShows Z t (many l buffer) = let a = arcFolderCall Z t l buffer in folder (arcNumber Z t (many l buffer)) (hitsSaid (a .answer)) (a .buffer)
 arcShows Z t (report w lent) = number (arcNumber Z t (report w lent))
+arcShows Z t (recount k) = number 0
 
 abbrev pub arcKind : Sizes → Kind ArcLent
 arcKind Z = record { number = arcNumber Z; shows = arcShows Z; next = arcNext Z }

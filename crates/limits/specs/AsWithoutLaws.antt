@@ -5,18 +5,18 @@ use mathlib.Core.List.{List, []}
 use mathlib.Core.Logic.{_≢_}
 use Prim.Native.Nat.{_≤_}
 use lib.ListN.{length}
-use Rattle.paper.specs.Cache.{Numbers, Hashing, Box, counted}
+use Rattle.paper.specs.Cache.{Numbers, Hashing, Box}
 use Rattle.paper.specs.Engine.{Fixed, labelled}
-use Rattle.paper.specs.Lent.{Lent, opening, callOf, unfit, limitOutside, over, refusal, served, kept, boxIn, lentOf, opened}
+use Rattle.paper.specs.Lent.{Lent, opening, callOf, unfit, limitOutside, over, refusal, served, kept, boxIn, opened}
 use Rattle.paper.specs.Sound.{Sound}
-use Rattle.paper.specs.LentLaws.{passes-sound}
-use Rattle.paper.specs.RefusalLaws.{exactly-opening, served-is, refused-keeps, keeps, opened-is}
-use Rattle.paper.specs.CallLaws.{fits, served-finds, served-lent, served-box}
+use Rattle.paper.specs.LentLaws.{label-right, passes-sound}
+use Rattle.paper.specs.RefusalLaws.{exactly-opening, served-is, refused-keeps, opened-is}
+use Rattle.paper.specs.CallLaws.{fits, served-finds}
 use Rattle.paper.specs.Reports.{reportRefusal}
 use Rattle.paper.specs.Batch.{start}
-use Rattle.paper.specs.BatchLent.{Asking, one, many, report, batchRefusal, servedBatch}
-use Rattle.paper.specs.BatchLentLaws.{batch-finds, batch-served, batch-keeps, batch-lent, batch-box, right-buffers}
-use Rattle.paper.specs.Demand3.{numberOf, next, returned, saidWord}
+use Rattle.paper.specs.BatchLent.{Asking, one, many, report, recount, batchRefusal, servedBatch}
+use Rattle.paper.specs.BatchLentLaws.{batch-finds, batch-served, batch-keeps, right-buffers}
+use Rattle.paper.specs.Demand3.{numberOf, returned, saidWord}
 use Rattle.paper.specs.Demand3Laws.{Kept, kept-next, no-13, fresh-kept}
 use Rattle.arc.specs.Policy.{lru}
 use Rattle.arc.specs.Promise.{lru-promises}
@@ -24,10 +24,11 @@ use Rattle.arc.specs.LruServes.{lru-serves}
 use Rattle.arc.specs.FolderLaws.{lru-folder}
 use Rattle.limits.specs.AsWithout.{single, folder, number, hitsSaid, lruShows, lruKind, unlimited, AsWithout}
 use Rattle.blind.specs.Blind.{lru-blind}
+use Rattle.blind.specs.Serving.{lruState, lru-leaves, lru-stays}
 use Rattle.limits.specs.Sees.{sees-step}
 use Rattle.limits.specs.Beside.{Parallel, Beside, beside-itself}
-use Rattle.limits.specs.Unlimited.{unlimited-unfit, unlimited-limit, unlimited-buffers, label-right, unlimited-box, unlimited-fresh, fresh-rows}
-use Rattle.limits.specs.Until.{State, refusedShown, outcomeShown, batchShown, numberBy, Inside, servedShown, servedState, Serves, until-nine}
+use Rattle.limits.specs.Unlimited.{unlimited-unfit, unlimited-limit, unlimited-buffers, unlimited-box, unlimited-fresh, fresh-rows}
+use Rattle.limits.specs.Until.{refusedShown, outcomeShown, batchShown, numberBy, Inside, servedShown, Serves, until-nine}
 
 -- D-LRU promises what two boxes beside each other need
 pub lru-parallel : {F X : Type 0} (H : Hashing F X) (N : Numbers) → 1 ≤ N .m → 1 ≤ N .d → Parallel H N (lru H N) (λ k s. Sound H N s)
@@ -46,9 +47,6 @@ module _ (N : Numbers) (x : Fitting N) where
   abbrev H : Hashing (Fixed 32) (Fixed (N .B))
   H = labelled N
 
-  abbrev state : Lent → State (Fixed 32) (Fixed (N .B)) (Unit {0})
-  state t = record { kept = tt; box = boxIn N t; counters = t .counters }
-
   numbered : (t : Lent) (q : Asking) → Kept N t → numberOf N t q ≡ numberBy (N .B) (N .P) (N .m) (over (t .counters)) q
   unfolding refusal batchRefusal reportRefusal
   numbered t (one q) k =
@@ -60,13 +58,15 @@ module _ (N : Numbers) (x : Fitting N) where
   numbered t (report w lent) k =
       let p = k .passes in
       rw (x .numbers, x .limit, right-buffers N t (x .label) p, p .addresses, p .blocks, p .dirty, no-13 N t k) refl
+  numbered t (recount c) k = refl
 
   inside : (t : Lent) (q : Asking) → numberOf N t q ≡ 0 → Inside (N .B) (N .P) q
   inside t (one q) e = (served-finds N t q e) .within
   inside t (many l buffer) e = (batch-finds N t l buffer e) .within
   inside t (report w lent) e = tt
+  inside t (recount c) e = tt
 
-  shows : (t : Lent) (q : Asking) → numberOf N t q ≡ 0 → lruShows N t q ≡ servedShown (N .B) (N .P) (N .m) H (lru H N) (state t) q
+  shows : (t : Lent) (q : Asking) → numberOf N t q ≡ 0 → lruShows N t q ≡ servedShown (N .B) (N .P) (N .m) H (lru H N) (lruState N t) q
   unfolding served servedBatch
   shows t (one q) e =
       let y = served-is N t q e in
@@ -75,20 +75,7 @@ module _ (N : Numbers) (x : Fitting N) where
       let y = batch-served N t l buffer e in
       (λ j. folder (e j) (hitsSaid (y j .answer)) (y j .buffer)) ∙ ap batchShown (sym (lru-folder H N (start (boxIn N t) (t .counters)) l))
   shows t (report w lent) e = ap number e
-
-  leaves : (t : Lent) (q : Asking) → numberOf N t q ≡ 0 → state (next N t q) ≡ servedState (N .B) (N .P) (N .m) H (lru H N) (state t) q
-  unfolding lentOf
-  leaves t (one q) e =
-      let o = sym (lru-serves H N (boxIn N t) (callOf (N .B) q)) in
-      let b = served-box N t q e ∙ ap (λ x. x .box) o in
-      let c = ap (λ x. x .counters) (served-lent N t q e) ∙ ap (counted (t .counters) (callOf (N .B) q)) o in
-      λ j. record { kept = tt; box = b j; counters = c j }
-  leaves t (many l buffer) e =
-      let r = sym (lru-folder H N (start (boxIn N t) (t .counters)) l) in
-      let b = batch-box N t l buffer e ∙ ap (λ x. x .box) r in
-      let c = ap (λ x. x .counters) (batch-lent N t l buffer e) ∙ ap (λ x. x .counters) r in
-      λ j. record { kept = tt; box = b j; counters = c j }
-  leaves t (report w lent) e = refl
+  shows t (recount c) e = refl
 
   refuses : (t : Lent) (q : Asking) → numberOf N t q ≢ 0 → lruShows N t q ≡ refusedShown (numberOf N t q) q
   unfolding kept
@@ -99,23 +86,19 @@ module _ (N : Numbers) (x : Fitting N) where
       let y = batch-keeps N t l buffer z in
       λ j. folder (numberOf N t (many l buffer)) (hitsSaid (y .answer j)) (y .buffer-kept j)
   refuses t (report w lent) z = refl
-
-  stays : (t : Lent) (q : Asking) → numberOf N t q ≢ 0 → next N t q ≡ t
-  stays t (one q) z = keeps N t q z .lent
-  stays t (many l buffer) z = batch-keeps N t l buffer z .lent
-  stays t (report w lent) z = refl
+  refuses t (recount c) z = refl
 
   lru-kind : Serves (N .B) (N .P) (N .m) H (lru H N) (lruKind N)
   lru-kind =
       record {
-        state = state;
+        state = lruState N;
         Good = Kept N;
         numbered = numbered;
         inside = inside;
         shows = shows;
-        leaves = leaves;
+        leaves = lru-leaves N;
         refuses = refuses;
-        keeps = stays;
+        keeps = lru-stays N;
         stays = kept-next N;
       }
 

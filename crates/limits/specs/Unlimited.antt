@@ -1,17 +1,14 @@
 -- The numbers and the policy of a box without a limit, that is with the limit m: they are those of the box but for the limit, and fit wherever those do.
 use mathlib.Core.Path.{_≡_, refl}
-use mathlib.Core.Bool.{Bool, true, false, _||_}
+use mathlib.Core.Bool.{Bool, true, false}
 use mathlib.Core.List.{[]}
-use Prim.Native.Nat.{_*_, _≤_}
+use Prim.Native.Nat.{_≤_}
 use native.Mathlib.Omega.{arith}
-use lib.Dec.{eqb}
-use lib.ListN.{length}
-use borrow.Author.Tests.{eqb-true, le-leb, not-false}
-use Rattle.tables.specs.Rows.{tableBytes, rows}
+use borrow.Author.Tests.{le-leb}
+use Rattle.tables.specs.Rows.{rows}
 use Rattle.tables.specs.Records.{heldRows}
 use Rattle.paper.specs.Cache.{Numbers, Hashing}
-use Rattle.paper.specs.KeyedLaws.{or-false-right}
-use Rattle.paper.specs.Lent.{Lent, otherLength, unfit, limitOutside, wrongBuffers, boxIn, fresh}
+use Rattle.paper.specs.Lent.{Lent, unfit, limitOutside, wrongBuffers, boxIn, fresh}
 use Rattle.arc.specs.Policy.{Ran}
 use Rattle.arc.specs.Arc.{Sizes, mOf, Lists, Was, inT1, inT2, inB1, inB2, inB3, unheld, listOf, wasB2, left, check, checked, inserted, parted, joined}
 use Rattle.arc.specs.Arc.{arcStepAs, arcStep, arc}
@@ -34,15 +31,6 @@ unlimited-limit N m1 = rw (le-leb 1 (N .m) m1, le-leb (N .m) (N .m) (omega arith
 pub unlimited-buffers : (N : Numbers) (t : Lent) → wrongBuffers (unlimited N) t ≡ wrongBuffers N t
 unfolding wrongBuffers
 unlimited-buffers N t = refl
-
-pub label-right : (N : Numbers) (t : Lent) → wrongBuffers N t ≡ false → length (N .label) ≡ 64
-unfolding wrongBuffers
-label-right N t h =
-    let others = otherLength (t .disk) (N .P * N .B)
-    || otherLength (t .flash) (N .d * N .B)
-    || otherLength (t .addresses) (tableBytes (N .m))
-    || otherLength (t .blocks) (tableBytes (N .d)) in
-    eqb-true (length (N .label)) 64 (not-false (eqb (length (N .label)) 64) (or-false-right others (otherLength (N .label) 64) h))
 
 -- the box in lent bytes, and a fresh one
 pub unlimited-box : (N : Numbers) (t : Lent) → boxIn (unlimited N) t ≡ boxIn N t

@@ -9,32 +9,26 @@ use Prim.Native.Nat.{ℕ, _<_, _*_}
 use lib.Dec.{eqb}
 use lib.ListN.{length}
 use borrow.Author.Tests.{eqb-true, eqb-false}
-use Rattle.paper.specs.Cache.{Numbers, Hashing, Box, Outcome, Counters, Within, noCounts, counted}
+use Rattle.paper.specs.Cache.{Numbers, Hashing, Box, Outcome, Within, noCounts}
 use Rattle.paper.specs.KeyedLaws.{All, by-test}
 use Rattle.paper.specs.Engine.{Fixed, labelled}
 use Rattle.paper.specs.Lent.{Ask, callOf, aboutAsk, addressOf, lentBlock, counts, join, blockAfter, partAfter, test, first, otherLength, wrongBlock}
 use Rattle.paper.specs.Lent.{outside, over}
 use Rattle.paper.specs.Reports.{width}
 use Rattle.paper.specs.Batch.{Batched, start, blocksIn}
-use Rattle.paper.specs.BatchLent.{Asking, one, many, report, badCount, anyOutside}
-use Rattle.arc.specs.Policy.{Policy, Served, serveBy}
+use Rattle.paper.specs.BatchLent.{Asking, one, many, report, recount, badCount, anyOutside}
+use Rattle.arc.specs.Policy.{Policy}
 use Rattle.arc.specs.Promise.{Promise}
-use Rattle.arc.specs.Folder as Folder
-use Rattle.arc.specs.Folder.{FolderBy}
+use Rattle.blind.specs.Serving.{State, servedBy, folderBy, servedState}
 use Rattle.limits.specs.AsWithout.{Shown, single, folder, number, Kind, UntilNine}
 use Rattle.limits.specs.Beside.{Parallel, capped, Beside, serve-beside, folder-beside}
-
--- what passes from call to call: the policy's state, the box and the counters
-pub record State (F X S : Type 0) : Type 0 where
-  pub kept : S
-  pub box : Box F X
-  pub counters : Counters
 
 -- what a call shows: refused, and by its outcome
 abbrev pub refusedShown : ℕ → Asking → Shown
 refusedShown k (one q) = single k none (cond (aboutAsk q .reads) (lentBlock q) (cond (aboutAsk q .returns) (some []) none))
 refusedShown k (many l buffer) = folder k none buffer
 refusedShown k (report w lent) = number k
+refusedShown k (recount c) = number k
 
 module _ {F : Type 0} {B : ℕ} where
   abbrev pub outcomeShown : Ask → Outcome F (Fixed B) → Shown
@@ -52,6 +46,7 @@ numberBy B P m o (one q) = first (test (wrongBlock B (lentBlock q)) 2 ∷ test (
 numberBy B P m o (many l buffer) =
     first (test (otherLength buffer (length l * B)) 2 ∷ test (badCount l) 10 ∷ test (anyOutside P l) 3 ∷ test o 9 ∷ [])
 numberBy B P m o (report w lent) = first (test (otherLength lent (m * width w)) 2 ∷ [])
+numberBy B P m o (recount k) = 0
 
 -- where neither is 9 they are the same
 same-number : (B P m : ℕ) (o p : Bool) (q : Asking) → numberBy B P m o q ≢ 9 → numberBy B P m p q ≢ 9 → numberBy B P m o q ≡ numberBy B P m p q
@@ -74,34 +69,22 @@ same-number B P m o p (many l buffer) =
     (λ h. rw h (λ x y. absurd (x refl)))
     (λ h. rw h (by-test p (λ i. rw i (λ x y. absurd (y refl))) (λ i. rw i (λ x y. refl))))))))))
 same-number B P m o p (report w lent) = λ x y. refl
+same-number B P m o p (recount k) = λ x y. refl
 
 -- the addresses asked for are the disk's
 abbrev pub Inside : (B P : ℕ) → Asking → Type 0
 Inside B P (one q) = Within P (callOf B q)
 Inside B P (many l buffer) = All (λ a. a < P) l
 Inside B P (report w lent) = Unit {0}
+Inside B P (recount k) = Unit {0}
 
 module _ {S : Type 0} (B P m : ℕ) (H : Hashing (Fixed 32) (Fixed B)) (pol : Policy (Fixed 32) (Fixed B) S) where
-  abbrev pub servedBy : State (Fixed 32) (Fixed B) S → Ask → Served (Fixed 32) (Fixed B) S
-  servedBy s q = serveBy H pol (s .kept) (s .box) (callOf B q)
-
-  abbrev pub folderBy : State (Fixed 32) (Fixed B) S → List ℕ → FolderBy (Fixed 32) (Fixed B) S
-  folderBy s l = Folder.folder H pol (record { kept = s .kept; batched = start (s .box) (s .counters) }) l
-
-  -- what a served call shows and leaves
+  -- what a served call shows
   abbrev pub servedShown : State (Fixed 32) (Fixed B) S → Asking → Shown
-  servedShown s (one q) = outcomeShown q ((servedBy s q) .outcome)
-  servedShown s (many l buffer) = batchShown ((folderBy s l) .batched)
+  servedShown s (one q) = outcomeShown q ((servedBy B H pol s q) .outcome)
+  servedShown s (many l buffer) = batchShown ((folderBy B H pol s l) .batched)
   servedShown s (report w lent) = number 0
-
-  abbrev pub servedState : State (Fixed 32) (Fixed B) S → Asking → State (Fixed 32) (Fixed B) S
-  servedState s (one q) =
-      let o = servedBy s q in
-      record { kept = o .kept; box = o .outcome .box; counters = counted (s .counters) (callOf B q) (o .outcome) }
-  servedState s (many l buffer) =
-      let r = folderBy s l in
-      record { kept = r .kept; box = r .batched .box; counters = r .batched .counters }
-  servedState s (report w lent) = s
+  servedShown s (recount k) = number 0
 
   -- A kind of box whose calls are those over the policy. `Good` is what holds of lent memory in a state reached.
   pub record Serves {M : Type 0} (kind : Kind M) : Type 1 where
@@ -110,7 +93,7 @@ module _ {S : Type 0} (B P m : ℕ) (H : Hashing (Fixed 32) (Fixed B)) (pol : Po
     pub numbered : (t : M) (q : Asking) → Good t → kind .number t q ≡ numberBy B P m (over ((state t) .counters)) q
     pub inside : (t : M) (q : Asking) → kind .number t q ≡ 0 → Inside B P q
     pub shows : (t : M) (q : Asking) → kind .number t q ≡ 0 → kind .shows t q ≡ servedShown (state t) q
-    pub leaves : (t : M) (q : Asking) → kind .number t q ≡ 0 → state (kind .next t q) ≡ servedState (state t) q
+    pub leaves : (t : M) (q : Asking) → kind .number t q ≡ 0 → state (kind .next t q) ≡ servedState B H pol (state t) q
     pub refuses : (t : M) (q : Asking) → kind .number t q ≢ 0 → kind .shows t q ≡ refusedShown (kind .number t q) q
     pub keeps : (t : M) (q : Asking) → kind .number t q ≢ 0 → kind .next t q ≡ t
     pub stays : (t : M) (q : Asking) → Good t → Good (kind .next t q)
@@ -129,7 +112,7 @@ module _ {S : Type 0} (N : Numbers) (pol : Policy (Fixed 32) (Fixed (N .B)) S) (
 
   near-calls : (s u : Held) (q : Asking) → Near s u → Inside (N .B) (N .P) q
       → (servedShown (N .B) (N .P) (N .m) H pol s q ≡ servedShown (N .B) (N .P) (N .m) H (capped n pol) u q)
-      × Near (servedState (N .B) (N .P) (N .m) H pol s q) (servedState (N .B) (N .P) (N .m) H (capped n pol) u q)
+      × Near (servedState (N .B) H pol s q) (servedState (N .B) H (capped n pol) u q)
   near-calls s u (one q) k w =
       let o = serve-beside H N pol Inv pr pa n (s .kept) (u .kept) (s .box) (u .box) k (callOf (N .B) q) w in
       (ap (λ x. outcomeShown q (x .outcome)) (o .same), o .beside)
@@ -141,6 +124,7 @@ module _ {S : Type 0} (N : Numbers) (pol : Policy (Fixed 32) (Fixed (N .B)) S) (
       (record { same = λ j. record { kept = e j; batched = start (b j) noCounts }; beside = k }) w in
       (ap (λ x. batchShown (x .batched)) (r .same), r .beside)
   near-calls s u (report w lent) k i = (refl, k)
+  near-calls s u (recount c) k i = (refl, k)
 
   module _ {M : Type 0} (a b : Kind M) (sa : Serves (N .B) (N .P) (N .m) H pol a) (sb : Serves (N .B) (N .P) (N .m) H (capped n pol) b) where
     pub record Like (t u : M) : Type 0 where

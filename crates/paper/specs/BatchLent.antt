@@ -5,7 +5,7 @@ use mathlib.Core.List.{List, [], _∷_}
 use Prim.Native.Nat.{ℕ, _*_}
 use lib.Dec.{eqb, leb, ltb}
 use lib.ListN.{length}
-use Rattle.paper.specs.Cache.{Numbers}
+use Rattle.paper.specs.Cache.{Numbers, Counters}
 use Rattle.paper.specs.Engine.{Fixed, labelled}
 use Rattle.paper.specs.Lent.{Lent, Ask, Test, test, first, tableTests, unfit, limitOutside, wrongBuffers, otherLength, over, boxIn, lentOf, join, served}
 use Rattle.paper.specs.Reports.{Reader}
@@ -69,8 +69,11 @@ unfoldable pub servedInTurn : Numbers → Lent → List ℕ → Lent
 servedInTurn N t [] = t
 servedInTurn N t (a ∷ l) = servedInTurn N ((served N t (Ask.read a [])) .lent) l
 
--- A call of a list: one of document 01's, a folder read with its addresses and the buffer lent to it, or a report with the bytes lent to it
+-- A call of a list: one of document 01's, a folder read with its addresses and the buffer lent to it, or a report with the bytes lent to it; or other
+-- counters
 pub data Asking : Type 0 where
   one : Ask → Asking
   many : (asked buffer : List ℕ) → Asking
   report : Reader → (lent : List ℕ) → Asking
+  -- U10: after a restore the calls go on with counters of the caller's, since no image has them
+  recount : Counters → Asking

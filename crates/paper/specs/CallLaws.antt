@@ -41,7 +41,7 @@ or-else (inl a) f = inl a
 or-else (inr b) f = inr (f b)
 
 -- one of the seven sizes
-seven : (B : ℕ) → elem B (64 ∷ 128 ∷ 256 ∷ 512 ∷ 1024 ∷ 2048 ∷ 4096 ∷ []) ≡ true → Size B
+pub seven : (B : ℕ) → elem B (64 ∷ 128 ∷ 256 ∷ 512 ∷ 1024 ∷ 2048 ∷ 4096 ∷ []) ≡ true → Size B
 seven B h =
     or-else (elem-either B 64 _ h)
     (λ h₁. or-else (elem-either B 128 _ h₁)

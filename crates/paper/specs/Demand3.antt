@@ -11,8 +11,8 @@ use Rattle.paper.specs.KeyedLaws.{All}
 use Rattle.paper.specs.Cache.{Numbers, Word}
 use Rattle.paper.specs.Engine.{Fixed, labelled}
 use Rattle.paper.specs.Lent.{Lent, Ask, Answer, refused, answered, After, calling, oneOf, aboutAsk, refusal, call, callOf}
-use Rattle.paper.specs.Lent.{boxIn, FewDirty, join, split}
-use Rattle.paper.specs.BatchLent.{Asking, one, many, report, batchRefusal, batchedFrom, callBatch, servedInTurn}
+use Rattle.paper.specs.Lent.{boxIn, FewDirty, join, split, withCounters}
+use Rattle.paper.specs.BatchLent.{Asking, one, many, report, recount, batchRefusal, batchedFrom, callBatch, servedInTurn}
 use Rattle.paper.specs.Reports.{reportRefusal}
 use Rattle.paper.specs.Machines.{plainNext, plainBlock, writtenBy, NoWrite, Read, Compared, ifRead, seenIn, printedTrace, contentOf}
 use Rattle.paper.specs.Machines.{OrphanLaw, TrueFingerprints, NoTwoShare}
@@ -22,12 +22,15 @@ abbrev pub numberOf : Numbers → Lent → Asking → ℕ
 numberOf N t (one q) = refusal N t (calling q)
 numberOf N t (many l buffer) = batchRefusal N t l buffer
 numberOf N t (report w lent) = reportRefusal N t w lent
+numberOf N t (recount k) = 0
 
--- "Box record, disk, flash, both tables and counters pass from call to call." A report writes none of them.
+-- "Box record, disk, flash, both tables and counters pass from call to call." A report writes none of them. Only `recount` writes other counters: U10's
+-- warm start is a full flush and this (law `warm-start` of `image`).
 abbrev pub next : Numbers → Lent → Asking → Lent
 next N t (one q) = (call N t q) .lent
 next N t (many l buffer) = (callBatch N t l buffer) .lent
 next N t (report w lent) = t
+next N t (recount k) = withCounters t k
 
 -- "Plain disk: P blocks, first those of the disk. It is fed the calls and their arguments in turn and, of the answers, only which are refusals."
 -- "A flush does nothing, nor does a refused call in either machine." A folder read is reads, which write nothing, nor does a report.
@@ -35,6 +38,7 @@ abbrev pub plainStep : (N : Numbers) → Lent → List (Fixed (N .B)) → Asking
 plainStep N t plain (one q) = cond (eqb (refusal N t (calling q)) 0) (plainNext plain (callOf (N .B) q)) plain
 plainStep N t plain (many l buffer) = plain
 plainStep N t plain (report w lent) = plain
+plainStep N t plain (recount k) = plain
 
 -- a claim "in every state reached, the fresh one included"
 unfoldable pub Throughout : (N : Numbers) (Q : Lent → List (Fixed (N .B)) → Type 0) → Lent → List (Fixed (N .B)) → List Asking → Type 0
@@ -60,6 +64,7 @@ abbrev pub writtenIn : (N : Numbers) → Asking → List (Fixed (N .B))
 writtenIn N (one q) = writtenBy (callOf (N .B) q)
 writtenIn N (many l buffer) = []
 writtenIn N (report w lent) = []
+writtenIn N (recount k) = []
 
 unfoldable pub written : (N : Numbers) → Lent → List Asking → List (Fixed (N .B))
 written N t [] = []
@@ -75,6 +80,7 @@ ShowsPlain N t plain (one q) =
     returned q (call N t q) ≡ Option·map (λ (b : Fixed (N .B)). b .0) (plainBlock (labelled N .blank) plain (callOf (N .B) q))
 ShowsPlain N t plain (many l buffer) = (callBatch N t l buffer) .buffer ≡ join (map (λ a. getD plain a (labelled N .blank)) l)
 ShowsPlain N t plain (report w lent) = Unit {0}
+ShowsPlain N t plain (recount k) = Unit {0}
 
 -- U2: "blocks, flash, tables, counters and disk are those of the reads done in turn, with 9 checked only before the first" (of the blocks it is said by
 -- `ShowsPlain`)
@@ -82,12 +88,14 @@ abbrev pub AsReads : (N : Numbers) → Lent → List (Fixed (N .B)) → Asking �
 AsReads N t plain (one q) = Unit {0}
 AsReads N t plain (many l buffer) = (callBatch N t l buffer) .lent ≡ servedInTurn N t l
 AsReads N t plain (report w lent) = Unit {0}
+AsReads N t plain (recount k) = Unit {0}
 
 -- U2: "A list with this call in it counts as those reads for every law about .. orphans": also between its reads
 abbrev pub OrphansWithin : (N : Numbers) → Lent → List (Fixed (N .B)) → Asking → Type 0
 OrphansWithin N t plain (one q) = Unit {0}
 OrphansWithin N t plain (many l buffer) = (k : ℕ) → OrphanLaw (labelled N) ((batchedFrom N t (take k l)) .box)
 OrphansWithin N t plain (report w lent) = Unit {0}
+OrphansWithin N t plain (recount k) = Unit {0}
 
 -- "where demand 3 says "after each flush", the full one is meant": after it the disk is the plain disk
 abbrev pub FlushesWhole : (N : Numbers) → Lent → List (Fixed (N .B)) → Asking → Type 0

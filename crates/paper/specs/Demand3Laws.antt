@@ -16,9 +16,9 @@ use Rattle.paper.specs.KeyedLaws.{All, all-left, all-right, all-map, by-
 use Rattle.paper.specs.Engine.{Fixed, labelled}
 use Rattle.paper.specs.Lent.{Lent, Ask, opening, calling, callOf, lentBlock, addressOf, wrongBuffers, wrongBlock, otherLength, outside, counts}
 use Rattle.paper.specs.Lent.{over, unfit, limitOutside, overLimit, FewDirty, refusal}
-use Rattle.paper.specs.Lent.{served, call, boxIn, lentOf, join, split, fresh, opened, blockAfter, partAfter}
+use Rattle.paper.specs.Lent.{served, call, boxIn, lentOf, join, split, fresh, withCounters, opened, blockAfter, partAfter}
 use Rattle.paper.specs.Batch.{Batched, start}
-use Rattle.paper.specs.BatchLent.{Asking, one, many, report, badCount, anyOutside, batchRefusal, batchedFrom, servedBatch, callBatch}
+use Rattle.paper.specs.BatchLent.{Asking, one, many, report, recount, badCount, anyOutside, batchRefusal, batchedFrom, servedBatch, callBatch}
 use Rattle.paper.specs.Machines.{plainNext, plainBlock, writtenBy, NoWrite, Compared, ifRead, seenIn, printedTrace, contentOf, OrphanLaw}
 use Rattle.paper.specs.Machines.{TrueFingerprints}
 use Rattle.paper.specs.Demand3.{numberOf, next, plainStep, Throughout, EachServed, InList, refusals, writtenIn, written, ShowsPlain, AsReads}
@@ -33,7 +33,7 @@ use Rattle.paper.specs.PlainDisk.{ServedWithin, Good, clean-is-plain, fr
 use Rattle.paper.specs.Quiet as Quiet
 use Rattle.paper.specs.Quiet.{traceOf, printed-quiet}
 use Rattle.paper.specs.Parts.{length-split, join-split}
-use Rattle.paper.specs.LentLaws.{Lengths, right-lengths, Passes, passes-sound, sound-passes, lent-back}
+use Rattle.paper.specs.LentLaws.{Lengths, right-lengths, Passes, counters-box, counters-pass, passes-sound, sound-passes, lent-back}
 use Rattle.paper.specs.RefusalLaws.{exactly-opening, served-is, keeps, opened-is}
 use Rattle.paper.specs.CallLaws.{fits, served-finds, outcome, outcome-sound, outcome-few, served-lent, served-box, served-passes, look-counts, In64}
 use Rattle.paper.specs.CallLaws.{counters-stay}
@@ -92,6 +92,13 @@ module _ (N : Numbers) where
       })
       (λ y. subst Kept (sym (batch-keeps N t l b (eqb-false (batchRefusal N t l b) 0 y) .lent)) k)
   kept-next t (report w lent) k = k
+  kept-next t (recount c) k =
+      let e = sym (counters-box N t c) in
+      record {
+        passes = counters-pass N t c (k .passes);
+        few = subst (FewDirty N) e (k .few);
+        noWaste = subst (λ s. NoWaste H (s .rows) (s .used)) e (k .noWaste);
+      }
 
   orphan : (t : Lent) → Kept t → OrphanLaw H (boxIn N t)
   orphan t k = never-both H ((boxIn N t) .rows) ((boxIn N t) .used) (k .noWaste)
@@ -115,6 +122,7 @@ module _ (N : Numbers) where
       (batch-sound H N (x .fits .m-least) (x .fits .d-least) (start (boxIn N t) (t .counters)) (take j l) (all-take (λ a. a < N .P) l j (x .within))
       (passes-sound N t (x .passes)) .1 (k .noWaste))
   orphans-within t plain (report w lent) k e = tt
+  orphans-within t plain (recount c) k e = tt
 
   within-each : (t : Lent) (plain : List (Fixed (N .B))) (qs : List Asking) → Kept t → EachServed N (OrphansWithin N) t plain qs
   unfolding EachServed
@@ -148,6 +156,7 @@ module _ (N : Numbers) where
       rw (u, l) (by-test (wrongBuffers N t || otherLength lent (N .m * width w))
       (λ e. rw e refl)
       (λ e. rw (e, p .addresses, p .blocks, p .dirty, no-13 t k) refl))
+  in-list t (recount c) u l k = refl
 
   numbers-are : (t : Lent) (qs : List Asking) → unfit N ≡ false → limitOutside N ≡ false → Kept t → All InList (refusals N t qs)
   unfolding refusals
@@ -194,6 +203,11 @@ module _ (N : Numbers) where
         })
         (λ y. subst (λ u. Held u plain) (sym (batch-keeps N t l b (eqb-false (batchRefusal N t l b) 0 y) .lent)) k)
     held-next t plain (report w lent) k = λ i. k
+    held-next t plain (recount c) k = λ i.
+        record {
+          kept = kept-next t (recount c) (k .kept);
+          faithful = subst (Faithful H In (N .P) plain) (sym (counters-box N t c)) (k .faithful);
+        }
 
     -- a claim of each state, and one of each served call
     throughout : (Q : Lent → List (Fixed (N .B)) → Type 0) → ((t : Lent) (plain : List (Fixed (N .B))) → Held t plain → Q t plain)
@@ -245,6 +259,7 @@ module _ (N : Numbers) where
         ap (λ a. a .buffer) (batch-served N t l b e)
         ∙ ap join (batch-blocks H In only N (x .fits .m-least) (x .fits .d-least) (boxIn N t) (t .counters) plain l (good t plain k) (x .within))
     shown t plain (report w lent) k e i = tt
+    shown t plain (recount c) k e i = tt
 
     flushed : (t : Lent) (plain : List (Fixed (N .B))) (q : Asking) → Held t plain → numberOf N t q ≡ 0 → All In (writtenIn N q) → FlushesWhole N t plain q
     unfolding callOf lentOf
@@ -270,6 +285,7 @@ module _ (N : Numbers) where
         ∙ ap (λ (v : Batched (Fixed 32) (Fixed (N .B))). lentOf N (v .box) (v .counters)) same
         ∙ sym (in-turn-is N (x .fits) t l (k .kept .passes) (x .within) (x .some-address))
     as-reads t plain (report w lent) k e i = tt
+    as-reads t plain (recount c) k e i = tt
 
   -- ---- single calls, for the comparison with printed D-LRU
 
@@ -430,6 +446,11 @@ Written N t = (s : Box (Fixed 32) (Fixed (N .B))) × (k : Counters) × Sound (la
 pub opened-written : (N : Numbers) (t : Lent) → refusal N t opening ≡ 0 → Written N (opened N t)
 opened-written N t o = (_, noCounts, fresh-sound N t o, fresh-lent N t o)
 
+-- what a box writes, with other counters
+counters-out : (N : Numbers) (s : Box (Fixed 32) (Fixed (N .B))) (k c : Counters) → withCounters (lentOf N s k) c ≡ lentOf N s c
+unfolding lentOf
+counters-out N s k c = refl
+
 pub next-written : (N : Numbers) (t : Lent) (q : Asking) → Written N t → Written N (next N t q)
 next-written N t (one q) w =
     by-test (eqb (refusal N t (calling q)) 0)
@@ -440,15 +461,29 @@ next-written N t (many l b) w =
     (λ y. let e = eqb-true (batchRefusal N t l b) 0 y in (_, _, batch-leaves N t l b e .0, batch-lent N t l b e))
     (λ y. subst (Written N) (sym (batch-keeps N t l b (eqb-false (batchRefusal N t l b) 0 y) .lent)) w)
 next-written N t (report r lent) w = w
+next-written N t (recount k) w = (w .0, k, w .2, ap (λ x. withCounters x k) (w .3) ∙ counters-out N (w .0) (w .1) k)
+
+-- the counters that a call brings are of 64 bits
+abbrev pub Brings64 : Asking → Type 0
+Brings64 (one q) = Unit {0}
+Brings64 (many l buffer) = Unit {0}
+Brings64 (report w lent) = Unit {0}
+Brings64 (recount k) = In64 k
 
 -- counters of 64 bits keep to them, whatever is asked
-pub next-64 : (N : Numbers) (t : Lent) (q : Asking) → In64 (t .counters) → In64 ((next N t q) .counters)
-next-64 N t (one q) h = counters-stay N t q h
-next-64 N t (many l b) h =
-    by-test (eqb (batchRefusal N t l b) 0)
-    (λ y. batch-fits N t l b (eqb-true (batchRefusal N t l b) 0 y))
-    (λ y. subst (λ (x : Lent). In64 (x .counters)) (sym (batch-keeps N t l b (eqb-false (batchRefusal N t l b) 0 y) .lent)) h)
-next-64 N t (report w lent) h = h
+pub next-64 : (N : Numbers) (t : Lent) (q : Asking) → Brings64 q → In64 (t .counters) → In64 ((next N t q) .counters)
+next-64 N t (one q) b h = counters-stay N t q h
+next-64 N t (many l f) b h =
+    by-test (eqb (batchRefusal N t l f) 0)
+    (λ y. batch-fits N t l f (eqb-true (batchRefusal N t l f) 0 y))
+    (λ y. subst (λ (x : Lent). In64 (x .counters)) (sym (batch-keeps N t l f (eqb-false (batchRefusal N t l f) 0 y) .lent)) h)
+next-64 N t (report w lent) b h = h
+next-64 N t (recount k) b h = b
+
+-- a recount leaves the counters that it brings, and all else as it was
+pub recounted : (N : Numbers) (t : Lent) (k : Counters)
+    → ((next N t (recount k)) .counters ≡ k) × (withCounters (next N t (recount k)) (t .counters) ≡ t)
+recounted N t k = (refl, refl)
 
 -- there a look leaves what is lent as it is
 pub look-stays : (N : Numbers) (t : Lent) (a : ℕ) → Written N t → (call N t (Ask.look a)) .lent ≡ t

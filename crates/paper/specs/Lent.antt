@@ -257,6 +257,10 @@ call N t q = cond (eqb (refusal N t (calling q)) 0) (served N t q) (kept (refusa
 unfoldable pub fresh : Numbers → Lent → Lent
 fresh N t = record { n = 0; disk = t .disk; flash = t .flash; addresses = freshAddresses (N .m); blocks = freshBlocks (N .d); counters = noCounts }
 
+-- lent memory with other counters
+abbrev pub withCounters : Lent → Counters → Lent
+withCounters t k = record { n = t .n; disk = t .disk; flash = t .flash; addresses = t .addresses; blocks = t .blocks; counters = k }
+
 -- "a refused opening: the numbers given, with n = 0"; "every buffer and counter keeps its bytes"
 unfoldable pub unopened : Lent → Lent
 unopened t = record { n = 0; disk = t .disk; flash = t .flash; addresses = t .addresses; blocks = t .blocks; counters = t .counters }

@@ -23,7 +23,7 @@ use Rattle.table_laws.specs.KeptAddresses.{addressOk-of}
 use Rattle.paper.specs.Cache.{Numbers, AddressRow, BlockRow, Box, Counters}
 use Rattle.paper.specs.KeyedLaws.{All, all-map, all-of-map, all-left, all-right, all-perm, or-false-left, or-false-right}
 use Rattle.paper.specs.Engine.{Fixed, fixed-≡, fit, labelled}
-use Rattle.paper.specs.Lent.{Lent, bit, heldRow, usedRow, asHeld, freeSlots, usedRows, boxIn, lentOf, otherLength, wrongBuffers}
+use Rattle.paper.specs.Lent.{Lent, bit, heldRow, usedRow, asHeld, freeSlots, usedRows, boxIn, lentOf, withCounters, otherLength, wrongBuffers}
 use Rattle.paper.specs.Sound.{Sound, length-perm, length-slotsFrom}
 use Rattle.paper.specs.Faithful.{slots-below-0}
 use Rattle.paper.specs.Parts.{length-split, length-join, split-join}
@@ -148,6 +148,15 @@ pub record Lengths (N : Numbers) (t : Lent) : Type 0 where
   pub addresses : length (t .addresses) ≡ tableBytes (N .m)
   pub blocks : length (t .blocks) ≡ tableBytes (N .d)
 
+pub label-right : (N : Numbers) (t : Lent) → wrongBuffers N t ≡ false → length (N .label) ≡ 64
+unfolding wrongBuffers
+label-right N t h =
+    let others = otherLength (t .disk) (N .P * N .B)
+    || otherLength (t .flash) (N .d * N .B)
+    || otherLength (t .addresses) (tableBytes (N .m))
+    || otherLength (t .blocks) (tableBytes (N .d)) in
+    eqb-true (length (N .label)) 64 (not-false (eqb (length (N .label)) 64) (or-false-right others (otherLength (N .label) 64) h))
+
 pub right-lengths : (N : Numbers) (t : Lent) → wrongBuffers N t ≡ false → Lengths N t
 unfolding wrongBuffers
 right-lengths N t h =
@@ -174,6 +183,21 @@ pub record Passes (N : Numbers) (t : Lent) : Type 0 where
   pub addresses : addressesUnsound (N .P) (N .m) (t .n) (t .addresses) ≡ false
   pub blocks : blocksUnsound (N .d) (t .blocks) ≡ false
   pub dirty : dirtyUncached (t .n) (N .d) (t .addresses) (t .blocks) ≡ false
+
+-- other counters leave the box as it is, and memory that passes
+pub counters-box : (N : Numbers) (t : Lent) (k : Counters) → boxIn N (withCounters t k) ≡ boxIn N t
+unfolding boxIn
+counters-box N t k = refl
+
+pub counters-pass : (N : Numbers) (t : Lent) (k : Counters) → Passes N t → Passes N (withCounters t k)
+counters-pass N t k p =
+    let l = p .lengths in
+    record {
+      lengths = record { disk = l .disk; flash = l .flash; addresses = l .addresses; blocks = l .blocks };
+      addresses = p .addresses;
+      blocks = p .blocks;
+      dirty = p .dirty;
+    }
 
 pub passes-sound : (N : Numbers) (t : Lent) → Passes N t → Sound (labelled N) N (boxIn N t)
 unfolding boxIn heldRows blockRows

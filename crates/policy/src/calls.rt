@@ -11,9 +11,10 @@ ghost use mathlib.Core.Path.{_≡_};
 ghost use mathlib.Core.Bool.{cond};
 ghost use mathlib.Core.Option.{Option};
 ghost use Prim.Native.Nat.{_+_, _<_, _^_};
-ghost use Rattle.parts.specs.Rep.{withHeld};
+ghost use Rattle.tables.specs.Index.{Indexed};
+ghost use Rattle.parts.specs.Rep.{numbersOf, withHeld};
 ghost use Rattle.paper.specs.Cache.{hit, miss, sameBlock, newBlock};
-ghost use Rattle.paper.specs.Lent.{Ask};
+ghost use Rattle.paper.specs.Lent.{Ask, calling, refusal};
 ghost use Rattle.counters.specs.Added.{added};
 ghost use Rattle.refusals.specs.Given.{lent, countersOf};
 ghost use Rattle.policy.specs.Contract.{told, called, wordOf, askOf};
@@ -147,6 +148,26 @@ pub fn write(
     answered(b, write_word(s.yes), s, c, 0, 0)
 }
 
+// A flush of at most `k` that isn't refused; `heads` is the index of the block rows.
+pub fn flush_served(
+    b: BoxRecord,
+    k: usize,
+    disk: &mut [u8],
+    flash: &[u8],
+    addresses: &mut [u8],
+    blocks: &[u8],
+    c: Counters,
+    heads: &[u16],
+) -> Outcome
+    requires { ⌜ refusal (numbersOf b) (lent b (now disk) (now flash) (now addresses) (now blocks) (countersOf c)) (calling (Ask.flush k)) ≡ 0 ⌝ }
+    requires { ⌜ Indexed (b .slots) (now blocks) (now heads) ⌝ }
+    ensures { λ r. ⌜ told r (now (disk .exit)) (now (flash .entry)) (now (addresses .exit)) (now (blocks .entry)) Option.none
+        ≡ called b (lent b (now (disk .entry)) (now (flash .entry)) (now (addresses .entry)) (now (blocks .entry)) (countersOf c)) (Ask.flush k) ⌝ }
+{
+    let s = serve::serve_flush(b, k, disk, flash, addresses, blocks, heads);
+    answered(b, Word::Done, s, c, 0, 0)
+}
+
 // Flush of at most `k`: so many dirty rows, oldest first, are copied to the disk and made clean.
 pub fn flush_some(
     b: BoxRecord,
@@ -165,8 +186,7 @@ pub fn flush_some(
     if number != 0 {
         return refused(number, b, c);
     }
-    let s = serve::serve_flush(b, k, disk, flash, addresses, blocks, &heads);
-    answered(b, Word::Done, s, c, 0, 0)
+    flush_served(b, k, disk, flash, addresses, blocks, c, &heads)
 }
 
 // Flush: each dirty row is copied to the disk and made clean.

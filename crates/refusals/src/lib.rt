@@ -119,7 +119,7 @@ pub fn of_opening(b: BoxRecord, disk: &[u8], flash: &[u8], addresses: &[u8], blo
 }
 
 // Refusals 6, 7, 8 and 13, of tables with the box's lengths. Where none applies, `heads`, 0 everywhere at first, is the index of the block rows.
-pub(crate) fn of_tables(b: BoxRecord, addresses: &[u8], blocks: &[u8], heads: &mut [u16]) -> u32
+pub fn of_tables(b: BoxRecord, addresses: &[u8], blocks: &[u8], heads: &mut [u16]) -> u32
     requires { ⌜ (b .blocks ≤ 65536) × (b .rows ≤ 1024) × (b .slots ≤ 256) × (length (now addresses) ≡ tableBytes (b .rows))
         × (length (now blocks) ≡ tableBytes (b .slots)) ⌝ }
     requires { ⌜ Blank (now heads) ⌝ }

@@ -17,7 +17,7 @@ use Rattle.print.specs.Texts.{countersText}
 use Rattle.session.specs.Bytewise.{State, quiet, keep, firstLine, laterLine, endLine, lastLine, atEnd}
 use Rattle.session.specs.Memory.{Buffers, Held, Memory, FedMemory, over, stateIn, stored}
 use Rattle.session.specs.declared.Session.{Session}
-use Rattle.print.specs.PutLaws.{splice-next}
+use Rattle.block.specs.Laws.{splice-next}
 use Rattle.session.specs.BufferLaws.{splice-first, over-same}
 
 -- a session that keeps k bytes

@@ -10,18 +10,17 @@ use lib.Dec.{eqb}
 use lib.ListN.{length, length-map}
 use borrow.Author.Tests.{eqb-true, eqb-false}
 use Rattle.tables.specs.Rows.{flat, zeros}
-use Rattle.paper.specs.Cache.{Numbers, Hashing, AddressRow, Box, Outcome, Counters, counted}
+use Rattle.paper.specs.Cache.{Numbers, Hashing, AddressRow, Outcome, Counters, counted}
 use Rattle.paper.specs.KeyedLaws.{by-test}
 use Rattle.paper.specs.Engine.{Fixed, labelled}
 use Rattle.paper.specs.Lent.{Ask, refused, answered, callOf, aboutAsk, addressOf, lentBlock, counts, join, blockAfter, partAfter}
 use Rattle.paper.specs.Lent.{Test, test, first, limitOutside, otherLength, wrongBlock, outside, over}
 use Rattle.paper.specs.Reports.{desk, width, reportRow, reportOf}
 use Rattle.paper.specs.Batch.{Batched, start, blocksIn}
-use Rattle.paper.specs.BatchLent.{Asking, one, many, report, badCount, anyOutside, BatchAnswer, batched}
-use Rattle.arc.specs.Policy.{Policy, Served, serveBy}
-use Rattle.arc.specs.Folder as Folder
-use Rattle.arc.specs.Folder.{FolderBy}
+use Rattle.paper.specs.BatchLent.{Asking, one, many, report, recount, badCount, anyOutside, BatchAnswer, batched}
+use Rattle.arc.specs.Policy.{Policy, serveBy}
 use Rattle.blind.specs.Blind.{bare, bares, bareBox, bareServed, bareFolder, Blind}
+use Rattle.blind.specs.Serving.{State, servedBy, folderBy, servedState}
 use Rattle.seats.specs.TwoRuns.{bareAsk, bareAsking, Told, single, folder, number, Runs, Seen, seen, deskSees}
 use Rattle.seats.specs.BareCalls.{bareCall, counted-bare, serve-bare, folder-bare}
 
@@ -46,6 +45,7 @@ asking-twice : (q : Asking) → bareAsking (bareAsking q) ≡ bareAsking q
 asking-twice (one q) = ap one (ask-bare q .twice)
 asking-twice (many l buffer) = refl
 asking-twice (report w lent) = refl
+asking-twice (recount k) = refl
 
 -- the desk's report has nothing of the seats
 rows-bare : {F : Type 0} (rows : List (AddressRow F)) → map (reportRow desk) (bares true rows) ≡ map (reportRow desk) rows
@@ -58,12 +58,6 @@ desk-bare m rows = ap₂ (λ l n. flat l ++ zeros ((m - n) * 5)) (rows-bare rows
 
 -- ---- calls over a policy
 
--- what passes from call to call: the policy's state, the box and the counters
-pub record State (F X S : Type 0) : Type 0 where
-  pub kept : S
-  pub box : Box F X
-  pub counters : Counters
-
 abbrev bareState : {F X S : Type 0} → State F X S → State F X S
 bareState s = record { kept = s .kept; box = bareBox true (s .box); counters = s .counters }
 
@@ -72,6 +66,7 @@ abbrev pub refusedTold : ℕ → Asking → Told
 refusedTold k (one q) = single (refused k) (lentBlock q) []
 refusedTold k (many l buffer) = folder (BatchAnswer.refused k) buffer
 refusedTold k (report w lent) = number k
+refusedTold k (recount c) = number k
 
 module _ {F : Type 0} {B : ℕ} where
   abbrev pub outcomeTold : Ask → Outcome F (Fixed B) → Told
@@ -100,6 +95,7 @@ numberBy N x b k (many l buffer) =
     first (x ∷ test (limitOutside N) 12 ∷ test (b .buffers || otherLength buffer (length l * N .B)) 2 ∷ test (badCount l) 10 ∷ test (anyOutside (N .P) l) 3
     ∷ tableTests b (test (over k) 9 ∷ []))
 numberBy N x b k (report w lent) = first (x ∷ test (limitOutside N) 12 ∷ test (b .buffers || otherLength lent (N .m * width w)) 2 ∷ tableTests b [])
+numberBy N x b k (recount c) = 0
 
 number-bare : (N : Numbers) (x : Test) (b : Tests) (k : Counters) (q : Asking) → numberBy N x b k (bareAsking q) ≡ numberBy N x b k q
 number-bare N x b k (one q) =
@@ -109,11 +105,13 @@ number-bare N x b k (one q) =
     ∷ tableTests b (test (a i .counts && over k) 9 ∷ []))
 number-bare N x b k (many l buffer) = refl
 number-bare N x b k (report w lent) = refl
+number-bare N x b k (recount c) = refl
 
 refused-bare : (k : ℕ) (q : Asking) → refusedTold k (bareAsking q) ≡ refusedTold k q
 refused-bare k (one q) = ap (λ b. single (refused k) b []) (ask-bare q .lent)
 refused-bare k (many l buffer) = refl
 refused-bare k (report w lent) = refl
+refused-bare k (recount c) = refl
 
 module _ {S : Type 0} (N : Numbers) (pol : Policy (Fixed 32) (Fixed (N .B)) S) where
   abbrev Held : Type 0
@@ -122,26 +120,12 @@ module _ {S : Type 0} (N : Numbers) (pol : Policy (Fixed 32) (Fixed (N .B)) S) w
   abbrev H : Hashing (Fixed 32) (Fixed (N .B))
   H = labelled N
 
-  abbrev pub servedBy : Held → Ask → Served (Fixed 32) (Fixed (N .B)) S
-  servedBy s q = serveBy H pol (s .kept) (s .box) (callOf (N .B) q)
-
-  abbrev pub folderBy : Held → List ℕ → FolderBy (Fixed 32) (Fixed (N .B)) S
-  folderBy s l = Folder.folder H pol (record { kept = s .kept; batched = start (s .box) (s .counters) }) l
-
-  -- what a served call tells and leaves
+  -- what a served call tells
   abbrev pub servedTold : Held → Asking → Told
-  servedTold s (one q) = outcomeTold q ((servedBy s q) .outcome)
-  servedTold s (many l buffer) = batchTold ((folderBy s l) .batched)
+  servedTold s (one q) = outcomeTold q ((servedBy (N .B) H pol s q) .outcome)
+  servedTold s (many l buffer) = batchTold ((folderBy (N .B) H pol s l) .batched)
   servedTold s (report w lent) = number 0
-
-  abbrev pub servedState : Held → Asking → Held
-  servedState s (one q) =
-      let o = servedBy s q in
-      record { kept = o .kept; box = o .outcome .box; counters = counted (s .counters) (callOf (N .B) q) (o .outcome) }
-  servedState s (many l buffer) =
-      let r = folderBy s l in
-      record { kept = r .kept; box = r .batched .box; counters = r .batched .counters }
-  servedState s (report w lent) = s
+  servedTold s (recount k) = number 0
 
   -- A kind of box whose calls are those over the policy. What two served calls leave passes the same tests, or both leave all as it was.
   pub record Serves {M : Type 0} (runs : Runs M) : Type 0 where
@@ -152,7 +136,7 @@ module _ {S : Type 0} (N : Numbers) (pol : Policy (Fixed 32) (Fixed (N .B)) S) w
     pub numbered : (t : M) (q : Asking) → number t q ≡ numberBy N unfit (tests t) ((state t) .counters) q
     pub counters : (t : M) → runs .counters t ≡ (state t) .counters
     pub tells : (t : M) (q : Asking) → number t q ≡ 0 → runs .tells t q ≡ servedTold (state t) q
-    pub leaves : (t : M) (q : Asking) → number t q ≡ 0 → state (runs .next t q) ≡ servedState (state t) q
+    pub leaves : (t : M) (q : Asking) → number t q ≡ 0 → state (runs .next t q) ≡ servedState (N .B) H pol (state t) q
     pub passes : (t u : M) (q : Asking) → tests t ≡ tests u → number t q ≡ 0 → number u (bareAsking q) ≡ 0
         → tests (runs .next t q) ≡ tests (runs .next u (bareAsking q))
     pub refuses : (t : M) (q : Asking) → number t q ≢ 0 → runs .tells t q ≡ refusedTold (number t q) q
@@ -161,32 +145,34 @@ module _ {S : Type 0} (N : Numbers) (pol : Policy (Fixed 32) (Fixed (N .B)) S) w
         → runs .deskReport t lent ≡ cond (eqb (number t (report desk lent)) 0) (reportOf desk (N .m) ((state t) .box .rows)) lent
 
   module _ (bl : Blind true pol) where
-    served-bare : (s : Held) (q : Ask) → servedBy (bareState s) (bareAsk q) ≡ bareServed true (servedBy s q)
+    served-bare : (s : Held) (q : Ask) → servedBy (N .B) H pol (bareState s) (bareAsk q) ≡ bareServed true (servedBy (N .B) H pol s q)
     served-bare s q =
         ap (serveBy H pol (s .kept) (bareBox true (s .box))) (ask-bare q .call (N .B)) ∙ serve-bare H pol bl (s .kept) (s .box) (callOf (N .B) q)
 
-    files-bare : (s : Held) (l : List ℕ) → folderBy (bareState s) l ≡ bareFolder true (folderBy s l)
+    files-bare : (s : Held) (l : List ℕ) → folderBy (N .B) H pol (bareState s) l ≡ bareFolder true (folderBy (N .B) H pol s l)
     files-bare s l = folder-bare H pol bl (record { kept = s .kept; batched = start (s .box) (s .counters) }) l
 
     outcome-bare : (q : Ask) (o : Outcome (Fixed 32) (Fixed (N .B))) → outcomeTold (bareAsk q) o ≡ outcomeTold q o
     outcome-bare q o = let x = ask-bare q in rw (x .lent, x .about) refl
 
     told-bare : (s : Held) (q : Asking) → servedTold (bareState s) (bareAsking q) ≡ servedTold s q
-    told-bare s (one q) = ap (λ o. outcomeTold (bareAsk q) (o .outcome)) (served-bare s q) ∙ outcome-bare q ((servedBy s q) .outcome)
+    told-bare s (one q) = ap (λ o. outcomeTold (bareAsk q) (o .outcome)) (served-bare s q) ∙ outcome-bare q ((servedBy (N .B) H pol s q) .outcome)
     told-bare s (many l buffer) = ap (λ r. batchTold (r .batched)) (files-bare s l)
     told-bare s (report w lent) = refl
+    told-bare s (recount k) = refl
 
-    state-bare : (s : Held) (q : Asking) → servedState (bareState s) (bareAsking q) ≡ bareState (servedState s q)
+    state-bare : (s : Held) (q : Asking) → servedState (N .B) H pol (bareState s) (bareAsking q) ≡ bareState (servedState (N .B) H pol s q)
     state-bare s (one q) =
         let o = served-bare s q in
         let c = ask-bare q .call (N .B) in
-        let k = counted-bare H (s .counters) (callOf (N .B) q) ((servedBy s q) .outcome) in
+        let k = counted-bare H (s .counters) (callOf (N .B) q) ((servedBy (N .B) H pol s q) .outcome) in
         (λ i. record { kept = o i .kept; box = o i .outcome .box; counters = counted (s .counters) (c i) (o i .outcome) })
-        ∙ (λ i. record { kept = (servedBy s q) .kept; box = bareBox true ((servedBy s q) .outcome .box); counters = k i })
+        ∙ (λ i. record { kept = (servedBy (N .B) H pol s q) .kept; box = bareBox true ((servedBy (N .B) H pol s q) .outcome .box); counters = k i })
     state-bare s (many l buffer) =
         let r = files-bare s l in
         λ i. record { kept = r i .kept; box = r i .batched .box; counters = r i .batched .counters }
     state-bare s (report w lent) = refl
+    state-bare s (recount k) = refl
 
     module _ {M : Type 0} (runs : Runs M) (sv : Serves runs) where
       -- Two lent memories are alike: the same but for seats, and they pass the same tests.
@@ -232,7 +218,7 @@ module _ {S : Type 0} (N : Numbers) (pol : Policy (Fixed 32) (Fixed (N .B)) S) w
           let z = eqb-true (sv .number t q) 0 y in
           let z′ = sym n ∙ z in
           let s = ap bareState (sv .leaves t q z)
-          ∙ same-for servedState (λ x a. bareState (servedState x a)) state-bare t u q k
+          ∙ same-for (servedState (N .B) H pol) (λ x a. bareState (servedState (N .B) H pol x a)) state-bare t u q k
           ∙ sym (ap bareState (sv .leaves u r z′)) in
           record { state = s; tests = sv .passes t u q (k .tests) z z′ })
           (λ y.

@@ -5,20 +5,21 @@ use mathlib.Core.List.{List, map}
 use mathlib.Core.Logic.{_≢_}
 use Prim.Native.Nat.{ℕ}
 use Rattle.tables.specs.Unsound.{addressesUnsound, blocksUnsound, dirtyUncached}
-use Rattle.paper.specs.Cache.{Numbers, Hashing}
+use Rattle.paper.specs.Cache.{Numbers, Hashing, Counters}
 use Rattle.paper.specs.Engine.{Fixed, labelled}
-use Rattle.paper.specs.Lent.{test, overLimit}
-use Rattle.paper.specs.BatchLent.{Asking, one, many, report}
-use Rattle.arc.specs.Arc.{Sizes, baseNumbers, mOf, Lists, arc}
+use Rattle.paper.specs.Lent.{test, wrongBuffers, overLimit, boxIn}
+use Rattle.paper.specs.BatchLent.{Asking, one, many, report, recount}
+use Rattle.arc.specs.Arc.{Sizes, baseNumbers, mOf, arc}
 use Rattle.arc.specs.ArcLent.{ArcLent, unfitArc, listsUnsound, topUncached, topsIn, wrongArcBuffers, arcRefusal, arcServed}
 use Rattle.arc.specs.ArcFolder.{arcFolderRefusal, arcServedFolder}
 use Rattle.arc.specs.ArcReports.{arcReportRefusal, arcReported}
-use Rattle.arc.specs.ArcDemand.{listsOf, boxOf, arcNumber, arcNext}
-use Rattle.arc.specs.ArcDemandLaws.{ArcPasses, no-13, served-is, arc-keeps, served-box, served-lists, served-counters, served-passes}
-use Rattle.arc.specs.ArcDemandLaws.{folder-served, arc-folder-keeps, folder-box, folder-lists, folder-counters, folder-passes}
+use Rattle.arc.specs.ArcDemand.{boxOf, arcNumber, arcNext}
+use Rattle.arc.specs.ArcDemandLaws.{ArcPasses, no-13, served-is, arc-keeps, served-passes}
+use Rattle.arc.specs.ArcDemandLaws.{folder-served, arc-folder-keeps, folder-passes}
 use Rattle.seats.specs.TwoRuns.{bareAsk, bareAsking, single, folder, number, arcTells, arcRuns, deskSees}
 use Rattle.blind.specs.ArcBlind.{arc-blind}
-use Rattle.seats.specs.Alike.{State, Tests, numberBy, refusedTold, servedTold, servedState, Serves, runs-alike}
+use Rattle.blind.specs.Serving.{arcState, arc-leaves, arc-stays}
+use Rattle.seats.specs.Alike.{Tests, numberBy, refusedTold, servedTold, Serves, runs-alike}
 use Rattle.seats.specs.TwoRunsLaws.{same-buffers}
 
 module _ (Z : Sizes) where
@@ -27,9 +28,6 @@ module _ (Z : Sizes) where
 
   abbrev M : Numbers
   M = baseNumbers Z
-
-  abbrev state : ArcLent → State (Fixed 32) (Fixed (Z .B)) Lists
-  state t = record { kept = listsOf t; box = boxOf Z t; counters = t .base .counters }
 
   abbrev tests : ArcLent → Tests
   tests t =
@@ -47,6 +45,7 @@ module _ (Z : Sizes) where
   numbered t (one q) = refl
   numbered t (many l buffer) = refl
   numbered t (report w lent) = refl
+  numbered t (recount c) = refl
 
   same-tests : (t u : ArcLent) → ArcPasses Z t → ArcPasses Z u → tests t ≡ tests u
   same-tests t u p p′ =
@@ -57,56 +56,46 @@ module _ (Z : Sizes) where
       let v = no-13 Z t p ∙ sym (no-13 Z u p′) in
       λ i. record { buffers = b i; six = x i; seven = y i; eight = z i; thirteen = v i }
 
+  -- the tests look at no counter
+  counters-tests : (t : ArcLent) (c : Counters) → tests (arcNext Z t (recount c)) ≡ tests t
+  unfolding wrongBuffers boxIn
+  counters-tests t c = refl
+
   passes : (t u : ArcLent) (q : Asking) → tests t ≡ tests u → arcNumber Z t q ≡ 0 → arcNumber Z u (bareAsking q) ≡ 0
       → tests (arcNext Z t q) ≡ tests (arcNext Z u (bareAsking q))
   passes t u (one q) k e f = same-tests (arcNext Z t (one q)) (arcNext Z u (one (bareAsk q))) (served-passes Z t q e) (served-passes Z u (bareAsk q) f)
   passes t u (many l b) k e f = same-tests (arcNext Z t (many l b)) (arcNext Z u (many l b)) (folder-passes Z t l b e) (folder-passes Z u l b f)
   passes t u (report w lent) k e f = k
+  passes t u (recount c) k e f = counters-tests t c ∙ k ∙ sym (counters-tests u c)
 
-  tells : (t : ArcLent) (q : Asking) → arcNumber Z t q ≡ 0 → arcTells Z t q ≡ servedTold M (arc H Z) (state t) q
+  tells : (t : ArcLent) (q : Asking) → arcNumber Z t q ≡ 0 → arcTells Z t q ≡ servedTold M (arc H Z) (arcState Z t) q
   unfolding arcServed arcServedFolder
   tells t (one q) e = ap (λ x. single (x .answer) (x .block) (x .part)) (served-is Z t q e)
   tells t (many l buffer) e = ap (λ x. folder (x .answer) (x .buffer)) (folder-served Z t l buffer e)
   tells t (report w lent) e = ap number e
-
-  leaves : (t : ArcLent) (q : Asking) → arcNumber Z t q ≡ 0 → state (arcNext Z t q) ≡ servedState M (arc H Z) (state t) q
-  leaves t (one q) e =
-      let l = served-lists Z t q e in
-      let b = served-box Z t q e in
-      let c = served-counters Z t q e in
-      λ i. record { kept = l i; box = b i; counters = c i }
-  leaves t (many l buffer) e =
-      let k = folder-lists Z t l buffer e in
-      let b = folder-box Z t l buffer e in
-      let c = folder-counters Z t l buffer e in
-      λ i. record { kept = k i; box = b i; counters = c i }
-  leaves t (report w lent) e = refl
+  tells t (recount c) e = refl
 
   refuses : (t : ArcLent) (q : Asking) → arcNumber Z t q ≢ 0 → arcTells Z t q ≡ refusedTold (arcNumber Z t q) q
   refuses t (one q) z = ap (λ x. single (x .answer) (x .block) (x .part)) (arc-keeps Z t q z)
   refuses t (many l buffer) z = ap (λ x. folder (x .answer) (x .buffer)) (arc-folder-keeps Z t l buffer z)
   refuses t (report w lent) z = refl
-
-  stays : (t : ArcLent) (q : Asking) → arcNumber Z t q ≢ 0 → arcNext Z t q ≡ t
-  stays t (one q) z = ap (λ x. x .lent) (arc-keeps Z t q z)
-  stays t (many l buffer) z = ap (λ x. x .lent) (arc-folder-keeps Z t l buffer z)
-  stays t (report w lent) z = refl
+  refuses t (recount c) z = refl
 
   arc-runs : Serves M (arc H Z) (arcRuns Z)
   unfolding arcReported
   arc-runs =
       record {
-        state = state;
+        state = arcState Z;
         tests = tests;
         unfit = test (unfitArc Z) 11;
         number = arcNumber Z;
         numbered = numbered;
         counters = λ t. refl;
         tells = tells;
-        leaves = leaves;
+        leaves = arc-leaves Z;
         passes = passes;
         refuses = refuses;
-        keeps = stays;
+        keeps = arc-stays Z;
         reports = λ t lent. refl;
       }
 

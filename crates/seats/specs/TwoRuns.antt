@@ -6,7 +6,7 @@ use Prim.Native.Nat.{ℕ}
 use Rattle.paper.specs.Cache.{Numbers, Counters}
 use Rattle.paper.specs.Lent.{Lent, Ask, Answer, call}
 use Rattle.paper.specs.Reports.{desk, reportRefusal, reported}
-use Rattle.paper.specs.BatchLent.{Asking, one, many, report, BatchAnswer, callBatch}
+use Rattle.paper.specs.BatchLent.{Asking, one, many, report, recount, BatchAnswer, callBatch}
 use Rattle.paper.specs.Demand3.{next}
 use Rattle.arc.specs.Arc.{Sizes}
 use Rattle.arc.specs.ArcLent.{ArcLent, arcCall}
@@ -27,8 +27,9 @@ abbrev pub bareAsking : Asking → Asking
 bareAsking (one q) = one (bareAsk q)
 bareAsking (many l buffer) = many l buffer
 bareAsking (report w lent) = report w lent
+bareAsking (recount k) = recount k
 
--- "answers": what a call tells, with the bytes that it leaves in the block or buffer lent to it; of a report its number
+-- "answers": what a call tells, with the bytes that it leaves in the block or buffer lent to it; of a report or a recount its number
 pub data Told : Type 0 where
   single : Answer → (block : Option (List ℕ)) → (part : List ℕ) → Told
   folder : BatchAnswer → (buffer : List ℕ) → Told
@@ -46,6 +47,7 @@ abbrev pub lruTells : Numbers → Lent → Asking → Told
 lruTells N t (one q) = let a = call N t q in single (a .answer) (a .block) (a .part)
 lruTells N t (many l buffer) = let a = callBatch N t l buffer in folder (a .answer) (a .buffer)
 lruTells N t (report w lent) = number (reportRefusal N t w lent)
+lruTells N t (recount k) = number 0
 
 abbrev pub lruRuns : Numbers → Runs Lent
 lruRuns N = record { tells = lruTells N; next = next N; deskReport = λ t lent. reported N t desk lent; counters = λ t. t .counters }
@@ -55,6 +57,7 @@ abbrev pub arcTells : Sizes → ArcLent → Asking → Told
 arcTells Z t (one q) = let a = arcCall Z t q in single (a .answer) (a .block) (a .part)
 arcTells Z t (many l buffer) = let a = arcFolderCall Z t l buffer in folder (a .answer) (a .buffer)
 arcTells Z t (report w lent) = number (arcReportRefusal Z t w lent)
+arcTells Z t (recount k) = number 0
 
 abbrev pub arcRuns : Sizes → Runs ArcLent
 arcRuns Z = record { tells = arcTells Z; next = arcNext Z; deskReport = λ t lent. arcReported Z t desk lent; counters = λ t. t .base .counters }

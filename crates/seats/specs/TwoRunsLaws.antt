@@ -6,23 +6,24 @@ use mathlib.Core.Logic.{_≢_}
 use Prim.Native.Nat.{ℕ}
 use borrow.Author.Tests.{le-ltb}
 use Rattle.tables.specs.Unsound.{addressesUnsound, blocksUnsound, dirtyUncached}
-use Rattle.paper.specs.Cache.{Numbers, Hashing, dirtyRows, counted}
+use Rattle.paper.specs.Cache.{Numbers, Hashing, Counters, dirtyRows}
 use Rattle.paper.specs.Engine.{Fixed, labelled}
-use Rattle.paper.specs.Lent.{Lent, Ask, calling, callOf, test, unfit, wrongBuffers, overLimit, FewDirty, refusal, served, boxIn, lentOf}
+use Rattle.paper.specs.Lent.{Lent, Ask, calling, callOf, test, unfit, wrongBuffers, overLimit, FewDirty, refusal, served, boxIn}
 use Rattle.paper.specs.LentLaws.{Passes}
 use Rattle.paper.specs.RefusalLaws.{served-is, keeps}
-use Rattle.paper.specs.CallLaws.{outcome-few, served-lent, served-box, served-passes}
+use Rattle.paper.specs.CallLaws.{outcome-few, served-box, served-passes}
 use Rattle.paper.specs.Reports.{reportRefusal, reported}
 use Rattle.paper.specs.Batch.{start}
-use Rattle.paper.specs.BatchLent.{Asking, one, many, report, batchRefusal, servedBatch}
-use Rattle.paper.specs.BatchLentLaws.{batch-served, batch-keeps, batch-lent, batch-box, batch-few-dirty, batch-passes}
+use Rattle.paper.specs.BatchLent.{Asking, one, many, report, recount, batchRefusal, servedBatch}
+use Rattle.paper.specs.BatchLentLaws.{batch-served, batch-keeps, batch-box, batch-few-dirty, batch-passes}
 use Rattle.paper.specs.Demand3.{numberOf, next}
 use Rattle.arc.specs.Policy.{lru}
 use Rattle.arc.specs.LruServes.{lru-serves}
 use Rattle.arc.specs.FolderLaws.{lru-folder}
 use Rattle.seats.specs.TwoRuns.{bareAsk, bareAsking, single, folder, number, lruTells, lruRuns, deskSees}
 use Rattle.blind.specs.Blind.{lru-blind}
-use Rattle.seats.specs.Alike.{State, Tests, numberBy, refusedTold, outcomeTold, batchTold, servedTold, servedState, Serves, runs-alike}
+use Rattle.blind.specs.Serving.{lruState, lru-leaves, lru-stays}
+use Rattle.seats.specs.Alike.{Tests, numberBy, refusedTold, outcomeTold, batchTold, servedTold, Serves, runs-alike}
 
 -- lent memory that passes has the same lengths
 pub same-buffers : (N : Numbers) (t u : Lent) → Passes N t → Passes N u → wrongBuffers N t ≡ wrongBuffers N u
@@ -35,9 +36,6 @@ same-buffers N t u p p′ =
 module _ (N : Numbers) where
   abbrev H : Hashing (Fixed 32) (Fixed (N .B))
   H = labelled N
-
-  abbrev state : Lent → State (Fixed 32) (Fixed (N .B)) (Unit {0})
-  state t = record { kept = tt; box = boxIn N t; counters = t .counters }
 
   abbrev tests : Lent → Tests
   tests t =
@@ -54,6 +52,7 @@ module _ (N : Numbers) where
   numbered t (one q) = refl
   numbered t (many l buffer) = refl
   numbered t (report w lent) = refl
+  numbered t (recount c) = refl
 
   -- after a served call not more rows are dirty than the limit
   few-dirty : (t : Lent) → FewDirty N (boxIn N t) → overLimit N t ≡ false
@@ -74,6 +73,11 @@ module _ (N : Numbers) where
       let v = f ∙ sym f′ in
       λ i. record { buffers = b i; six = x i; seven = y i; eight = z i; thirteen = v i }
 
+  -- the tests look at no counter
+  counters-tests : (t : Lent) (c : Counters) → tests (next N t (recount c)) ≡ tests t
+  unfolding wrongBuffers boxIn
+  counters-tests t c = refl
+
   passes : (t u : Lent) (q : Asking) → tests t ≡ tests u → numberOf N t q ≡ 0 → numberOf N u (bareAsking q) ≡ 0
       → tests (next N t q) ≡ tests (next N u (bareAsking q))
   passes t u (one q) k e f =
@@ -82,8 +86,9 @@ module _ (N : Numbers) where
   passes t u (many l b) k e f =
       same-tests (next N t (many l b)) (next N u (many l b)) (batch-passes N t l b e) (batch-passes N u l b f) (many-few t l b e) (many-few u l b f)
   passes t u (report w lent) k e f = k
+  passes t u (recount c) k e f = counters-tests t c ∙ k ∙ sym (counters-tests u c)
 
-  tells : (t : Lent) (q : Asking) → numberOf N t q ≡ 0 → lruTells N t q ≡ servedTold N (lru H N) (state t) q
+  tells : (t : Lent) (q : Asking) → numberOf N t q ≡ 0 → lruTells N t q ≡ servedTold N (lru H N) (lruState N t) q
   unfolding served servedBatch
   tells t (one q) e =
       ap (λ x. single (x .answer) (x .block) (x .part)) (served-is N t q e) ∙ ap (outcomeTold q) (sym (lru-serves H N (boxIn N t) (callOf (N .B) q)))
@@ -91,46 +96,29 @@ module _ (N : Numbers) where
       ap (λ x. folder (x .answer) (x .buffer)) (batch-served N t l buffer e)
       ∙ ap batchTold (sym (lru-folder H N (start (boxIn N t) (t .counters)) l))
   tells t (report w lent) e = ap number e
-
-  leaves : (t : Lent) (q : Asking) → numberOf N t q ≡ 0 → state (next N t q) ≡ servedState N (lru H N) (state t) q
-  unfolding lentOf
-  leaves t (one q) e =
-      let o = sym (lru-serves H N (boxIn N t) (callOf (N .B) q)) in
-      let b = served-box N t q e ∙ ap (λ x. x .box) o in
-      let c = ap (λ x. x .counters) (served-lent N t q e) ∙ ap (counted (t .counters) (callOf (N .B) q)) o in
-      λ i. record { kept = tt; box = b i; counters = c i }
-  leaves t (many l buffer) e =
-      let r = sym (lru-folder H N (start (boxIn N t) (t .counters)) l) in
-      let b = batch-box N t l buffer e ∙ ap (λ x. x .box) r in
-      let c = ap (λ x. x .counters) (batch-lent N t l buffer e) ∙ ap (λ x. x .counters) r in
-      λ i. record { kept = tt; box = b i; counters = c i }
-  leaves t (report w lent) e = refl
+  tells t (recount c) e = refl
 
   refuses : (t : Lent) (q : Asking) → numberOf N t q ≢ 0 → lruTells N t q ≡ refusedTold (numberOf N t q) q
   refuses t (one q) z = let x = keeps N t q z in λ i. single (x .answer i) (x .block i) (x .part i)
   refuses t (many l buffer) z = let x = batch-keeps N t l buffer z in λ i. folder (x .answer i) (x .buffer-kept i)
   refuses t (report w lent) z = refl
-
-  stays : (t : Lent) (q : Asking) → numberOf N t q ≢ 0 → next N t q ≡ t
-  stays t (one q) z = keeps N t q z .lent
-  stays t (many l buffer) z = batch-keeps N t l buffer z .lent
-  stays t (report w lent) z = refl
+  refuses t (recount c) z = refl
 
   lru-runs : Serves N (lru H N) (lruRuns N)
   unfolding reported
   lru-runs =
       record {
-        state = state;
+        state = lruState N;
         tests = tests;
         unfit = test (unfit N) 1;
         number = numberOf N;
         numbered = numbered;
         counters = λ t. refl;
         tells = tells;
-        leaves = leaves;
+        leaves = lru-leaves N;
         passes = passes;
         refuses = refuses;
-        keeps = stays;
+        keeps = lru-stays N;
         reports = λ t lent. refl;
       }
 

@@ -1,22 +1,23 @@
 -- A call reads what the call before it wrote: the state's bytes carry the box record and the counters, so that the next call on
 -- the bytes is the paper's call on what the paper's last call left. Assumes nothing.
 use mathlib.Core.Path.{_≡_, refl, sym, ap, _∙_, subst}
-use mathlib.Core.Bool.{true, _||_}
+use mathlib.Core.Bool.{true}
 use mathlib.Core.List.{List}
-use Prim.Native.Nat.{ℕ, _+_, _*_, _^_, _<_, _≤_}
+use Prim.Native.Nat.{ℕ, _+_, _^_, _<_, _≤_}
 use native.Mathlib.Omega.{arith}
 use lib.Dec.{eqb}
 use lib.ListN.{length, getD}
-use borrow.Author.Tests.{eq-eqb, eqb-true, eqb-false, not-false}
-use Rattle.paper.specs.KeyedLaws.{and-left, or-false-right, by-test}
+use borrow.Author.Tests.{eq-eqb, eqb-true, eqb-false}
+use Rattle.paper.specs.KeyedLaws.{and-left, by-test}
 use Rattle.paper.specs.Cache.{Numbers, Word, noCounts}
 use Rattle.paper.specs.Lent.{Lent, Ask, refused, answered, After, calling, opening, refusal, call, served, lentOf, opened, fresh, unopened}
-use Rattle.paper.specs.Lent.{otherLength, wrongBuffers, labelAfter, withLabel}
+use Rattle.paper.specs.Lent.{labelAfter, withLabel}
+use Rattle.paper.specs.LentLaws.{label-right}
 use Rattle.paper.specs.BatchLent.{BatchAnswer, batched, BatchAfter, batchRefusal, batchedFrom, servedBatch, callBatch}
 use Rattle.paper.specs.BatchLentLaws.{batch-finds, batch-served, batch-keeps, batch-lent, batch-leaves, batch-fits}
 use Rattle.paper.specs.RefusalLaws.{exactly-opening, served-is, keeps, opened-is, refused-opening, label-carried, label-zeros}
 use Rattle.paper.specs.CallLaws.{In64, served-finds, served-lent, outcome, outcome-sound, counters-stay}
-use Rattle.tables.specs.Rows.{tableBytes, zeros}
+use Rattle.tables.specs.Rows.{zeros}
 use Rattle.block.specs.Laws.{part-past}
 use Rattle.parts.specs.Rep.{numbersOf}
 use Rattle.refusals.specs.Given.{countersOf, lent}
@@ -33,7 +34,7 @@ pub record Carries (state disk flash addresses blocks : List ℕ) (N : Numbers) 
 
 module _ (s : List ℕ) (h : length s ≡ stateBytes) where
   -- what is written of n and the counters
-  written : (t : Lent) → t .n < 2 ^ 64 → In64 (t .counters)
+  pub written : (t : Lent) → t .n < 2 ^ 64 → In64 (t .counters)
       → Carries (putState (t .n) (t .counters) s) (t .disk) (t .flash) (t .addresses) (t .blocks) (numbersOf (recordIn s)) t
   written t bn bk =
       let r = record-back (t .n) (t .counters) s h bn in
@@ -73,11 +74,11 @@ module _ (s : List ℕ) (h : length s ≡ stateBytes) where
         rw e (record { long = h; numbers = refl; lent = subst (λ (t : Lent). lentIn s (t .disk) (t .flash) (t .addresses) (t .blocks) ≡ t) (sym el) refl })
 
 -- counters of eight bytes each have 64 bits
-in64 : (s : List ℕ) → ((i : ℕ) → getD s i 0 < 256) → In64 (countersOf (countersIn s))
+pub in64 : (s : List ℕ) → ((i : ℕ) → getD s i 0 < 256) → In64 (countersOf (countersIn s))
 in64 s b = record { reads = get8-below s 40 b; hits = get8-below s 48 b; flashWrites = get8-below s 56 b; primaryWrites = get8-below s 64 b }
 
 -- a served call holds at most m addresses
-held-below : (N : Numbers) (t : Lent) (q : Ask) → refusal N t (calling q) ≡ 0 → (call N t q) .lent .n < 2 ^ 64
+pub held-below : (N : Numbers) (t : Lent) (q : Ask) → refusal N t (calling q) ≡ 0 → (call N t q) .lent .n < 2 ^ 64
 unfolding lentOf
 held-below N t q e =
     let m = served-finds N t q e .fits .m-most in
@@ -86,12 +87,12 @@ held-below N t q e =
     omega arith
 
 -- the word of a served call
-served-word : (N : Numbers) (t : Lent) (q : Ask) → refusal N t (calling q) ≡ 0
+pub served-word : (N : Numbers) (t : Lent) (q : Ask) → refusal N t (calling q) ≡ 0
     → (call N t q) .answer ≡ answered (outcome N t q .word) (outcome N t q .flashWrites) (outcome N t q .primaryWrites)
 unfolding served
 served-word N t q e = ap (λ (x : After). x .answer) (served-is N t q e)
 
-state-long : (n : ℕ) (s l : List ℕ) → fitting n s l ≡ true → length s ≡ stateBytes
+pub state-long : (n : ℕ) (s l : List ℕ) → fitting n s l ≡ true → length s ≡ stateBytes
 unfolding fitting
 state-long n s l h = eqb-true (length s) stateBytes (and-left (eqb (length s) stateBytes) (eqb (length l) n) h)
 
@@ -178,15 +179,6 @@ relabelled s disk flash addresses blocks N t label l c =
     } in
     record { long = length-putLabel label s h l; numbers = own ∙ ap (λ (M : Numbers). withLabel M label) (c .numbers); lent = same ∙ c .lent }
 
--- a label that an opening is served with has its length
-label-long : (N : Numbers) (t : Lent) → refusal N t opening ≡ 0 → length (N .label) ≡ 64
-unfolding wrongBuffers
-label-long N t e =
-    let w = exactly-opening N t .gives-0 .0 e .1 .1 .0 in
-    let rest = otherLength (t .disk) (N .P * N .B) || otherLength (t .flash) (N .d * N .B) || otherLength (t .addresses) (tableBytes (N .m))
-    || otherLength (t .blocks) (tableBytes (N .d)) in
-    eqb-true (length (N .label)) 64 (not-false (eqb (length (N .label)) 64) (or-false-right rest (otherLength (N .label) 64) w))
-
 -- after an opening they carry the fresh box with the label given, or where it is refused what was given, with n = 0 and a label of zeros
 module _ (label s disk flash addresses blocks : List ℕ) (h : length s ≡ stateBytes) where
   abbrev given : Lent
@@ -235,7 +227,8 @@ module _ (label s disk flash addresses blocks : List ℕ) (h : length s ≡ stat
       (λ y.
       let e = eqb-true (refusal N given opening) 0 y in
       rw (y, opened-is N given e, label-carried N given e)
-      (relabelled _ disk flash _ _ (numbersOf (recordIn s)) (fresh N given) label (label-long N given e) (written s h (fresh N given) (omega arith) bounds)))
+      (relabelled _ disk flash _ _ (numbersOf (recordIn s)) (fresh N given) label
+      (label-right N given (exactly-opening N given .gives-0 .0 e .1 .1 .0)) (written s h (fresh N given) (omega arith) bounds)))
       (λ y.
       let n = eqb-false (refusal N given opening) 0 y in
       rw (y, refused-opening N given n, label-zeros N given n) (relabelled _ disk flash _ _ (numbersOf (recordIn s)) given (zeros 64) refl alone)))

@@ -4,7 +4,7 @@ use crate::*;
 use std::collections::{BTreeSet, HashMap, HashSet};
 
 /// All memory that is lent to a call. A call that takes no block or no answer leaves that one alone, and opening alone takes the label.
-#[derive(Clone, PartialEq, Eq)]
+#[derive(Clone, Default, PartialEq, Eq)]
 pub struct Lent {
     pub state: Vec<u8>,
     pub disk: Vec<u8>,
@@ -245,7 +245,7 @@ pub fn refusal_report(report: Report, lent: &Lent, length: usize) -> u32 {
 }
 
 /// The first of these checks that applies, 0 where none does. `own` is the call's own part of 2, of 3 and of 10.
-fn first_of(checks: &[u32], lent: &Lent, own: impl Fn(u32) -> bool) -> u32 {
+pub(crate) fn first_of(checks: &[u32], lent: &Lent, own: impl Fn(u32) -> bool) -> u32 {
     let numbers = lent.numbers();
     let (rows, blocks) = read_tables(lent);
     let applies = |number: &&u32| match **number {

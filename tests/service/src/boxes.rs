@@ -49,7 +49,7 @@ pub fn dirty_rows(lent: &Lent) -> usize {
 }
 
 /// Places to count the calls by their numbers, 0 and those of the refusals.
-pub type Counts = [usize; 14];
+pub type Counts = [usize; 17];
 
 /// The number of a seat: any, and as often one of the edges, of which some differ in one of their two bytes alone.
 pub fn any_seat(random: &mut Random) -> u16 {

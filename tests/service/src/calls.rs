@@ -27,19 +27,23 @@ extern "C" {
     fn mindavehu_look(s: P, sl: usize, address: u32, d: P, dl: usize, f: P, fl: usize, a: P, al: usize, b: P, bl: usize, w: M, wl: usize) -> u32;
     fn mindavehu_manager_report(s: P, sl: usize, d: P, dl: usize, f: P, fl: usize, a: P, al: usize, b: P, bl: usize, r: M, rl: usize) -> u32;
     fn mindavehu_desk_report(s: P, sl: usize, d: P, dl: usize, f: P, fl: usize, a: P, al: usize, b: P, bl: usize, r: M, rl: usize) -> u32;
+    fn mindavehu_save(
+        s: M, sl: usize, d: M, dl: usize, f: P, fl: usize, a: M, al: usize, b: P, bl: usize, r: M, rl: usize, w: M, wl: usize,
+    ) -> u32;
+    fn mindavehu_restore(s: M, sl: usize, r: M, rl: usize, a: M, al: usize, b: M, bl: usize, l: M, ll: usize) -> u32;
     fn mindavehu_scores(b: usize, p: usize, m: usize, d: usize, t: usize, l: P, ll: usize, disk: P, dl: usize, k: usize, c: M, cl: usize) -> u32;
 }
 
 /// The buffers of a call in their order: state, disk, flash, address table, block table, lent block, answer and, where a box has all of its own, the label
 /// that is lent to an opening.
-type Buffers<'a, const COUNT: usize> = [&'a mut [u8]; COUNT];
+pub type Buffers<'a, const COUNT: usize> = [&'a mut [u8]; COUNT];
 
 fn buffers(lent: &mut Lent) -> Buffers<'_, 8> {
     let Lent { state, disk, flash, addresses, blocks, block, answer, label } = lent;
     [state, disk, flash, addresses, blocks, block, answer, label]
 }
 
-fn on_slices(call: Call, address: u32, mut buffers: Buffers<8>) -> u32 {
+pub fn on_slices(call: Call, address: u32, mut buffers: Buffers<8>) -> u32 {
     let [s, d, f, a, b, k, w, l] = buffers.each_mut().map(|bytes| bytes.as_mut_ptr());
     let [sl, dl, fl, al, bl, kl, wl, ll] = buffers.map(|bytes| bytes.len());
     // SAFETY: each pointer comes with the length of its own slice.
@@ -78,6 +82,22 @@ fn report_on_slices(report: Report, mut buffers: Buffers<6>) -> u32 {
     }
 }
 
+/// With the area before the answer. Flash and block table are given as if they may be written to, as above.
+pub fn save_on_slices(mut buffers: Buffers<7>) -> u32 {
+    let [s, d, f, a, b, r, w] = buffers.each_mut().map(|bytes| bytes.as_mut_ptr());
+    let [sl, dl, fl, al, bl, rl, wl] = buffers.map(|bytes| bytes.len());
+    // SAFETY: each pointer comes with the length of its own slice.
+    unsafe { mindavehu_save(s, sl, d, dl, f, fl, a, al, b, bl, r, rl, w, wl) }
+}
+
+/// State, area, address table, block table and lists.
+pub fn restore_on_slices(mut buffers: Buffers<5>) -> u32 {
+    let [s, r, a, b, l] = buffers.each_mut().map(|bytes| bytes.as_mut_ptr());
+    let [sl, rl, al, bl, ll] = buffers.map(|bytes| bytes.len());
+    // SAFETY: each pointer comes with the length of its own slice.
+    unsafe { mindavehu_restore(s, sl, r, rl, a, al, b, bl, l, ll) }
+}
+
 /// Calls the service on a box. The address is not used by an opening and a flush.
 pub fn call(call: Call, address: u32, lent: &mut Lent) -> u32 {
     on_slices(call, address, buffers(lent))
@@ -93,6 +113,18 @@ pub fn call_many(lent: &mut Lent, folder: &mut Folder) -> u32 {
 pub fn call_report(report: Report, lent: &mut Lent, bytes: &mut [u8]) -> u32 {
     let Lent { state, disk, flash, addresses, blocks, .. } = lent;
     report_on_slices(report, [state, disk, flash, addresses, blocks, bytes])
+}
+
+/// A save into this area.
+pub fn call_save(lent: &mut Lent, area: &mut [u8]) -> u32 {
+    let Lent { state, disk, flash, addresses, blocks, answer, .. } = lent;
+    save_on_slices([state, disk, flash, addresses, blocks, area, answer])
+}
+
+/// A restore from this area into the state and the tables of a box, which lends nothing else.
+pub fn call_restore(lent: &mut Lent, area: &mut [u8], lists: &mut [u8]) -> u32 {
+    let Lent { state, addresses, blocks, .. } = lent;
+    restore_on_slices([state, area, addresses, blocks, lists])
 }
 
 fn question_on_slices(q: &Question, label: &[u8], disk: &[u8], counts: &mut [u8]) -> u32 {
@@ -173,6 +205,26 @@ pub fn call_report_guarded(report: Report, lent: &mut Lent, bytes: &mut [u8], sh
     let mut lifted = Lifted::new(&own, shift);
     let number = report_on_slices(report, lifted.slices());
     lifted.put_back(own, &format!("the report {report:?}"));
+    number
+}
+
+/// The same as `call_save` with every buffer lifted.
+pub fn call_save_guarded(lent: &mut Lent, area: &mut [u8], shift: usize) -> u32 {
+    let Lent { state, disk, flash, addresses, blocks, answer, .. } = lent;
+    let own: Buffers<7> = [state, disk, flash, addresses, blocks, area, answer];
+    let mut lifted = Lifted::new(&own, shift);
+    let number = save_on_slices(lifted.slices());
+    lifted.put_back(own, "a save");
+    number
+}
+
+/// The same as `call_restore` with every buffer lifted.
+pub fn call_restore_guarded(lent: &mut Lent, area: &mut [u8], lists: &mut [u8], shift: usize) -> u32 {
+    let Lent { state, addresses, blocks, .. } = lent;
+    let own: Buffers<5> = [state, area, addresses, blocks, lists];
+    let mut lifted = Lifted::new(&own, shift);
+    let number = restore_on_slices(lifted.slices());
+    lifted.put_back(own, "a restore");
     number
 }
 

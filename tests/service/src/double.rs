@@ -149,6 +149,32 @@ reports! {
 }
 
 #[no_mangle]
+unsafe extern "C" fn mindavehu_save(
+    s: M, sl: usize, d: M, dl: usize, f: P, fl: usize, a: M, al: usize, b: P, bl: usize, r: M, rl: usize, w: M, wl: usize,
+) -> u32 {
+    engines::maps::save(
+        from_raw_parts_mut(s, sl),
+        from_raw_parts_mut(d, dl),
+        from_raw_parts(f, fl),
+        from_raw_parts_mut(a, al),
+        from_raw_parts(b, bl),
+        from_raw_parts_mut(r, rl),
+        from_raw_parts_mut(w, wl),
+    )
+}
+
+#[no_mangle]
+unsafe extern "C" fn mindavehu_restore(s: M, sl: usize, r: M, rl: usize, a: M, al: usize, b: M, bl: usize, l: M, ll: usize) -> u32 {
+    engines::maps::restore(
+        from_raw_parts_mut(s, sl),
+        from_raw_parts_mut(r, rl),
+        from_raw_parts_mut(a, al),
+        from_raw_parts_mut(b, bl),
+        from_raw_parts(l, ll),
+    )
+}
+
+#[no_mangle]
 unsafe extern "C" fn mindavehu_scores(
     b: usize, p: usize, m: usize, d: usize, t: usize, l: P, ll: usize, disk: P, dl: usize, k: usize, c: M, cl: usize,
 ) -> u32 {

@@ -1,32 +1,14 @@
 //! The limit on dirty rows: cases worked out by hand, a box with a limit beside one without on the same list, what a write back does for the limit, and where a
 //! limit is refused.
 use common::Random;
-use model::{carry_out_many, fingerprint, AddressRow, Answer, BlockRow, Cache, Call, Folder, Label, Lent, ManyAnswer, Numbers};
-use model::{CACHE, CALLS, LABEL, REPORTS, ROW, STATE_LABEL, STATE_LIMIT, ZEROS};
+use model::{carry_out_many, fingerprint, AddressRow, Answer, BlockRow, Cache, Call, Folder, Lent, ManyAnswer, Numbers};
+use model::{CACHE, CALLS, REPORTS, ROW, STATE_LABEL, STATE_LIMIT, ZEROS};
 use service::asked::{answered, ask, Asked};
 use service::boxes::{any_seat, bytes, dirty_rows, office, pick, set_limit, sound, unopened, Contents, Shape};
 use service::calls::call;
 use service::compare::{compare, compare_many, compare_report};
+use service::fresh::{fresh, B, OFFICE};
 use service::progress::{count, seed, Progress};
-
-const B: usize = 64;
-const OFFICE: Label = [0x4F; LABEL];
-
-/// A fresh box of eight disk blocks with this limit; disk block k has the byte k.
-fn fresh(m: usize, d: usize, t: u64) -> Lent {
-    let mut lent = Lent {
-        state: Numbers { t, ..Shape { b: B, p: 8, m, d }.numbers(OFFICE) }.to_bytes(),
-        disk: (0..8u8).flat_map(|k| [k; B]).collect(),
-        flash: vec![0; d * B],
-        addresses: vec![0; m * ROW],
-        blocks: vec![0; d * ROW],
-        block: vec![0; B],
-        answer: vec![0; 24],
-        label: OFFICE.to_vec(),
-    };
-    assert_eq!(call(Call::Open, 0, &mut lent), 0);
-    lent
-}
 
 /// The dirty addresses, oldest use first.
 fn dirty(lent: &Lent) -> Vec<u32> {
@@ -38,7 +20,7 @@ fn dirty(lent: &Lent) -> Vec<u32> {
 type Step = (Call, u32, u8, [u64; 2], &'static [u32], [u8; 3]);
 
 fn worked(m: usize, d: usize, t: u64, steps: &[Step]) {
-    let mut lent = fresh(m, d, t);
+    let mut lent = fresh(8, m, d, t as usize);
     for (k, (kind, address, content, writes, unsaved, disk)) in steps.iter().enumerate() {
         lent.block = vec![*content; B];
         let context = || format!("step {k} of m = {m}, d = {d}, t = {t}");
@@ -254,7 +236,7 @@ fn one_copy_more() {
 fn with_dirty(dirty: usize, t: u64) -> Lent {
     let g = fingerprint(&OFFICE, &[9; B]);
     let row = |address: u32| AddressRow { address, fingerprint: g, dirty: (address > 0) as u8, seat: 5, padding: 0 }.to_bytes();
-    let mut lent = fresh(4, 2, 4);
+    let mut lent = fresh(8, 4, 2, 4);
     lent.addresses = (0..=dirty.min(3) as u32).flat_map(row).collect();
     if dirty == 4 {
         lent.addresses = (1..=4).flat_map(row).collect();

@@ -1,33 +1,16 @@
 //! Seats: rows and reports worked out by hand, what the last bytes of a row may be, reports that are refused, and pairs of runs from one box with other seats,
 //! of which the desk sees no difference.
 use common::Random;
-use model::{read_tables, refusal_report, Answer, Call, Folder, Label, Lent, Report, CACHE, CALLS, LABEL, REPORTS, REPORT_CHECKS, ROW, STATE};
+use model::{read_tables, refusal_report, Answer, Call, Folder, Lent, Report, CACHE, CALLS, REPORTS, REPORT_CHECKS, ROW, STATE};
 use service::asked::{answered, ask, Asked};
 use service::boxes::{any_seat, bytes, damage, damaged, noise, number_of_report, pick, small, sound, unopened, Contents, Counts, Shape, DAMAGES};
 use service::calls::{call, call_many, call_report};
 use service::compare::{compare, compare_report};
+use service::fresh::{fresh, B};
 use service::progress::{count, seed, Progress};
 
-const B: usize = 64;
-const OFFICE: Label = [0x4F; LABEL];
 /// The edges of a seat, and a number whose two bytes are neither the same nor zero.
 const SEATS: [u16; 6] = [0, 1, 255, 256, 65_535, 0x1234];
-
-/// A fresh box whose disk block k has the byte k of its number.
-fn fresh(p: usize, m: usize, d: usize) -> Lent {
-    let mut lent = Lent {
-        state: Shape { b: B, p, m, d }.numbers(OFFICE).to_bytes(),
-        disk: (0..p).flat_map(|k| [k as u8; B]).collect(),
-        flash: vec![0; d * B],
-        addresses: vec![0; m * ROW],
-        blocks: vec![0; d * ROW],
-        block: vec![0; B],
-        answer: vec![0; 24],
-        label: OFFICE.to_vec(),
-    };
-    assert_eq!(call(Call::Open, 0, &mut lent), 0);
-    lent
-}
 
 fn report(report: Report, lent: &mut Lent) -> Vec<u8> {
     let mut bytes = vec![0xEE; lent.addresses.len() / ROW * report.row()];
@@ -40,7 +23,7 @@ fn report(report: Report, lent: &mut Lent) -> Vec<u8> {
 fn the_bytes() {
     for seat in SEATS {
         let (low, high) = ((seat % 256) as u8, (seat / 256) as u8);
-        let mut lent = fresh(65_536, 3, 2);
+        let mut lent = fresh(65_536, 3, 2, 3);
         assert_eq!((call(Call::Through(seat), 0x0201, &mut lent), call(Call::Back(seat), 0xFFFF, &mut lent)), (0, 0));
         assert_eq!(lent.addresses[36..40], [0, low, high, 0], "seat {seat}");
         assert_eq!(lent.addresses[ROW + 36..ROW + 40], [1, low, high, 0], "seat {seat}");
@@ -56,7 +39,7 @@ type Step = (Call, u32, u8, &'static [(u32, u8, u16)]);
 /// Calls on a box of three addresses and two blocks, each with the manager's report that follows.
 #[test]
 fn worked() {
-    let mut lent = fresh(8, 3, 2);
+    let mut lent = fresh(8, 3, 2, 3);
     let steps: [Step; 13] = [
         (Call::Back(7), 1, 9, &[(1, 1, 7)]),
         (Call::Through(8), 2, 9, &[(1, 1, 7), (2, 0, 8)]),
@@ -87,7 +70,7 @@ fn worked() {
     let folders: [(&[u32], [u8; 14]); 2] =
         [(&[3, 2], [3, 0, 0, 0, 1, 22, 0, 2, 0, 0, 0, 1, 21, 0]), (&[3, 4, 2, 4], [2, 0, 0, 0, 0, 0, 0, 4, 0, 0, 0, 0, 0, 0])];
     for (asked, expected) in folders {
-        let mut lent = fresh(8, 2, 2);
+        let mut lent = fresh(8, 2, 2, 2);
         assert_eq!((call(Call::Back(21), 2, &mut lent), call(Call::Back(22), 3, &mut lent)), (0, 0));
         let mut folder = Folder { asked: asked.to_vec(), buffer: vec![0; asked.len() * B], answer: vec![0; 32] };
         assert_eq!(call_many(&mut lent, &mut folder), 0);
@@ -100,7 +83,7 @@ fn worked() {
 /// a block row all three are zero.
 #[test]
 fn the_last_bytes_of_a_row() {
-    let mut lent = fresh(8, 3, 2);
+    let mut lent = fresh(8, 3, 2, 3);
     assert_eq!((call(Call::Back(0x0102), 5, &mut lent), call(Call::Read, 6, &mut lent)), (0, 0));
     let mut calls = 0;
     for (row, byte) in (0..5).flat_map(|row| [37, 38, 39].map(|byte| (row, byte))) {
@@ -416,7 +399,7 @@ fn large_pairs_of_runs() {
 fn edges_of_a_seat() {
     for (one, two) in SEATS.into_iter().flat_map(|one| SEATS.map(|two| (one, two))) {
         let boxes = [one, two].map(|seat| {
-            let mut lent = fresh(8, 3, 2);
+            let mut lent = fresh(8, 3, 2, 3);
             assert_eq!((call(Call::Through(seat), 1, &mut lent), call(Call::Back(seat), 2, &mut lent), call(Call::Read, 1, &mut lent)), (0, 0, 0));
             assert_eq!(read_tables(&lent).0.iter().map(|row| row.seat).collect::<Vec<_>>(), [seat, seat, 0]);
             lent

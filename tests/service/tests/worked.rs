@@ -1,31 +1,7 @@
 //! The service on the document's replay, worked states and edges, with the numbers that the document prints.
-use model::{fingerprint, read_tables, word, Answer, Call, Label, Lent, Numbers, LABEL, ROW, STATE_LABEL};
+use model::{fingerprint, read_tables, word, Answer, Call, Lent, Numbers, ROW, STATE_LABEL};
 use service::calls::call;
-
-const B: usize = 64;
-/// The label of the boxes here, and the bytes that a state has for a label before it is opened.
-const OFFICE: Label = [0x4F; LABEL];
-const BEFORE: Label = [0xB7; LABEL];
-
-/// An unopened box without a limit whose disk block k has the byte k.
-fn unopened(b: usize, p: usize, m: usize, d: usize) -> Lent {
-    Lent {
-        state: Numbers { b: b as u64, p: p as u64, m: m as u64, d: d as u64, n: 77, counters: [1, 2, 3, 4], label: BEFORE, t: m as u64 }.to_bytes(),
-        disk: (0..p).flat_map(|k| vec![k as u8; b]).collect(),
-        flash: vec![0xAA; d * b],
-        addresses: vec![0xBB; m * ROW],
-        blocks: vec![0xCC; d * ROW],
-        block: vec![0xDD; b],
-        answer: vec![0xEE; 24],
-        label: OFFICE.to_vec(),
-    }
-}
-
-fn fresh(p: usize, m: usize, d: usize) -> Lent {
-    let mut lent = unopened(B, p, m, d);
-    assert_eq!(call(Call::Open, 0, &mut lent), 0);
-    lent
-}
+use service::fresh::{fresh, unopened, B, OFFICE};
 
 /// Runs a line of the replay's form: its answer's word, flash writes and primary writes; none of them for a look.
 fn line(lent: &mut Lent, text: &str) -> String {
@@ -73,14 +49,14 @@ fn is(lent: &Lent, held: &str, cached: &str) {
 const REPLAY: [&str; 8] = ["R 1", "R 2", "B 3 01", "R 3", "R 4", "R 2", "F", "L 3"];
 
 fn after_replay() -> Lent {
-    let mut lent = fresh(8, 3, 2);
+    let mut lent = fresh(8, 3, 2, 3);
     lines(&mut lent, &REPLAY);
     lent
 }
 
 #[test]
 fn the_replay() {
-    let mut lent = fresh(8, 3, 2);
+    let mut lent = fresh(8, 3, 2, 3);
     let expected = ["R 1 miss 1 0", "R 2 miss 1 0", "B 3 01 same 0 0", "R 3 hit 0 0", "R 4 miss 1 0", "R 2 miss 1 1", "F done 0 0", "L 3 disk 0 0"];
     assert_eq!(lines(&mut lent, &REPLAY), expected);
     assert_eq!(lent.numbers(), Numbers { b: 64, p: 8, m: 3, d: 2, n: 3, counters: [5, 1, 4, 1], label: OFFICE, t: 3 });
@@ -103,14 +79,14 @@ fn e1_to_e8() {
     let mut e5 = after_replay();
     assert_eq!(line(&mut e5, "R 3"), "R 3 miss 1 0");
     is(&e5, "4:4 2:2 3:1", "2 1");
-    let mut e6 = fresh(8, 1, 2);
+    let mut e6 = fresh(8, 1, 2, 1);
     lines(&mut e6, &["R 1", "R 2", "R 3"]);
     is(&e6, "3:3", "2 3");
-    let mut e7 = fresh(8, 1, 1);
+    let mut e7 = fresh(8, 1, 1, 1);
     lines(&mut e7, &["B 0 09", "R 1"]);
     assert_eq!(e7.disk[..B], [9; B]);
     is(&e7, "1:1", "1");
-    let mut e8 = fresh(8, 2, 2);
+    let mut e8 = fresh(8, 2, 2, 2);
     assert_eq!(lines(&mut e8, &["T 0 05", "T 1 05"]), ["T 0 05 new 1 1", "T 1 05 same 0 1"]);
     is(&e8, "0:5 1:5", "- 5");
     println!("the worked states E1 to E8");
@@ -120,7 +96,7 @@ fn e1_to_e8() {
 #[test]
 fn a_flush_in_parts() {
     let dirty = |lent: &Lent| read_tables(lent).0.iter().filter(|row| row.dirty == 1).map(|row| row.address).collect::<Vec<_>>();
-    let mut lent = fresh(8, 3, 3);
+    let mut lent = fresh(8, 3, 3, 3);
     lines(&mut lent, &["R 4", "B 0 09", "B 1 08"]);
     assert_eq!(line(&mut lent, "F 0"), "F 0 done 0 0");
     assert_eq!(dirty(&lent), [0, 1]);
@@ -128,7 +104,7 @@ fn a_flush_in_parts() {
     is(&lent, "4:4 0:9 1:8", "4 9 8");
     assert_eq!((dirty(&lent), lent.disk[0], lent.disk[B]), (vec![1], 9, 1));
     for all in ["F 9", "F 18446744073709551615", "F"] {
-        let mut lent = fresh(8, 3, 3);
+        let mut lent = fresh(8, 3, 3, 3);
         lines(&mut lent, &["B 0 09", "B 1 08", "B 2 07"]);
         assert_eq!(line(&mut lent, "F 2"), "F 2 done 0 2");
         assert_eq!(dirty(&lent), [2]);
@@ -142,7 +118,7 @@ fn a_flush_in_parts() {
 #[test]
 fn edges() {
     for (b, number) in [(64, 0), (4_096, 0), (32, 1), (96, 1), (8_192, 1)] {
-        let mut lent = unopened(b, 8, 3, 2);
+        let mut lent = unopened(b, 8, 3, 2, 3);
         let mut expected = lent.clone();
         assert_eq!(call(Call::Open, 0, &mut lent), number, "B = {b}");
         expected.state[32..40].fill(0);
@@ -157,7 +133,7 @@ fn edges() {
         assert_eq!(lent.difference(&expected), None, "B = {b}");
     }
     for p in [1, 2, 255, 256, 65_535, 65_536] {
-        let mut lent = fresh(p, 3, 2);
+        let mut lent = fresh(p, 3, 2, 3);
         for kind in [Call::Read, Call::Through(1), Call::Back(2), Call::Invalidate(3), Call::Look] {
             assert_eq!(call(kind, p as u32 - 1, &mut lent), 0, "{kind:?} {}", p - 1);
             let kept = lent.clone();
@@ -172,7 +148,7 @@ fn edges() {
 #[test]
 fn largest_counters() {
     for (counter, counts) in [(0, Call::Read), (1, Call::Read), (2, Call::Back(1)), (3, Call::Through(2))] {
-        let mut lent = fresh(8, 3, 2);
+        let mut lent = fresh(8, 3, 2, 3);
         assert_eq!(call(Call::Read, 1, &mut lent), 0);
         let place = (5 + counter) * 8;
         lent.state[place..place + 8].copy_from_slice(&(1u64 << 63).to_le_bytes());

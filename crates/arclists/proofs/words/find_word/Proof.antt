@@ -6,8 +6,8 @@ use borrow.Author.Needs.{needs}
 use lib.ListN.{drop}
 use Rattle.arc.specs.ArcLent.{words}
 use Rattle.arclists.specs.Listed.{placeOf}
-use Rattle.arc.specs.ArcLentLaws.{length-words-in}
-use Rattle.arclists.specs.PlaceLaws.{words-at, place-hit, place-miss, place-end}
+use Rattle.arc.specs.ArcLentLaws.{length-words-in, words-at}
+use Rattle.arclists.specs.PlaceLaws.{place-hit, place-miss, place-end}
 use Rattle.arclists.proofs.words.find_word.Statement.{statement}
 use Rattle.arclists.proofs.words.find_word.Tie as tie
 

@@ -1,13 +1,14 @@
 -- The rows from row i on are done: how many of them are dirty, and which is the oldest of these. Assumes nothing.
 use mathlib.Core.Path.{_≡_, refl, sym, ap, _∙_}
-use mathlib.Core.Bool.{cond}
-use Prim.Native.Nat.{suc, _+_, _-_, _≤_, _<_}
+use mathlib.Core.Bool.{Bool, true, false, cond}
+use mathlib.Core.List.{List}
+use Prim.Native.Nat.{ℕ, suc, _+_, _-_, _≤_, _<_}
 use native.Mathlib.Omega.{arith}
 use native.Mathlib.Numerals.{add-one}
 use lib.ListN.{drop, drop-of-length-le}
 use borrow.Author.Tests.{lt-ltb, le-ltb}
 use borrow.Author.Needs.{needs}
-use Rattle.tables.specs.Rows.{rows}
+use Rattle.tables.specs.Rows.{rows, rowAt}
 use Rattle.tables.specs.RowLaws.{rows-length, turn-hit, turn-miss, turn-end}
 use Rattle.tables.specs.Find.{findFrom, isDirty}
 use Rattle.parts.specs.TableLaws.{placed}
@@ -47,42 +48,44 @@ is-dirty-requires c κs =
     let t = c .loop-test .taken in
     omega (arith, h, t, start .pre)
 
+-- a turn is of the row before those from j on, and counts it if it is dirty
+turned : (n : ℕ) (t : List ℕ) (j count : ℕ) (x : Bool) → 0 < j → count + j ≤ n → count ≡ dirtyIn (drop j (rows n t))
+    → isDirty (rowAt t (j - 1)) ≡ x
+    → (j - 1 < n) × (j - 1 + 1 ≡ j) × (cond x 1 0 + count ≡ dirtyIn (drop (j - 1) (rows n t)))
+turned n t j count x more most done y =
+    let i = j - 1 in
+    let less : i < n = omega (arith, most, more) in
+    let back : i + 1 ≡ j = omega (arith, more) in
+    let d = dirty-turn n t i less ∙ ap (λ z. cond z 1 0 + dirtyIn (drop (suc i) (rows n t))) y in
+    let e = ap (λ k. dirtyIn (drop k (rows n t))) (sym (add-one i) ∙ back) in
+    (less, back, sym (d ∙ ap (λ z. cond x 1 0 + z) (e ∙ sym done)))
+
 loop-again : tie.Need-loop-again Inv-loop μ-loop
 loop-again c =
     let l = c .before .before .before in
     let a = l .before .before .before .before .args in
     let n = a .b .held in
-    let t = a .addrs .now in
-    let i = l .loop .i - 1 in
     let v = l .loop .inv in
     let v₀ = v .0 in
     let taken = c .before .before .loop-test .taken in
-    let less : i < n = omega (arith, v₀, taken) in
-    let back : i + 1 ≡ l .loop .i = omega (arith, taken) in
     let y = sym (c .before .is-dirty .ensures) ∙ c .if2 .taken in
-    let d = dirty-turn n t i less ∙ ap (λ x. cond x 1 0 + dirtyIn (drop (suc i) (rows n t))) y in
-    let e = ap (λ k. dirtyIn (drop k (rows n t))) (sym (add-one i) ∙ back) in
-    let v₁ = v .1 in
-    (omega (arith, v₀, taken), omega (arith, d, e, v₁), sym (ap (λ f. placed f n) (turn-hit isDirty n t i less y)))
+    let r = turned n (a .addrs .now) (l .loop .i) (l .loop .count) true taken v₀ (v .1) y in
+    let d = r .2 in
+    (omega (arith, v₀, taken), omega (arith, d), sym (ap (λ f. placed f n) (turn-hit isDirty n (a .addrs .now) (l .loop .i - 1) (r .0) y)))
 
 loop-again-2 : tie.Need-loop-again-2 Inv-loop μ-loop
 loop-again-2 c =
     let l = c .before .before .before in
     let a = l .before .before .before .before .args in
     let n = a .b .held in
-    let t = a .addrs .now in
-    let i = l .loop .i - 1 in
     let v = l .loop .inv in
     let v₀ = v .0 in
     let taken = c .before .before .loop-test .taken in
-    let less : i < n = omega (arith, v₀, taken) in
-    let back : i + 1 ≡ l .loop .i = omega (arith, taken) in
     let y = sym (c .before .is-dirty .ensures) ∙ c .if2 .left in
-    let d = dirty-turn n t i less ∙ ap (λ x. cond x 1 0 + dirtyIn (drop (suc i) (rows n t))) y in
-    let e = ap (λ k. dirtyIn (drop k (rows n t))) (sym (add-one i) ∙ back) in
-    let v₁ = v .1 in
-    let f = turn-miss isDirty n t i less y ∙ ap (λ k. findFrom isDirty k (drop k (rows n t))) back in
-    (omega (arith, v₀, taken), omega (arith, d, e, v₁), v .2 ∙ sym (ap (λ x. placed x n) f))
+    let r = turned n (a .addrs .now) (l .loop .i) (l .loop .count) false taken v₀ (v .1) y in
+    let d = r .2 in
+    let f = turn-miss isDirty n (a .addrs .now) (l .loop .i - 1) (r .0) y ∙ ap (λ k. findFrom isDirty k (drop k (rows n (a .addrs .now)))) (r .1) in
+    (omega (arith, v₀, taken), omega (arith, d), v .2 ∙ sym (ap (λ x. placed x n) f))
 
 returns-2 : tie.Need-returns-2 Inv-loop μ-loop
 returns-2 c =
