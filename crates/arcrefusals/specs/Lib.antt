@@ -1,4 +1,6 @@
 -- what the contracts say, in the paper's words
 pub mod Given
+pub mod Checks
 -- lemmas
 pub mod OpeningLaws
+pub mod TopLaws
