@@ -57,7 +57,7 @@ elem-in x [] = refl
 elem-in x (y ∷ ys) = ap (λ b. eqb x y || b) (elem-in x ys)
 
 -- numbers that differ are each there once, and the other way
-distinct-once : (l : List ℕ) → distinct l ≡ true → Once l
+pub distinct-once : (l : List ℕ) → distinct l ≡ true → Once l
 unfolding distinct
 distinct-once [] h = tt
 distinct-once (x ∷ xs) h = (

@@ -4,3 +4,4 @@ pub mod Checks
 -- lemmas
 pub mod OpeningLaws
 pub mod TopLaws
+pub mod StateLaws
