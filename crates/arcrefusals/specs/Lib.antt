@@ -5,3 +5,4 @@ pub mod Checks
 pub mod OpeningLaws
 pub mod TopLaws
 pub mod StateLaws
+pub mod CallLaws

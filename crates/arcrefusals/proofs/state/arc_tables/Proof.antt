@@ -22,7 +22,7 @@ returns c =
     let a = start t .args in
     let e = t .arc-sound .ensures .0 in (
       (λ disk flash k. e ∙ tables-sound (a .a) (a .addresses .now) (a .blocks .now) (a .lists .now) disk flash k (λ z. c .if1 .taken (e ∙ z))),
-      (λ z. absurd (c .if1 .taken z)),
+      (λ z. absurd (c .if1 .taken z), t .arc-sound .ensures .1 .1),
     )
 
 -- what is left where none of them applies
@@ -63,7 +63,7 @@ returns-2 c =
     let a = start t .args in (
       (λ disk flash k. tables-tops (a .a) (a .addresses .now) (a .blocks .now) (a .lists .now) disk flash k (passed e)
           (sym (u .top-uncached .ensures disk flash k) ∙ c .if2 .taken)),
-      (λ z. absurd (omega (arith, z))),
+      (λ z. absurd (omega (arith, z)), t .arc-sound .ensures .1 .1),
     )
 
 excess-row-requires : tie.Need-excess-row-requires
@@ -93,7 +93,7 @@ returns-3 c =
       (λ disk flash k. ap (λ (v : Bool). cond v 13 0) (sym y)
           ∙ tables-limit (a .a) (a .addresses .now) (a .blocks .now) (a .lists .now) disk flash k (passed e)
           (sym (n .before .top-uncached .ensures disk flash k) ∙ n .if2 .left)),
-      (λ z. absurd (omega (arith, z))),
+      (λ z. absurd (omega (arith, z)), t .arc-sound .ensures .1 .1),
     )
 
 returns-4 : tie.Need-returns-4
@@ -107,7 +107,7 @@ returns-4 c =
       (λ disk flash k. ap (λ (v : Bool). cond v 13 0) (sym y)
           ∙ tables-limit (a .a) (a .addresses .now) (a .blocks .now) (a .lists .now) disk flash k (passed e)
           (sym (n .before .top-uncached .ensures disk flash k) ∙ n .if2 .left)),
-      (λ z. t .arc-sound .ensures .1 .0 (e .if1 .left)),
+      (λ z. t .arc-sound .ensures .1 .0 (e .if1 .left), t .arc-sound .ensures .1 .1),
     )
 
 pub arc-tables-spec : {M : Type 1} → statement M
