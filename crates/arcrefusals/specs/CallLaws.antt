@@ -110,3 +110,13 @@ module _ (a : ArcRecord) (disk flash addresses blocks lists : List ℕ) (k : Cou
     pub look-3 : (x : ℕ) → leb (a .blocks) x ≡ true → 3 ≡ arcRefusal Z t (calling (Ask.look x))
     unfolding arcRefusal
     look-3 x p = rw (o .fit, o .limit, o .right, p) refl
+
+-- a write is refused as a read is
+module _ (Z : Sizes) (t : ArcLent) (x : ℕ) (l : List ℕ) (seat : ℕ) where
+  abbrev asRead : ℕ
+  asRead = arcRefusal Z t (calling (Ask.read x l))
+
+  pub write-as-read : (arcRefusal Z t (calling (Ask.through x l seat)) ≡ asRead) × (arcRefusal Z t (calling (Ask.back x l seat)) ≡ asRead)
+      × (arcRefusal Z t (calling (Ask.invalidate x l seat)) ≡ asRead)
+  unfolding arcRefusal
+  write-as-read = (refl, refl, refl)
