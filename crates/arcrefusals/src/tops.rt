@@ -1,11 +1,12 @@
 // "refusal 8 also covers an address of T1 or T2 without its block": with a bit for each address of T1 and T2.
 use crate::ArcRecord;
+use arclists::ListSizes;
 use arclists::names;
 use checks::known;
 ghost use mathlib.Core.Path.{_≡_};
 ghost use mathlib.Core.Bool.{true};
 ghost use mathlib.Core.List.{List};
-ghost use Prim.Native.Nat.{ℕ, _+_, _*_, _≤_, _<_};
+ghost use Prim.Native.Nat.{ℕ, _+_, _*_, _^_, _≤_, _<_};
 ghost use lib.ListN.{length};
 ghost use Rattle.tables.specs.Rows.{HasRow, HasRows, rows, rowAt};
 ghost use Rattle.tables.specs.Find.{all};
@@ -66,6 +67,14 @@ pub(crate) fn tops_ok(
     true
 }
 
+// How many addresses T1 and T2 have.
+pub(crate) fn tops_of(s: ListSizes) -> usize
+    requires { ⌜ (s .t1 + s .t2) * 4 < 2 ^ 64 ⌝ }
+    ensures { λ r. ⌜ r ≡ s .t1 + s .t2 ⌝ }
+{
+    s.t1 + s.t2
+}
+
 // Whether an address of T1 or T2 is without its block, in tables and lists that pass 6 and 7.
 pub fn top_uncached(
     a: ArcRecord,
@@ -82,6 +91,6 @@ pub fn top_uncached(
         (lent (baseOf a) disk flash (now (addresses .entry)) (now (blocks .entry)) k)) (topsIn (recOf (a .sizes)) (now (lists .entry)))) ⌝ }
 {
     let mut seen = [0u8; 8192];
-    names::names_marked(lists, a.sizes.t1 + a.sizes.t2, &mut seen);
+    names::names_marked(lists, tops_of(a.sizes), &mut seen);
     !tops_ok(addresses, a.held, &seen, blocks, a.sizes.cached, heads)
 }
