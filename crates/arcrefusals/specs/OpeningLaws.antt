@@ -42,6 +42,7 @@ module _ (Z : Sizes) where
       or-last true b = refl
       or-last false true = refl
       or-last false false = refl
+
       all-true : (a b c : Bool) → a || b || true ≡ a || true || c
       all-true true b c = refl
       all-true false true c = refl
@@ -83,8 +84,10 @@ module _ (Z : Sizes) (t : ArcLent) where
       pub opening-lists : (length (t .lists) ≡ mOf Z * 4 → ⊥) → 2 ≡ arcRefusal Z t opening
       opening-lists h =
           let x = exactly-opening (baseNumbers Z) (t .base) .gives-0 .0 e in
-          sym (arc-exactly-opening Z t .gives-2 .1 ((u, (x .1 .0, tt)),
-          or-right (wrongBuffers (baseNumbers Z) (t .base)) (otherLength (t .lists) (mOf Z * 4)) (ap not (ne-eqb (length (t .lists)) (mOf Z * 4) h))))
+          sym (arc-exactly-opening Z t .gives-2 .1 (
+            (u, (x .1 .0, tt)),
+            or-right (wrongBuffers (baseNumbers Z) (t .base)) (otherLength (t .lists) (mOf Z * 4)) (ap not (ne-eqb (length (t .lists)) (mOf Z * 4) h)),
+          ))
 
       pub opening-none : length (t .lists) ≡ mOf Z * 4 → 0 ≡ arcRefusal Z t opening
       opening-none h =
