@@ -1,14 +1,14 @@
 -- 11, 12 and 2 of a D-ARC box by 1, 12 and 2 of the base's. Assumes nothing.
-use mathlib.Core.Path.{_≡_, refl, sym, ap, _∙_}
+use mathlib.Core.Path.{_≡_, refl, sym, ap}
 use mathlib.Core.Bool.{Bool, true, false, not, _&&_, _||_}
-use mathlib.Core.List.{List, [], _∷_}
+use mathlib.Core.List.{[], _∷_}
 use Prim.Native.Nat.{ℕ, _+_, _*_, _≤_, _<_}
 use native.Mathlib.Omega.{arith}
 use lib.Dec.{leb, ltb}
 use lib.ListN.{length}
 use borrow.Author.Tests.{lt-ltb, le-ltb, le-leb, lt-leb, leb-true, leb-false, eq-eqb, ne-eqb}
 use Rattle.tables.specs.Unsound.{elem}
-use Rattle.paper.specs.KeyedLaws.{by-test, or-left, or-right, and-left, and-right}
+use Rattle.paper.specs.KeyedLaws.{by-test, or-left, or-right, and-left}
 use Rattle.paper.specs.Lent.{opening, between, unfit, limitOutside, otherLength, wrongBuffers, refusal}
 use Rattle.paper.specs.RefusalLaws.{exactly-opening}
 use Rattle.arc.specs.Arc.{Sizes, mOf, baseNumbers}

@@ -15,7 +15,7 @@ use Rattle.tables.specs.Sound.{distinct, rowAddress, addressesFit, blocksFit}
 use Rattle.tables.specs.SoundLaws.{addrs-below}
 use Rattle.table_laws.specs.KeptAddresses.{Addrs}
 use Rattle.table_laws.specs.Promises.{refused-is}
-use Rattle.paper.specs.KeyedLaws.{All, by-test, and-left, and-right, or-right, or-false-left, or-false-right}
+use Rattle.paper.specs.KeyedLaws.{by-test, and-left, and-right, or-right, or-false-left, or-false-right}
 use Rattle.paper.specs.Cache.{Counters}
 use Rattle.paper.specs.Engine.{labelled}
 use Rattle.paper.specs.Lent.{asHeld, boxIn, first}
@@ -25,6 +25,7 @@ use Rattle.arc.specs.ArcLent.{words, totalOf, misnamed, oversized, listsUnsound
 use Rattle.arclists.specs.Names.{possible, fine}
 use Rattle.arclists.specs.NameLaws.{distinct-once, rows-below, names-tell}
 use Rattle.arclists.specs.Holding.{recOf}
+use Rattle.refusals.specs.Given.{lent}
 use Rattle.refusals.specs.Checks.{overIn}
 use Rattle.arcrefusals.specs.declared.ArcRecord.{ArcRecord}
 use Rattle.arcrefusals.specs.Given.{sizesOf, baseOf, arcLent}
@@ -206,7 +207,7 @@ module _ (a : ArcRecord) (addresses blocks lists : List ℕ) where
     number = first (arcTableTests Z (arcLent a disk flash addresses blocks lists k) [])
 
     abbrev tops : Bool
-    tops = topUncached (labelled (baseNumbers Z)) (boxIn (baseNumbers Z) (arcLent a disk flash addresses blocks lists k .base)) (topsIn (recOf (a .sizes)) lists)
+    tops = topUncached (labelled (baseNumbers Z)) (boxIn (baseNumbers Z) (lent (baseOf a) disk flash addresses blocks k)) (topsIn (recOf (a .sizes)) lists)
 
     pub tables-sound : (soundRefusal a addresses blocks lists ≡ 0 → ⊥) → soundRefusal a addresses blocks lists ≡ number
     unfolding soundRefusal boxIn

@@ -9,7 +9,6 @@ use Rattle.paper.specs.Cache.{Counters}
 use Rattle.paper.specs.Lent.{opening, refusal}
 use Rattle.parts.specs.Rep.{numbersOf}
 use Rattle.refusals.specs.Given.{lent}
-use Rattle.arc.specs.Arc.{mOf}
 use Rattle.arc.specs.ArcLent.{ArcLent, unfitArc}
 use Rattle.arc.specs.ArcDemandLaws.{arc-fits}
 use Rattle.arcrefusals.specs.Given.{sizesOf, baseOf, arcLent}
@@ -37,7 +36,8 @@ base-of-requires c κs = let f = arc-fits (sizesOf (start c .args .a)) (fits c) 
 -- the base's number
 base-is : (c : tie.After-of-opening) (k : Counters)
     → (let a = start (c .before .before) .args in
-    c .of-opening .result ≡ refusal (numbersOf (baseOf (a .a))) (lent (baseOf (a .a)) (a .disk .now) (a .flash .now) (a .addresses .now) (a .blocks .now) k) opening)
+    let b = baseOf (a .a) in
+    c .of-opening .result ≡ refusal (numbersOf b) (lent b (a .disk .now) (a .flash .now) (a .addresses .now) (a .blocks .now) k) opening)
 base-is c k =
     let a = start (c .before .before) .args in
     c .of-opening .ensures k

@@ -18,7 +18,8 @@ opens : (c : tie.Else1) (k : Counters)
     → (let a = start (c .before) .args in Opens (a .a) (a .disk .now) (a .flash .now) (a .addresses .now) (a .blocks .now) (a .lists .now) k)
 opens c k =
     let a = start (c .before) .args in
-    opens-with (a .a) (a .disk .now) (a .flash .now) (a .addresses .now) (a .blocks .now) (a .lists .now) k (sym (c .before .arc-opening .ensures k) ∙ c .if1 .left)
+    opens-with (a .a) (a .disk .now) (a .flash .now) (a .addresses .now) (a .blocks .now) (a .lists .now) k
+    (sym (c .before .arc-opening .ensures k) ∙ c .if1 .left)
 
 returns : tie.Need-returns
 returns c k =

@@ -5,7 +5,6 @@ use borrow.Author.Needs.{needs}
 use Rattle.tables.specs.Unsound.{tablesRefused}
 use Rattle.arc.specs.Arc.{mOf}
 use Rattle.arcrefusals.specs.Given.{sizesOf}
-use Rattle.arcrefusals.specs.Checks.{Fits}
 use Rattle.arcrefusals.specs.StateLaws.{own-is, own-6, own-passes, lists-6, own-rest, held-rows, held-below, held-apart, addresses-held}
 use Rattle.arcrefusals.proofs.state.arc_sound.Statement.{statement}
 use Rattle.arcrefusals.proofs.state.arc_sound.Tie as tie

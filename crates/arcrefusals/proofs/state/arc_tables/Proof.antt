@@ -1,14 +1,18 @@
 -- What the tables and the lists give by themselves, then 8 of the lists, then the limit. Assumes nothing.
 use mathlib.Core.Path.{_≡_, sym, ap, _∙_}
 use mathlib.Core.Bool.{Bool, true, false, cond}
+use mathlib.Core.List.{List, []}
+use Prim.Native.Nat.{ℕ}
 use native.Mathlib.Omega.{arith}
 use lib.Dec.{ltb}
 use borrow.Author.Needs.{needs}
 use borrow.Author.Tests.{lt-ltb, le-ltb}
+use Rattle.paper.specs.Cache.{Counters}
+use Rattle.paper.specs.Lent.{first}
 use Rattle.parts.specs.Limit.{excessRow}
 use Rattle.parts.specs.LimitLaws.{excess-is}
-use Rattle.refusals.specs.Checks.{overIn}
-use Rattle.arcrefusals.specs.Given.{baseOf}
+use Rattle.arc.specs.ArcLent.{arcTableTests}
+use Rattle.arcrefusals.specs.Given.{sizesOf, baseOf, arcLent}
 use Rattle.arcrefusals.specs.StateLaws.{Sound, sound, held-rows, held-below, tops-room, tops-fine, tables-sound, tables-tops, tables-limit}
 use Rattle.arcrefusals.proofs.state.arc_tables.Statement.{statement}
 use Rattle.arcrefusals.proofs.state.arc_tables.Tie as tie
@@ -82,32 +86,33 @@ row-is c =
     let a = start (c .before .before .before .before .before .before .before .before) .args in
     c .excess-row .ensures ∙ ap (λ b. excessRow b (a .addresses .now)) (c .before .base-of .ensures)
 
+abbrev else1 : tie.After-excess-row → tie.Else1
+else1 c = c .before .before .before .before .before
+
+-- .. and the number
+by-limit : (c : tie.After-excess-row) (v : Bool)
+    → (let a = start (else1 c .before .before .before) .args in
+    ltb (c .excess-row .result) (a .a .held) ≡ v → (disk flash : List ℕ) (k : Counters)
+    → cond {A = ℕ} v 13 0 ≡ first (arcTableTests (sizesOf (a .a)) (arcLent (a .a) disk flash (a .addresses .now) (a .blocks .now) (a .lists .now) k) []))
+by-limit c v h disk flash k =
+    let a = start (else1 c .before .before .before) .args in
+    let n = c .before .before in
+    ap (λ (w : Bool). cond {A = ℕ} w 13 0) (sym h ∙ ap (λ n. ltb n (a .a .held)) (row-is c) ∙ excess-is (baseOf (a .a)) (a .addresses .now))
+    ∙ tables-limit (a .a) (a .addresses .now) (a .blocks .now) (a .lists .now) disk flash k (passed (else1 c))
+    (sym (n .before .top-uncached .ensures disk flash k) ∙ n .if2 .left)
+
 returns-3 : tie.Need-returns-3
 returns-3 c =
     let x = c .before .before in
-    let n = x .before .before in
-    let e = n .before .before .before in
-    let t = e .before .before .before in
-    let a = start t .args in
-    let y = sym (excess-is (baseOf (a .a)) (a .addresses .now)) ∙ lt-ltb _ (a .a .held) (omega (arith, row-is x, c .if3 .taken)) in (
-      (λ disk flash k. ap (λ (v : Bool). cond v 13 0) (sym y)
-          ∙ tables-limit (a .a) (a .addresses .now) (a .blocks .now) (a .lists .now) disk flash k (passed e)
-          (sym (n .before .top-uncached .ensures disk flash k) ∙ n .if2 .left)),
-      (λ z. absurd (omega (arith, z)), t .arc-sound .ensures .1 .1),
-    )
+    let t = else1 x .before .before .before in
+    (by-limit x true (lt-ltb (x .excess-row .result) (start t .args .a .held) (c .if3 .taken)), (λ z. absurd (omega (arith, z)), t .arc-sound .ensures .1 .1))
 
 returns-4 : tie.Need-returns-4
 returns-4 c =
     let x = c .before .before in
-    let n = x .before .before in
-    let e = n .before .before .before in
-    let t = e .before .before .before in
-    let a = start t .args in
-    let y = sym (excess-is (baseOf (a .a)) (a .addresses .now)) ∙ le-ltb _ (a .a .held) (omega (arith, row-is x, c .if3 .left)) in (
-      (λ disk flash k. ap (λ (v : Bool). cond v 13 0) (sym y)
-          ∙ tables-limit (a .a) (a .addresses .now) (a .blocks .now) (a .lists .now) disk flash k (passed e)
-          (sym (n .before .top-uncached .ensures disk flash k) ∙ n .if2 .left)),
-      (λ z. t .arc-sound .ensures .1 .0 (e .if1 .left), t .arc-sound .ensures .1 .1),
+    let t = else1 x .before .before .before in (
+      by-limit x false (le-ltb (x .excess-row .result) (start t .args .a .held) (c .if3 .left)),
+      (λ z. t .arc-sound .ensures .1 .0 (else1 x .if1 .left), t .arc-sound .ensures .1 .1),
     )
 
 pub arc-tables-spec : {M : Type 1} → statement M
