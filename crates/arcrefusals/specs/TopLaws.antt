@@ -11,7 +11,7 @@ use Rattle.tables.specs.Rows.{rowBytes, HasRows, rows, rowAt}
 use Rattle.tables.specs.Records.{readAddress, readBlock, heldRows, blockRows}
 use Rattle.tables.specs.declared.Found.{Found}
 use Rattle.tables.specs.declared.Found.the-variants.{At, Nothing}
-use Rattle.tables.specs.Find.{all, any, findFrom, absent, same, caches, isUsed}
+use Rattle.tables.specs.Find.{all, any, findFrom, absent, caches}
 use Rattle.tables.specs.FindLaws.{found-at}
 use Rattle.tables.specs.Unsound.{elem}
 use Rattle.tables.specs.Bits.{bitAt}
@@ -23,8 +23,7 @@ use Rattle.paper.specs.KeyedLaws.{All, by-test}
 use Rattle.paper.specs.Cache.{Numbers, cached}
 use Rattle.paper.specs.Engine.{Fixed, fit, labelled}
 use Rattle.paper.specs.Lent.{Lent, asHeld, usedRows, boxIn}
-use Rattle.paper.specs.SoundTests.{print-is, held-print-is}
-use Rattle.paper.specs.TestLaws.{same-swap}
+use Rattle.paper.specs.SoundTests.{held-print-is, cached-is}
 use Rattle.arc.specs.Arc.{isIn}
 use Rattle.arc.specs.ArcLent.{topUncached}
 use Rattle.arclists.specs.NameLaws.{mark-test, elem-in, rows-below}
@@ -39,17 +38,6 @@ place-tells bs r h = by-place (findFrom (caches (readAddress r .fingerprint)) 0 
     by-place (At i) e = let b = found-at (caches (readAddress r .fingerprint)) bs [] i e .below in lt-ltb i 256 (omega (arith, b, h))
     by-place Nothing e = le-ltb 256 256 (omega arith)
 
--- "cached" as the tables search for it
-cached-is : (N : Numbers) (g : Fixed 32) (k : ℕ) (rs : List (List ℕ)) → Wide rs
-    → not (absent (findFrom (caches (g .0)) k rs)) ≡ cached (labelled N) g (usedRows (map readBlock rs))
-unfolding usedRows findFrom
-cached-is N g k [] w = refl
-cached-is N g k (r ∷ rs) w =
-    by-test (isUsed r)
-    (λ u. rw (u, ap (same (g .0)) (print-is r (w .0)) ∙ same-swap (g .0) (readBlock r .fingerprint))
-    (by-test (same (readBlock r .fingerprint) (g .0)) (λ e. rw e) (λ e. rw e (cached-is N g (suc k) rs (w .1)))))
-    (λ u. rw u (cached-is N g (suc k) rs (w .1)))
-
 module _ (N : Numbers) (bs : List (List ℕ)) (wide : Wide bs) (seen tops : List ℕ) (marked : Marked (bitAt seen) 65536 tops) where
   row-tells : (r : List ℕ) → length r ≡ rowBytes → rowAddress r < 65536
       → not (topOk seen bs r)
@@ -57,9 +45,15 @@ module _ (N : Numbers) (bs : List (List ℕ)) (wide : Wide bs) (seen tops : List
   row-tells r l h =
       let m : eqb (bitAt seen (rowAddress r)) 1 ≡ isIn (rowAddress r) tops =
       ap (λ n. eqb n 1) (marked (rowAddress r) h) ∙ mark-test (elem (rowAddress r) tops) ∙ elem-in (rowAddress r) tops in
-      let c = ap (λ g. not (absent (findFrom (caches g) 0 bs))) (sym (held-print-is r l)) ∙ cached-is N (fit 32 (readAddress r .fingerprint)) 0 bs wide in
+      let c = ap (λ g. not (absent (findFrom (caches g) 0 bs))) (sym (held-print-is r l)) 
+      ∙ ap not (cached-is N (fit 32 (readAddress r .fingerprint)) 0 bs wide)
+      ∙ twice (cached (labelled N) (fit 32 (readAddress r .fingerprint)) (usedRows (map readBlock bs))) in
       rw (m, c) (both (isIn (rowAddress r) tops) (cached (labelled N) (fit 32 (readAddress r .fingerprint)) (usedRows (map readBlock bs))))
     where
+      twice : (b : Bool) → not (not b) ≡ b
+      twice true = refl
+      twice false = refl
+
       both : (a b : Bool) → not (cond a b true) ≡ a && not b
       both true b = refl
       both false b = refl
