@@ -38,6 +38,14 @@
  * With --limit T, a decimal of at most five digits, the box has the limit T: after a write back at most T addresses are dirty. A limit outside 1 to m is a
  * refused line 1, `0 refused 12`. Without it the limit is m, as in a replay, and nothing is copied for its sake.
  *
+ * With --warm LINE, the number of a request from 1 on, the box is shut down cleanly after that request and started again: it is saved into an area, all but
+ * disk, flash, area and counters is forgotten, and it is restored. One line is added behind the state of the request: how many addresses were dirty before,
+ * how many bytes the area has, and the restored state. Where the list has no such request, that is said at the end.
+ *
+ *     2 B 3 new 1 0
+ *         1:1 3:10*; blocks - - 1 10
+ *         saved: 1 address was dirty, 512 bytes; restored: 1:1 3:10; blocks - - 1 10
+ *
  * With --folder ADDRESSES (decimals with commas between them; an empty word for none), the folder of these addresses is opened after the list, twice
  * from the same box: with one call, and read by read. Both ways are printed, with the content of each block read, and whether they leave the same:
  *
@@ -58,7 +66,8 @@
  * disk have these contents. The list must be one of reads, none refused.
  *
  * Exit status: 0 when the list was read to its end, refusals included; 1 when reading or writing failed, where the two ways differ, where what is counted
- * and the engine differ, or where a list that is counted has a line that is not a served read; 2 for an unknown option, or words that are not of the form. */
+ * and the engine differ, where a list that is counted has a line that is not a served read, or where the list ends before the request of --warm or the box
+ * could not be shut down and started again; 2 for an unknown option, or words that are not of the form. */
 #include <errno.h>
 #include <stdio.h>
 #include <stdlib.h>
@@ -91,6 +100,12 @@ static int full, parts, seats, explains, counting;
 /* The limit, where one is given. */
 static int has_limit;
 static uint32_t limit;
+
+/* The request after which the box is shut down and started again, 0 where none is given; the area; whether the list ends before it, and its requests. */
+static uint32_t warm;
+static uint8_t area[MINDAVEHU_AREA_LENGTH(MOST_M, MOST_D)];
+static int too_short;
+static uint64_t requests;
 
 /* A replay's label is all zeros. */
 static const uint8_t label[MINDAVEHU_LABEL] = {0};
@@ -355,14 +370,10 @@ static void print_reports(void)
     printf("\n");
 }
 
-static void print_state(void)
+/* The state as document 01 writes it, from the column on where it is to stand. */
+static void print_tables(void)
 {
     size_t held = mindavehu_get(state, MINDAVEHU_N);
-    if (seats) {
-        print_reports();
-        return;
-    }
-    printf("    ");
     for (size_t k = 0; k < held; k++) {
         const uint8_t *row = addresses + k * MINDAVEHU_ROW;
         printf("%s%u:%u%s", k ? " " : "", number_at(row), content_of(row), row[4 + FINGERPRINT] ? "*" : "");
@@ -375,6 +386,16 @@ static void print_state(void)
             printf(" -");
     }
     printf("\n");
+}
+
+static void print_state(void)
+{
+    if (seats) {
+        print_reports();
+        return;
+    }
+    printf("    ");
+    print_tables();
     if (!full)
         return;
     printf("    slots");
@@ -815,6 +836,52 @@ static void open_folder(uint64_t number)
     printf("blocks fetched from disk: %llu by one call, %u read by read\n", (unsigned long long)mindavehu_get(many, MINDAVEHU_FETCHES), misses);
 }
 
+/* ---- The warm start. */
+
+/* Forgets what a service that ends forgets: the state and both tables, which get other bytes. The counters are no part of an image; the service keeps them. */
+static void forget(void)
+{
+    static const size_t fields[4] = {MINDAVEHU_READS, MINDAVEHU_HITS, MINDAVEHU_FLASH_WRITES, MINDAVEHU_PRIMARY_WRITES};
+    uint64_t counters[4];
+    for (int k = 0; k < 4; k++)
+        counters[k] = mindavehu_get(state, fields[k]);
+    memset(state, 0xA5, sizeof state);
+    memset(addresses, 0xA5, sizeof addresses);
+    memset(blocks, 0xA5, sizeof blocks);
+    for (int k = 0; k < 4; k++)
+        mindavehu_put(state, fields[k], counters[k]);
+}
+
+/* Says that the save or the restore is refused. */
+static void stop(const char *call, uint32_t refusal)
+{
+    printf("    the %s is refused with %u: %s\n", call, refusal, mindavehu_refusal_text(refusal));
+    why = "the box could not be shut down and started again";
+}
+
+/* Shuts the box down cleanly and starts it again. */
+static void start_again(void)
+{
+    size_t length = MINDAVEHU_AREA_LENGTH(m, d);
+    uint8_t no_lists = 0;
+    uint32_t refusal = mindavehu_save(STATE, MEMORY, area, length, ANSWER);
+    if (refusal) {
+        stop("save", refusal);
+        return;
+    }
+    unsigned long long dirty = mindavehu_get(answer, MINDAVEHU_ANSWER_PRIMARY);
+    forget();
+    refusal = mindavehu_restore(STATE, area, length, TABLES, &no_lists, 0);
+    if (refusal) {
+        stop("restore", refusal);
+        return;
+    }
+    B = mindavehu_get(state, MINDAVEHU_B), P = mindavehu_get(state, MINDAVEHU_P);
+    m = mindavehu_get(state, MINDAVEHU_M), d = mindavehu_get(state, MINDAVEHU_D);
+    printf("    saved: %llu address%s dirty, %zu bytes; restored: ", dirty, dirty == 1 ? " was" : "es were", length);
+    print_tables();
+}
+
 static void replay(void)
 {
     static struct seen before;
@@ -857,9 +924,16 @@ static void replay(void)
             print_counts(call.address);
         else
             print_state();
+        if (number == warm) {
+            start_again();
+            if (why)
+                return;
+        }
     }
     if (ferror(stdin))
         return;
+    requests = number - 1;
+    too_short = warm > requests;
     print_counters();
     if (!counting)
         print_state();
@@ -885,12 +959,19 @@ static int take_numbers(const char *word, uint32_t *numbers, size_t *count, size
     return 1;
 }
 
+/* The same for a word that is one number. */
+static int take_number(const char *word, uint32_t *number)
+{
+    size_t count = 0;
+    return take_numbers(word, number, &count, 1, 99999) && count == 1;
+}
+
 static int is_option(int count, char **words, int place, const char *text) { return place < count && strcmp(words[place], text) == 0; }
 
 /* Takes the option of the command and its word. Gives 0, and says why, where they are not of the form. */
 static int take_options(int count, char **words)
 {
-    size_t limits = 0;
+    int has_warm = is_option(count, words, 1, "--warm") && count == 3;
     full = is_option(count, words, 1, "--full");
     parts = is_option(count, words, 1, "--parts");
     seats = is_option(count, words, 1, "--seats");
@@ -909,13 +990,18 @@ static int take_options(int count, char **words)
             return 0;
         }
     } else if (has_limit) {
-        if (!take_numbers(words[2], &limit, &limits, 1, 99999) || limits == 0) {
+        if (!take_number(words[2], &limit)) {
             fprintf(stderr, "states: --limit takes one number of at most five digits, such as 2: %s\n", words[2]);
             return 0;
         }
+    } else if (has_warm) {
+        if (!take_number(words[2], &warm) || warm == 0) {
+            fprintf(stderr, "states: --warm takes the number of a request, from 1 on and of at most five digits, such as 4: %s\n", words[2]);
+            return 0;
+        }
     } else if (count > 1 + full + parts + seats + explains) {
-        fprintf(stderr, "states: unknown option %s; there are --full, --parts, --seats, --explain, --full --explain, --counts, --limit T and "
-                "--folder ADDRESSES\n", words[1]);
+        fprintf(stderr, "states: unknown option %s; there are --full, --parts, --seats, --explain, --full --explain, --counts, --limit T, "
+                "--warm LINE and --folder ADDRESSES\n", words[1]);
         return 0;
     }
     return 1;
@@ -940,6 +1026,10 @@ int main(int count, char **words)
         fprintf(stderr, "states: %s\n", why);
     if (why)
         return 1;
+    if (too_short) {
+        fprintf(stderr, "states: the list has no request %u, after which the box is to be shut down: it has %llu\n", warm, (unsigned long long)requests);
+        return 1;
+    }
     if (differs)
         fprintf(stderr, "states: one call and single reads differ, which the engine is proved not to do\n");
     return differs;

@@ -9,14 +9,17 @@ use lib.ListN.{length, take, drop, getD, List·getD-append}
 use lib.Seq.{length-take-le, getD-append-add, getD-take, getD-drop}
 use borrow.Author.Tests.{eqb-true, eqb-false, eq-eqb, ne-eqb}
 use Rattle.tables.specs.Rows.{le8}
+use Rattle.tables.specs.RowLaws.{drop-take}
 use Rattle.block.specs.Blocks.{part, splice}
-use Rattle.block.specs.Laws.{length-splice, part-splice, part-past}
+use Rattle.block.specs.Laws.{length-splice, part-splice, take-splice, part-past}
 use Rattle.paper.specs.KeyedLaws.{by-test}
 use Rattle.paper.specs.Cache.{Counters}
 use Rattle.exam.specs.Contract.{countsBytes}
+use Rattle.parts.specs.declared.BoxRecord.{BoxRecord}
 use Rattle.parts.specs.Rep.{withHeld}
 use Rattle.refusals.specs.Given.{countersOf}
-use Rattle.fields.specs.Fields.{lowBytes, get8, put8, stateBytes, recordIn, countersIn, putState, putLabel, putAnswer, putCounts, countsAfter}
+use Rattle.fields.specs.Fields.{lowBytes, get8, put8, stateBytes, recordIn, countersIn, putState, putLabel, putRecord, putAnswer, putCounts}
+use Rattle.fields.specs.Fields.{countsAfter}
 
 -- ---- a list written over another
 
@@ -246,6 +249,131 @@ module _ (label s : List ℕ) (h : length s ≡ stateBytes) (l : length label �
       (λ j b.
       let e : 136 + j ≡ 72 + (length label + j) = omega arith in
       ap (λ (n : ℕ). getD (splice 72 label s) n 0) e ∙ after-splice 72 label s room j ∙ ap (λ (n : ℕ). getD s n 0) (sym e))
+
+-- ---- the box record
+
+module _ (b : BoxRecord) (s : List ℕ) (h : length s ≡ stateBytes) (l : length (b .label) ≡ 64) where
+  abbrev r₁ : List ℕ
+  r₁ = put8 0 (b .size) s
+
+  abbrev r₂ : List ℕ
+  r₂ = put8 8 (b .blocks) r₁
+
+  abbrev r₃ : List ℕ
+  r₃ = put8 16 (b .rows) r₂
+
+  abbrev r₄ : List ℕ
+  r₄ = put8 24 (b .slots) r₃
+
+  abbrev r₅ : List ℕ
+  r₅ = put8 32 (b .held) r₄
+
+  abbrev r₆ : List ℕ
+  r₆ = putLabel (b .label) r₅
+
+  h₁ : length r₁ ≡ stateBytes
+  h₁ = length-put8 0 (b .size) s (omega arith) ∙ h
+
+  h₂ : length r₂ ≡ stateBytes
+  h₂ = length-put8 8 (b .blocks) r₁ (omega (arith, h₁)) ∙ h₁
+
+  h₃ : length r₃ ≡ stateBytes
+  h₃ = length-put8 16 (b .rows) r₂ (omega (arith, h₂)) ∙ h₂
+
+  h₄ : length r₄ ≡ stateBytes
+  h₄ = length-put8 24 (b .slots) r₃ (omega (arith, h₃)) ∙ h₃
+
+  h₅ : length r₅ ≡ stateBytes
+  h₅ = length-put8 32 (b .held) r₄ (omega (arith, h₄)) ∙ h₄
+
+  h₆ : length r₆ ≡ stateBytes
+  h₆ = length-putLabel (b .label) r₅ h₅ l
+
+  pub length-putRecord : length (putRecord b s) ≡ stateBytes
+  unfolding putRecord
+  length-putRecord = length-put8 136 (b .limit) r₆ (omega (arith, h₆)) ∙ h₆
+
+  -- a number before the label is as it was before the label and the limit were written
+  first-numbers : (i : ℕ) → i + 8 ≤ 72 → get8 (putRecord b s) i ≡ get8 r₅ i
+  unfolding putRecord
+  first-numbers i k = get8-before 136 (b .limit) r₆ (omega (arith, h₆)) i (omega arith) ∙ get8-label (b .label) r₅ h₅ l i k
+
+  size-put : b .size < 2 ^ 64 → get8 (putRecord b s) 0 ≡ b .size
+  size-put v =
+      first-numbers 0 (omega arith)
+      ∙ get8-before 32 (b .held) r₄ (omega (arith, h₄)) 0 (omega arith)
+      ∙ get8-before 24 (b .slots) r₃ (omega (arith, h₃)) 0 (omega arith)
+      ∙ get8-before 16 (b .rows) r₂ (omega (arith, h₂)) 0 (omega arith)
+      ∙ get8-before 8 (b .blocks) r₁ (omega (arith, h₁)) 0 (omega arith)
+      ∙ get8-put8 0 (b .size) s (omega arith) v
+
+  blocks-put : b .blocks < 2 ^ 64 → get8 (putRecord b s) 8 ≡ b .blocks
+  blocks-put v =
+      first-numbers 8 (omega arith)
+      ∙ get8-before 32 (b .held) r₄ (omega (arith, h₄)) 8 (omega arith)
+      ∙ get8-before 24 (b .slots) r₃ (omega (arith, h₃)) 8 (omega arith)
+      ∙ get8-before 16 (b .rows) r₂ (omega (arith, h₂)) 8 (omega arith)
+      ∙ get8-put8 8 (b .blocks) r₁ (omega (arith, h₁)) v
+
+  rows-put : b .rows < 2 ^ 64 → get8 (putRecord b s) 16 ≡ b .rows
+  rows-put v =
+      first-numbers 16 (omega arith)
+      ∙ get8-before 32 (b .held) r₄ (omega (arith, h₄)) 16 (omega arith)
+      ∙ get8-before 24 (b .slots) r₃ (omega (arith, h₃)) 16 (omega arith)
+      ∙ get8-put8 16 (b .rows) r₂ (omega (arith, h₂)) v
+
+  slots-put : b .slots < 2 ^ 64 → get8 (putRecord b s) 24 ≡ b .slots
+  slots-put v =
+      first-numbers 24 (omega arith)
+      ∙ get8-before 32 (b .held) r₄ (omega (arith, h₄)) 24 (omega arith)
+      ∙ get8-put8 24 (b .slots) r₃ (omega (arith, h₃)) v
+
+  held-put : b .held < 2 ^ 64 → get8 (putRecord b s) 32 ≡ b .held
+  held-put v = first-numbers 32 (omega arith) ∙ get8-put8 32 (b .held) r₄ (omega (arith, h₄)) v
+
+  label-put : part 72 64 (putRecord b s) ≡ b .label
+  unfolding putRecord put8 part
+  label-put =
+      sym (drop-take 72 64 (splice 136 (lowBytes 8 (b .limit)) r₆))
+      ∙ ap (drop 72) (take-splice 136 8 (lowBytes 8 (b .limit)) r₆ refl (omega (arith, h₆)))
+      ∙ drop-take 72 64 r₆
+      ∙ label-back (b .label) r₅ h₅ l
+
+  limit-put : b .limit < 2 ^ 64 → get8 (putRecord b s) 136 ≡ b .limit
+  unfolding putRecord
+  limit-put v = get8-put8 136 (b .limit) r₆ (omega (arith, h₆)) v
+
+  -- the record that is written is read
+  pub record-put : b .size < 2 ^ 64 → b .blocks < 2 ^ 64 → b .rows < 2 ^ 64 → b .slots < 2 ^ 64 → b .held < 2 ^ 64 → b .limit < 2 ^ 64
+      → recordIn (putRecord b s) ≡ b
+  record-put v₁ v₂ v₃ v₄ v₅ v₆ = λ i. record {
+    size = size-put v₁ i;
+    blocks = blocks-put v₂ i;
+    rows = rows-put v₃ i;
+    slots = slots-put v₄ i;
+    held = held-put v₅ i;
+    label = label-put i;
+    limit = limit-put v₆ i;
+  }
+
+  -- a number between n's place and the label stays
+  between : (i : ℕ) → 40 ≤ i → i + 8 ≤ 72 → get8 (putRecord b s) i ≡ get8 s i
+  between i k e =
+      first-numbers i e
+      ∙ get8-after 32 (b .held) r₄ (omega (arith, h₄)) i (omega arith)
+      ∙ get8-after 24 (b .slots) r₃ (omega (arith, h₃)) i (omega arith)
+      ∙ get8-after 16 (b .rows) r₂ (omega (arith, h₂)) i (omega arith)
+      ∙ get8-after 8 (b .blocks) r₁ (omega (arith, h₁)) i (omega arith)
+      ∙ get8-after 0 (b .size) s (omega arith) i (omega arith)
+
+  -- the counters stay
+  pub counters-put : countersIn (putRecord b s) ≡ countersIn s
+  counters-put = λ i. record {
+    reads = between 40 (omega arith) (omega arith) i;
+    hits = between 48 (omega arith) (omega arith) i;
+    flash = between 56 (omega arith) (omega arith) i;
+    primary = between 64 (omega arith) (omega arith) i;
+  }
 
 -- ---- the answer
 

@@ -16,14 +16,16 @@ use Rattle.tables.specs.Unsound.{nonzero}
 use Rattle.paper.specs.KeyedLaws.{All, by-test, or-false-left, or-false-right}
 use Rattle.paper.specs.Cache.{Numbers, Counters, dirtyRows}
 use Rattle.paper.specs.Engine.{labelled}
-use Rattle.paper.specs.Lent.{Lent, Ask, calling, unfit, limitOutside, wrongBuffers, otherLength, overLimit, FewDirty, refusal, call, boxIn, withCounters}
+use Rattle.paper.specs.Lent.{Lent, Ask, calling, unfit, limitOutside, wrongBuffers, otherLength, overLimit, FewDirty, refusal, call, boxIn}
+use Rattle.paper.specs.BatchLent.{one, recount}
+use Rattle.paper.specs.Demand3.{next}
 use Rattle.paper.specs.SoundTests.{addresses-good}
 use Rattle.paper.specs.LentLaws.{Passes, label-right}
 use Rattle.paper.specs.RefusalLaws.{exactly}
 use Rattle.paper.specs.CallLaws.{fits, limit-fits, served-finds, served-box, served-passes, outcome-few}
 use Rattle.arc.specs.Arc.{Sizes, baseNumbers, mOf}
 use Rattle.arc.specs.ArcLent.{ArcLent, words, totalOf, unfitArc, misnamed, oversized, listsUnsound, topUncached, wrongArcBuffers, arcRefusal}
-use Rattle.arc.specs.ArcDemand.{boxOf}
+use Rattle.arc.specs.ArcDemand.{boxOf, arcNext}
 use Rattle.arc.specs.ArcExactly.{arc-exactly}
 use Rattle.arc.specs.ArcDemandLaws as Arc
 use Rattle.arc.specs.ArcDemandLaws.{ArcPasses, arc-fits, no-6, no-8, no-13}
@@ -170,8 +172,31 @@ module _ (Z : Sizes) (u : unfitArc Z ≡ false) (w : limitOutside (baseNumbers Z
       let s3 = s .2 in
       record {
         count = refl;
-        small = (omega arith, (omega arith, (omega arith, (omega arith, (omega arith, (omega arith, (omega arith, (omega arith,
-            (omega arith, (omega arith, (omega arith, (omega arith, (omega arith, tt)))))))))))));
+        small = (
+          omega arith,
+          (
+            omega arith,
+            (
+              omega arith,
+              (
+                omega arith,
+                (
+                  omega arith,
+                  (
+                    omega arith,
+                    (
+                      omega arith,
+                      (
+                        omega arith,
+                        (omega arith, (omega arith, (omega arith, (omega arith, (omega arith, tt))))),
+                      ),
+                    ),
+                  ),
+                ),
+              ),
+            ),
+          ),
+        );
         sizes = λ i. l i ∷ la i ∷ lb i ∷ ll i ∷ [];
       }
 
@@ -223,17 +248,17 @@ module _ (forms : ℕ → Option Form) {M : Type 0} (k : Saver M) (f : Form) (t 
 
 -- The record that is given back, and the calls after it: they go on from what the full flush left, with counters of the caller's. So for every list of calls
 -- a save and its restore are a full flush and a `recount`.
-module _ (N : Numbers) (t : Lent) (area : List ℕ) (e : saveRefusal (lruSaver N) t area ≡ 0) (a b l : List ℕ)
-    (r : RightLengths kinds (lruFields N (lruSaver N .flushed t)) a b l) where
-  lru-back : restore kinds ((save (lruSaver N) t area) .area) a b l ≡ givenBack kinds (lruFields N (lruSaver N .flushed t)) ((save (lruSaver N) t area) .area)
-  unfolding kinds
-  lru-back = given-back kinds (lruSaver N) lruForm t area e (lru-saved N t area e kinds refl) a b l r
+module _ (forms : ℕ → Option Form) (k : forms 0 ≡ some lruForm) (N : Numbers) (t : Lent) (area : List ℕ) (e : saveRefusal (lruSaver N) t area ≡ 0)
+    (a b l : List ℕ) (r : RightLengths forms (lruFields N (lruSaver N .flushed t)) a b l) where
+  pub lru-back : restore forms ((save (lruSaver N) t area) .area) a b l
+      ≡ givenBack forms (lruFields N (lruSaver N .flushed t)) ((save (lruSaver N) t area) .area)
+  lru-back = given-back forms (lruSaver N) lruForm t area e (lru-saved N t area e forms k) a b l r
 
-  pub same-numbers : lruNumbers ((restore kinds ((save (lruSaver N) t area) .area) a b l) .given) ≡ N
+  pub same-numbers : lruNumbers ((restore forms ((save (lruSaver N) t area) .area) a b l) .given) ≡ N
   same-numbers = ap (λ x. lruNumbers (x .given)) lru-back
 
-  pub warm-start : (c : Counters) → goesOn (lruSaver N .flushed t) (restore kinds ((save (lruSaver N) t area) .area) a b l) c
-      ≡ withCounters (lruSaver N .flushed t) c
+  pub warm-start : (c : Counters) → goesOn (lruSaver N .flushed t) (restore forms ((save (lruSaver N) t area) .area) a b l) c
+      ≡ next N (next N t (one (Ask.flush (N .m)))) (recount c)
   warm-start c = ap (λ x. goesOn (lruSaver N .flushed t) x c) lru-back
 
 module _ (Z : Sizes) (t : ArcLent) (area : List ℕ) (e : saveRefusal (arcSaver Z) t area ≡ 0) (a b l : List ℕ)
@@ -246,5 +271,5 @@ module _ (Z : Sizes) (t : ArcLent) (area : List ℕ) (e : saveRefusal (arcSaver 
   same-sizes = ap (λ x. arcSizes (x .given)) arc-back
 
   pub arc-warm-start : (c : Counters) → arcGoesOn (arcSaver Z .flushed t) (restore kinds ((save (arcSaver Z) t area) .area) a b l) c
-      ≡ (let x = arcSaver Z .flushed t in record { base = withCounters (x .base) c; sizes = x .sizes; lists = x .lists })
+      ≡ arcNext Z (arcNext Z t (one (Ask.flush (mOf Z)))) (recount c)
   arc-warm-start c = ap (λ x. arcGoesOn (arcSaver Z .flushed t) x c) arc-back

@@ -297,10 +297,10 @@ notBack =
 
 pub restores : (map (λ c. made c .number) lent-to ≡ map (λ c. c .number) lent-to) × (made (lending image 80 80 0 0) ≡ back)
     × (made (lending image 79 80 0 2) ≡ notBack)
-unfolding restore restoreRefusal restored wrongTables fieldsFound Image.noImage Image.isImage Image.lengthIn Image.bodyIn Image.tooShort kinds Kinds.lruForm Kinds.arcForm Body.noBody Body.failsIn
-    Body.failsAs Body.fieldsIn Body.numbersIn Body.bodyLength Body.total Body.pieces ArcLent.words ArcLent.unfitArc ArcLent.misnamed ArcLent.oversized
-    ArcLent.listsUnsound ArcLent.topUncached Lent.unfit Lent.boxIn Lent.freeSlots Lent.usedRows Lent.split Engine.fit
-    writesFor splice Rows.rows Rows.flat Rows.zeros Records.addressBytes Records.blockBytes Records.readAddress
+unfolding restore restoreRefusal restored wrongTables fieldsFound Image.noImage Image.isImage Image.lengthIn Image.bodyIn Image.tooShort kinds
+    Kinds.lruForm Kinds.arcForm Body.noBody Body.failsIn Body.failsAs Body.fieldsIn Body.numbersIn Body.bodyLength Body.total Body.pieces ArcLent.words
+    ArcLent.unfitArc ArcLent.misnamed ArcLent.oversized ArcLent.listsUnsound ArcLent.topUncached Lent.unfit Lent.boxIn Lent.freeSlots Lent.usedRows Lent.split
+    Engine.fit writesFor splice Rows.rows Rows.flat Rows.zeros Records.addressBytes Records.blockBytes Records.readAddress
     Records.readBlock Records.heldRows Records.blockRows addressTable blockTable Find.any Find.all Find.same Unsound.elem Unsound.twice Unsound.count
     Unsound.addressesUnsound Unsound.freeAfterUsed Unsound.eachOnce Unsound.usedTwice Unsound.blocksUnsound Unsound.dirtyUncached
 restores = (refl, refl, refl)
@@ -342,8 +342,8 @@ after = save (lruSaver small) (unsaved noCounts) (replicate 323 7)
 
 pub saves-made : (map (λ c. saveRefusal (lruSaver (c .numbers)) (c .memory) (replicate (c .area) 7)) saves ≡ map (λ c. c .number) saves)
     × (after .lent .disk ∷ after .lent .addresses ∷ after .area ∷ [] ≡ (filled 4 ++ filled 3) ∷ rows ∷ (image ++ replicate 3 7) ∷ [])
-unfolding save saveRefusal Cache.serve Cache.flushed applied bodyOf wordBytes Lent.call Lent.served Lent.refusal Lent.wrongBuffers Lent.over Lent.callOf Lent.lentOf Image.tooShort
-    Lent.unfit Lent.boxIn Lent.freeSlots Lent.usedRows Lent.split Engine.fit Area.padded
+unfolding save saveRefusal Cache.serve Cache.flushed applied bodyOf wordBytes Lent.call Lent.served Lent.refusal Lent.wrongBuffers Lent.over Lent.callOf
+    Lent.lentOf Image.tooShort Lent.unfit Lent.boxIn Lent.freeSlots Lent.usedRows Lent.split Engine.fit Area.padded
     Area.bodyWrite Area.bodyWrites header writesFor saveWrites splice Rows.rows Rows.flat Rows.zeros Records.addressBytes Records.blockBytes Records.readAddress
     Records.readBlock Records.heldRows Records.blockRows addressTable blockTable Find.any Find.all Find.same Unsound.elem Unsound.twice Unsound.count
     Unsound.addressesUnsound Unsound.freeAfterUsed Unsound.eachOnce Unsound.usedTwice Unsound.blocksUnsound Unsound.dirtyUncached

@@ -208,7 +208,12 @@ pub(crate) fn take_tables(b: BoxRecord, body: &[u8], addresses: &mut [u8], block
 }
 
 // The box whose image is in an area that isn't refused: its record, and its tables in those lent.
-pub(crate) fn take_box(area: &[u8], addresses: &mut [u8], blocks: &mut [u8], lists: &[u8]) -> BoxRecord
+pub(crate) fn take_box(
+    area: &[u8],
+    addresses: &mut [u8],
+    blocks: &mut [u8],
+    lists: &[u8],
+) -> BoxRecord
     requires { ⌜ restoreRefusal lruKinds (now area) (now addresses) (now blocks) (now lists) ≡ 0 ⌝ }
     ensures { λ r. ⌜ r ≡ boxOf (fieldsFound lruKinds (now (area .entry))) ⌝ }
     ensures { λ _. ⌜ now (addresses .exit) ≡ stringAt (fieldsFound lruKinds (now (area .entry))) 1 ⌝ }
@@ -240,8 +245,14 @@ pub fn restore(
     blocks: &mut [u8],
     lists: &mut [u8],
 ) -> Restored
-    ensures { λ r. ⌜ record { number = r .number; given = r .box_record; area = now (area .exit); addresses = now (addresses .exit);
-      blocks = now (blocks .exit); lists = now (lists .exit) }
+    ensures { λ r. ⌜ record {
+      number = r .number;
+      given = r .box_record;
+      area = now (area .exit);
+      addresses = now (addresses .exit);
+      blocks = now (blocks .exit);
+      lists = now (lists .exit);
+    }
         ≡ left (Saved.restore lruKinds (now (area .entry)) (now (addresses .entry)) (now (blocks .entry)) (now (lists .entry))) ⌝ }
 {
     let number = restore_refusal(area, addresses, blocks, lists);

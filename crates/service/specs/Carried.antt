@@ -34,7 +34,7 @@ pub record Carries (state disk flash addresses blocks : List ℕ) (N : Numbers) 
 
 module _ (s : List ℕ) (h : length s ≡ stateBytes) where
   -- what is written of n and the counters
-  written : (t : Lent) → t .n < 2 ^ 64 → In64 (t .counters)
+  pub written : (t : Lent) → t .n < 2 ^ 64 → In64 (t .counters)
       → Carries (putState (t .n) (t .counters) s) (t .disk) (t .flash) (t .addresses) (t .blocks) (numbersOf (recordIn s)) t
   written t bn bk =
       let r = record-back (t .n) (t .counters) s h bn in
@@ -74,11 +74,11 @@ module _ (s : List ℕ) (h : length s ≡ stateBytes) where
         rw e (record { long = h; numbers = refl; lent = subst (λ (t : Lent). lentIn s (t .disk) (t .flash) (t .addresses) (t .blocks) ≡ t) (sym el) refl })
 
 -- counters of eight bytes each have 64 bits
-in64 : (s : List ℕ) → ((i : ℕ) → getD s i 0 < 256) → In64 (countersOf (countersIn s))
+pub in64 : (s : List ℕ) → ((i : ℕ) → getD s i 0 < 256) → In64 (countersOf (countersIn s))
 in64 s b = record { reads = get8-below s 40 b; hits = get8-below s 48 b; flashWrites = get8-below s 56 b; primaryWrites = get8-below s 64 b }
 
 -- a served call holds at most m addresses
-held-below : (N : Numbers) (t : Lent) (q : Ask) → refusal N t (calling q) ≡ 0 → (call N t q) .lent .n < 2 ^ 64
+pub held-below : (N : Numbers) (t : Lent) (q : Ask) → refusal N t (calling q) ≡ 0 → (call N t q) .lent .n < 2 ^ 64
 unfolding lentOf
 held-below N t q e =
     let m = served-finds N t q e .fits .m-most in
@@ -87,12 +87,12 @@ held-below N t q e =
     omega arith
 
 -- the word of a served call
-served-word : (N : Numbers) (t : Lent) (q : Ask) → refusal N t (calling q) ≡ 0
+pub served-word : (N : Numbers) (t : Lent) (q : Ask) → refusal N t (calling q) ≡ 0
     → (call N t q) .answer ≡ answered (outcome N t q .word) (outcome N t q .flashWrites) (outcome N t q .primaryWrites)
 unfolding served
 served-word N t q e = ap (λ (x : After). x .answer) (served-is N t q e)
 
-state-long : (n : ℕ) (s l : List ℕ) → fitting n s l ≡ true → length s ≡ stateBytes
+pub state-long : (n : ℕ) (s l : List ℕ) → fitting n s l ≡ true → length s ≡ stateBytes
 unfolding fitting
 state-long n s l h = eqb-true (length s) stateBytes (and-left (eqb (length s) stateBytes) (eqb (length l) n) h)
 
@@ -227,7 +227,8 @@ module _ (label s disk flash addresses blocks : List ℕ) (h : length s ≡ stat
       (λ y.
       let e = eqb-true (refusal N given opening) 0 y in
       rw (y, opened-is N given e, label-carried N given e)
-      (relabelled _ disk flash _ _ (numbersOf (recordIn s)) (fresh N given) label (label-right N given (exactly-opening N given .gives-0 .0 e .1 .1 .0)) (written s h (fresh N given) (omega arith) bounds)))
+      (relabelled _ disk flash _ _ (numbersOf (recordIn s)) (fresh N given) label
+      (label-right N given (exactly-opening N given .gives-0 .0 e .1 .1 .0)) (written s h (fresh N given) (omega arith) bounds)))
       (λ y.
       let n = eqb-false (refusal N given opening) 0 y in
       rw (y, refused-opening N given n, label-zeros N given n) (relabelled _ disk flash _ _ (numbersOf (recordIn s)) given (zeros 64) refl alone)))

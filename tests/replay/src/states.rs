@@ -63,6 +63,43 @@ pub fn limited(input: &[u8], t: u32) -> String {
     written(input, false, More::Limit(t))
 }
 
+/// The same with `--warm`: a clean shutdown after this request is to all else what a flush in its place is, but that it has no number.
+pub fn warm(input: &[u8], request: usize) -> String {
+    let mut list = lines(input);
+    let Some((m, d)) = opened(input).filter(|_| request < list.len()) else { return states(input, false) };
+    list.insert(request + 1, b"F");
+    let flushed = states(&[&list.join(&b'\n')[..], b"\n"].concat(), false);
+    let mut output = String::new();
+    for (k, line) in flushed.lines().enumerate() {
+        output += &match k / 2 {
+            call if call == request && k % 2 == 0 => saved(line, model::image::room(m, d)),
+            call if call == request => format!("{}\n", line.trim_start()),
+            call if call > request && k % 2 == 0 => format!("{}\n", one_less(line)),
+            _ => format!("{line}\n"),
+        };
+    }
+    output
+}
+
+/// The m and d of the box, where it is opened.
+fn opened(input: &[u8]) -> Option<(usize, usize)> {
+    let mut numbers = None;
+    follow(input, More::Nothing, |_, _, cache| numbers = cache.map(|cache| (cache.m, cache.d)));
+    numbers
+}
+
+/// The line of a warm start up to its state, from the answer of the flush in its place.
+fn saved(flushed: &str, bytes: usize) -> String {
+    let copied = flushed.rsplit_once(' ').unwrap().1;
+    format!("    saved: {copied} {} dirty, {bytes} bytes; restored: ", if copied == "1" { "address was" } else { "addresses were" })
+}
+
+/// An answer with the number before its own; the sums have none.
+fn one_less(answer: &str) -> String {
+    let (number, rest) = answer.split_once(' ').unwrap();
+    number.parse::<u64>().map_or(answer.to_string(), |number| format!("{} {rest}", number - 1))
+}
+
 fn reports(cache: &Cache) -> String {
     let mark = |dirty: bool| if dirty { "*" } else { "" };
     let listed = |part: &dyn Fn(&u32, &model::Held) -> String| match &cache.rows()[..] {

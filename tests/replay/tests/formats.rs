@@ -44,7 +44,7 @@ fn number(name: &str) -> u64 {
 fn the_numbers() {
     let page = read("docs/FORMATS.md");
     let [of_calls, of_states] = [["OUTSIDE", "WRONG_LENGTH", "NO_ADDRESS"], ["BAD_ADDRESSES", "BAD_BLOCKS", "DIRTY_UNCACHED"]];
-    let others = ["COUNTER_FULL", "BAD_COUNT", "BAD_LIMIT", "TOO_DIRTY", "TOO_LARGE"];
+    let others = ["COUNTER_FULL", "BAD_COUNT", "BAD_LIMIT", "TOO_DIRTY", "NO_ROOM", "NO_IMAGE", "BAD_IMAGE", "TOO_LARGE"];
     let refusals: Vec<u64> = of_calls.into_iter().chain(of_states).chain(others).map(number).collect();
     let mut told: Vec<u64> = page
         .split("## Refusals")

@@ -103,6 +103,7 @@ fn the_week_without_a_toolchain() {
     let week = stored("lessons/week.txt");
     assert_eq!(written(&["week.txt"]), stored("lessons/week.expected"));
     assert_eq!(written(&["--states", "week.txt"]), replay::states::states(week.as_bytes(), false));
+    assert_eq!(written(&["--warm", "4", "warm-start.txt"]), replay::states::warm(stored("lessons/warm-start.txt").as_bytes(), 4));
     assert_eq!(written(&["--folder", "1,4,1", "folder.txt"]), replay::states::folder(stored("lessons/folder.txt").as_bytes(), &[1, 4, 1]));
     assert_eq!(written(&["--mark", "week.expected", "week.txt"]), "13 of 13 lines are right\n");
     assert!(written(&["--explain", "week.txt"]).contains("    content 9 is stored in flash\n"));

@@ -49,7 +49,12 @@ fn states_and_page() {
     assert_eq!(written(&["limit.txt", "--limit", "2"], None), limited);
     assert_eq!(written(&["--limit", "2"], Some("limit.txt")), limited);
     assert_eq!(written(&["--limit", "0", "limit.txt"], None), "0 refused 12\n");
-    println!("./replay --states, --parts, --seats, --limit and --page, of a file and of standard input");
+    let warm = written(&["--warm", "4", "warm-start.txt"], None);
+    assert_eq!(warm, replay::states::warm(stored("lessons/warm-start.txt").as_bytes(), 4));
+    assert_eq!(written(&["warm-start.txt", "--warm", "4"], None), warm);
+    assert_eq!(written(&["--warm", "4"], Some("warm-start.txt")), warm);
+    assert_eq!(written(&["--warm", "1", "refused-box-1.txt"], None), "0 refused 1\n");
+    println!("./replay --states, --parts, --seats, --limit, --warm and --page, of a file and of standard input");
 }
 
 #[test]
@@ -74,7 +79,7 @@ fn counts() {
 /// Nothing on standard output, the words on standard error, and the status.
 #[test]
 fn what_cannot_be_done() {
-    let cases: [(&[&str], i32, &str); 30] = [
+    let cases: [(&[&str], i32, &str); 37] = [
         (&["no-such-list.txt"], 1, "there is no file no-such-list.txt"),
         (&["--states", "no-such-list.txt"], 1, "there is no file no-such-list.txt"),
         (&["."], 1, ". is a folder, not a list of requests"),
@@ -89,6 +94,13 @@ fn what_cannot_be_done() {
         (&["--limit", "-1", "limit.txt"], 2, "this is none: -1"),
         (&["--limit", "100000", "limit.txt"], 2, "this is none: 100000"),
         (&["--limit", "2", "--states", "limit.txt"], 2, "--limit and --states contradict each other"),
+        (&["--warm"], 2, "--warm wants the number of the request"),
+        (&["--warm", "warm-start.txt"], 2, "this is none: warm-start.txt"),
+        (&["--warm", "", "warm-start.txt"], 2, "the number of a request of the list, from 1 on"),
+        (&["--warm", "0", "warm-start.txt"], 2, "this is none: 0"),
+        (&["--warm", "100000", "warm-start.txt"], 2, "this is none: 100000"),
+        (&["--warm", "4", "--limit", "2", "warm-start.txt"], 2, "--warm and --limit contradict each other"),
+        (&["--warm", "4", "--warm", "5", "warm-start.txt"], 2, "--warm is given twice"),
         (&["--disk"], 2, "--disk wants the contents"),
         (&["--disk", "counting.txt"], 2, "this is no such list: counting.txt"),
         (&["--folder", "1, 2", "folder.txt"], 2, "with commas between them and no spaces"),
@@ -112,7 +124,9 @@ fn what_cannot_be_done() {
         assert!(done.status.code() == Some(status) && done.stdout.is_empty() && said.contains(message), "{words:?}: {} {said}", done.status);
     }
     let help = written(&["--help"], None);
-    assert!(help.contains("./replay --page FILE") && help.contains("./replay --limit 2 FILE"));
+    assert!(help.contains("./replay --page FILE") && help.contains("./replay --limit 2 FILE") && help.contains("./replay --warm 4 FILE"));
+    let late = script(&["--warm", "12", "warm-start.txt"], None);
+    assert!(late.status.code() == Some(1) && String::from_utf8_lossy(&late.stderr).contains("the list has no request 12"));
     println!("{} ways of asking for what cannot be done, and --help", cases.len());
 }
 
@@ -204,7 +218,8 @@ fn put_rt(path: &Path) {
     write_command(&path.join("rt"), &text);
 }
 
-const BUILDING: [&str; 17] = ["bash", "env", "readlink", "sed", "find", "tr", "tee", "tail", "cut", "mkdir", "touch", "mv", "cp", "cat", "gcc", "as", "ld"];
+const BUILDING: [&str; 19] =
+    ["bash", "env", "readlink", "sed", "find", "tr", "tee", "tail", "cut", "mkdir", "touch", "mv", "cp", "cat", "gcc", "as", "ld", "flock", "sleep"];
 
 #[test]
 fn an_unbuilt_checkout() {
@@ -260,6 +275,29 @@ fn built_at_once() {
     println!("--build, and nothing is left to prove then");
 }
 
+/// Two replays in one unbuilt checkout: one builds, the other waits for it and says so, and both answer.
+#[test]
+fn two_at_once() {
+    let (place, path) = (unbuilt("unbuilt-twice"), commands("building-twice", &BUILDING));
+    put_rt(&path);
+    let rt = std::fs::read_to_string(path.join("rt")).unwrap();
+    write_command(&path.join("rt"), &rt.replace("case $1 in", "echo started >> target/starts\nsleep 2\ncase $1 in"));
+    let list = root().join("lessons/week.txt");
+    let said: Vec<String> = std::thread::scope(|scope| {
+        let one = || {
+            let done = with_commands(&place.join("replay"), &path, &["--states", list.to_str().unwrap()]);
+            assert!(done.status.success(), "{}", String::from_utf8_lossy(&done.stderr));
+            assert_eq!(String::from_utf8(done.stdout).unwrap(), replay::states::states(&std::fs::read(&list).unwrap(), false));
+            String::from_utf8(done.stderr).unwrap()
+        };
+        let both = [scope.spawn(one), scope.spawn(one)];
+        both.into_iter().map(|running| running.join().unwrap()).collect()
+    });
+    assert_eq!(std::fs::read_to_string(place.join("target/starts")).unwrap(), "started\n");
+    assert_eq!(said.iter().filter(|said| said.contains("another replay is building the engine: waiting for it")).count(), 1, "{said:?}");
+    println!("two replays at once in an unbuilt checkout: one builds, the other waits");
+}
+
 #[test]
 fn a_text_without_a_heading() {
     let place = folder("headings");
@@ -303,8 +341,8 @@ fn a_page_of_five_megabytes() {
 /// Output that is lost, to a full device or to a pipe that nobody reads, and a list that cannot be read: the reason in words, and status 1.
 #[test]
 fn lost_output_and_lists_that_cannot_be_read() {
-    let (folder, mark): (&[&str], &[&str]) = (&["--folder", "1"], &["--mark", "week.expected"]);
-    let options: [&[&str]; 9] = [&[], &["--states"], &["--parts"], &["--explain"], &["--counts"], &["--limit", "1"], folder, mark, &["--page"]];
+    let (warm, folder, mark): (&[&str], &[&str], &[&str]) = (&["--warm", "1"], &["--folder", "1"], &["--mark", "week.expected"]);
+    let options: [&[&str]; 10] = [&[], &["--states"], &["--parts"], &["--explain"], &["--counts"], &["--limit", "1"], warm, folder, mark, &["--page"]];
     let run = |words: &[&str], input: &str, output: Stdio| {
         let stdin = File::open(root().join(input)).unwrap();
         let mut command = Command::new(root().join("replay"));

@@ -57,7 +57,7 @@ loop-again c =
     let inv = l .loop .inv in (
       omega arith,
       chunk-turn body (l .loop .bytes) (a .k) (l .loop .i) _ (inv .1) (inv .2) (c .before .loop-test .taken)
-      (search needs) (c .body-byte .ensures),
+          (search needs) (c .body-byte .ensures),
       simp length-set (inv .2),
     )
 

@@ -63,8 +63,10 @@ returns c =
     let f = sym (found-fields (start k .args .area .now) (zero k)) in
     let b = r .before .body-in .ensures in (
       found r ∙ ap boxOf f,
-      (t .take-tables .ensures .0 (r .record-in .ensures) ∙ ap (λ y. stringAt (fieldsIn lruForm y) 1) b ∙ ap (λ x. stringAt x 1) f,
-      t .take-tables .ensures .1 (r .record-in .ensures) ∙ ap (λ y. stringAt (fieldsIn lruForm y) 2) b ∙ ap (λ x. stringAt x 2) f),
+      (
+        t .take-tables .ensures .0 (r .record-in .ensures) ∙ ap (λ y. stringAt (fieldsIn lruForm y) 1) b ∙ ap (λ x. stringAt x 1) f,
+        t .take-tables .ensures .1 (r .record-in .ensures) ∙ ap (λ y. stringAt (fieldsIn lruForm y) 2) b ∙ ap (λ x. stringAt x 2) f,
+      ),
     )
 
 pub take-box-spec : {M : Type 1} → statement M
