@@ -15,6 +15,7 @@ use Rattle.paper.specs.Cache.{Numbers, Counters, noCounts}
 use Rattle.paper.specs.Engine as Engine
 use Rattle.paper.specs.Lent as Lent
 use Rattle.paper.specs.Lent.{Lent}
+use Rattle.arc.specs.Policy as Policy
 use Rattle.arc.specs.Arc as Arc
 use Rattle.arc.specs.Arc.{Sizes}
 use Rattle.arc.specs.ArcLent as ArcLent
@@ -27,7 +28,7 @@ use Rattle.image.specs.Image as Image
 use Rattle.image.specs.Image.{imageRefusal}
 use Rattle.image.specs.Kinds as Kinds
 use Rattle.image.specs.Kinds.{lruFields, arcFields, kinds}
-use Rattle.image.specs.Saved.{Saved, lruSaver, saveRefusal, save, Restored, fieldsFound, wrongTables, restoreRefusal, restored, restore}
+use Rattle.image.specs.Saved.{Saved, lruSaver, arcSaver, saveRefusal, save, Restored, fieldsFound, wrongTables, restoreRefusal, restored, restore}
 
 -- a header, byte by byte
 pub header-bytes : header 70000 ≡ (86 ∷ 66 ∷ 88 ∷ 1 ∷ 0 ∷ 112 ∷ 17 ∷ 1 ∷ 0 ∷ []) ++ replicate 55 0
@@ -348,3 +349,27 @@ unfolding save saveRefusal Cache.serve Cache.flushed applied bodyOf wordBytes Le
     Records.readBlock Records.heldRows Records.blockRows addressTable blockTable Find.any Find.all Find.same Unsound.elem Unsound.twice Unsound.count
     Unsound.addressesUnsound Unsound.freeAfterUsed Unsound.eachOnce Unsound.usedTwice Unsound.blocksUnsound Unsound.dirtyUncached
 saves-made = (refl, refl)
+
+-- The same of a D-ARC box: the one above, with its row dirty
+abbrev arcUnsaved : Counters → ArcLent
+arcUnsaved k =
+    record {
+      base = record { n = 1; disk = replicate 128 4; flash = filled 3; addresses = dirty; blocks = arcBlocks; counters = k };
+      sizes = arcMemory .sizes;
+      lists = arcMemory .lists;
+    }
+
+abbrev arcAfter : Saved ArcLent
+arcAfter = save (arcSaver arcSmall) (arcUnsaved noCounts) (replicate 323 7)
+
+pub arc-saves-made : (map (saveRefusal (arcSaver arcSmall) (arcUnsaved noCounts)) (replicate 320 7 ∷ replicate 319 7 ∷ []) ≡ 0 ∷ 14 ∷ [])
+    × (saveRefusal (arcSaver arcSmall) (arcUnsaved over) [] ≡ 9)
+    × (arcAfter .lent .base .disk ∷ arcAfter .lent .lists ∷ arcAfter .area ∷ [] ≡ (filled 4 ++ filled 3) ∷ arcMemory .lists ∷ (arcImage ++ replicate 3 7) ∷ [])
+unfolding save saveRefusal Policy.serveBy Cache.flushed applied bodyOf wordBytes ArcLent.arcCall ArcLent.arcServed ArcLent.arcRefusal
+    ArcLent.arcLentOf ArcLent.listBytes ArcLent.parts ArcLent.words ArcLent.unfitArc ArcLent.misnamed ArcLent.oversized ArcLent.listsUnsound
+    ArcLent.topUncached Lent.wrongBuffers Lent.over Lent.callOf
+    Lent.lentOf Image.tooShort Lent.unfit Lent.boxIn Lent.freeSlots Lent.usedRows Lent.split Engine.fit Area.padded
+    Area.bodyWrite Area.bodyWrites header writesFor saveWrites splice Rows.rows Rows.flat Rows.zeros Records.addressBytes Records.blockBytes Records.readAddress
+    Records.readBlock Records.heldRows Records.blockRows addressTable blockTable Find.any Find.all Find.same Unsound.elem Unsound.twice Unsound.count
+    Unsound.addressesUnsound Unsound.freeAfterUsed Unsound.eachOnce Unsound.usedTwice Unsound.blocksUnsound Unsound.dirtyUncached
+arc-saves-made = (refl, refl, refl)
