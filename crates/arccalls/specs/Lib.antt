@@ -1,0 +1,6 @@
+-- what the contracts of the calls say, in the paper's words
+pub mod Contract
+-- promises: lists that pass are written as they were found
+pub mod ListLaws
+-- promises: a call that is the base's on the tables
+pub mod BaseLaws
