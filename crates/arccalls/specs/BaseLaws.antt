@@ -1,5 +1,5 @@
 -- A flush and a look of a D-ARC box are the base's on its tables, and leave the lists as they are. Assumes nothing.
-use mathlib.Core.Path.{_≡_, refl, sym, ap, _∙_}
+use mathlib.Core.Path.{_≡_, refl, sym, ap, _∙_, subst}
 use mathlib.Core.Bool.{Bool, false, not, _&&_, _||_}
 use mathlib.Core.List.{List, [], _∷_, map}
 use mathlib.Core.Option.{Option, none}
@@ -10,6 +10,7 @@ use lib.ListN.{length, drop, getD}
 use borrow.Author.Tests.{eqb-true, ltb-false, not-false}
 use Rattle.tables.specs.Find.{any}
 use Rattle.tables.specs.Unsound.{nonzero, addressesUnsound, dirtyUncached}
+use Rattle.tables.specs.Index.{Indexed}
 use Rattle.counters.specs.declared.Counters as Code
 use Rattle.paper.specs.KeyedLaws.{or-both, or-false-left, or-false-right}
 use Rattle.paper.specs.Cache.{Numbers, Counters, serve}
@@ -29,6 +30,7 @@ use Rattle.refusals.specs.Given.{countersOf, lent}
 use Rattle.policy.specs.declared.calls.Outcome.{Outcome}
 use Rattle.policy.specs.declared.Answer.the-variants.{Refused}
 use Rattle.policy.specs.Contract.{Told, told, called}
+use Rattle.parts.specs.declared.BoxRecord.{BoxRecord}
 use Rattle.parts.specs.Rep.{numbersOf}
 use Rattle.arcrefusals.specs.declared.ArcRecord.{ArcRecord}
 use Rattle.arcrefusals.specs.Given.{sizesOf, baseOf, arcLent}
@@ -124,13 +126,23 @@ module _ (a : ArcRecord) (disk flash addresses blocks lists : List ℕ) (c : Cod
       (λ i. record { numbers = Z; after = record { answer = Rattle.paper.specs.Lent.refused (e i); lent = t; block = eo i; part = [] } })
       (λ i. record { numbers = Z; after = last i })
 
-  -- a call that isn't refused, from the base's
-  pub arc-told : arcRefusal Z t (calling q) ≡ 0 → Keeps Z t q → ((i : ℕ) → getD lists i 0 < 256) → (o : Outcome) (disk′ flash′ addresses′ blocks′ : List ℕ)
-      (one : Option (List ℕ)) → told o disk′ flash′ addresses′ blocks′ one ≡ called (baseOf a) (t .base) q
-      → arcTold (record { answer = o .answer; arc_record = withHeld a (o .box_record .held); counters = o .counters }) disk′ flash′ addresses′ blocks′ lists one
-      ≡ arcCalled a t q
-  arc-told e k b o disk′ flash′ addresses′ blocks′ one x =
-      let last = sym (call-base Z t q e k b) in
-      _∙_ {A = ArcTold}
-      (λ i. record { numbers = Z; after = withLists (x i .after) (t .sizes) lists })
-      (λ i. record { numbers = Z; after = last i })
+  -- a call that isn't refused, from the base's on the base's record
+  module _ (b : BoxRecord) (eb : b ≡ baseOf a) where
+    pub base-0 : arcRefusal Z t (calling q) ≡ 0 → refusal (numbersOf b) (lent b disk flash addresses blocks (countersOf c)) (calling q) ≡ 0
+    base-0 e =
+        subst (λ (x : BoxRecord). refusal (numbersOf x) (lent x disk flash addresses blocks (countersOf c)) (calling q) ≡ 0) (sym eb) (base-zero Z t q e)
+
+    pub base-index : (heads : List ℕ) → Indexed (a .sizes .cached) blocks heads → Indexed (b .slots) blocks heads
+    base-index heads h = subst (λ (x : BoxRecord). Indexed (x .slots) blocks heads) (sym eb) h
+
+    pub arc-told : arcRefusal Z t (calling q) ≡ 0 → Keeps Z t q → ((i : ℕ) → getD lists i 0 < 256) → (disk′ flash′ addresses′ blocks′ : List ℕ)
+        (one : Option (List ℕ)) (o : Outcome) → told o disk′ flash′ addresses′ blocks′ one ≡ called b (lent b disk flash addresses blocks (countersOf c)) q
+        → (r : ArcOutcome) → r ≡ record { answer = o .answer; arc_record = withHeld a (o .box_record .held); counters = o .counters }
+        → arcTold r disk′ flash′ addresses′ blocks′ lists one ≡ arcCalled a t q
+    arc-told e k low disk′ flash′ addresses′ blocks′ one o eo r er =
+        let last = sym (call-base Z t q e k low) in
+        let x = eo ∙ ap (λ (y : BoxRecord). called y (lent y disk flash addresses blocks (countersOf c)) q) eb in
+        ap (λ (y : ArcOutcome). arcTold y disk′ flash′ addresses′ blocks′ lists one) er
+        ∙ _∙_ {A = ArcTold}
+        (λ i. record { numbers = Z; after = withLists (x i .after) (t .sizes) lists })
+        (λ i. record { numbers = Z; after = last i })
