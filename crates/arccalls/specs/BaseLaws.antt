@@ -1,6 +1,6 @@
 -- A flush and a look of a D-ARC box are the base's on its tables, and leave the lists as they are. Assumes nothing.
 use mathlib.Core.Path.{_≡_, refl, sym, ap, _∙_, subst}
-use mathlib.Core.Bool.{Bool, false, not, _&&_, _||_}
+use mathlib.Core.Bool.{Bool, true, false, not, _&&_, _||_}
 use mathlib.Core.List.{List, [], _∷_, map}
 use mathlib.Core.Option.{Option, none}
 use Prim.Native.Nat.{ℕ, _+_, _*_, _≤_, _<_}
@@ -12,7 +12,7 @@ use Rattle.tables.specs.Find.{any}
 use Rattle.tables.specs.Unsound.{nonzero, addressesUnsound, dirtyUncached}
 use Rattle.tables.specs.Index.{Indexed}
 use Rattle.counters.specs.declared.Counters as Code
-use Rattle.paper.specs.KeyedLaws.{or-both, or-false-left, or-false-right}
+use Rattle.paper.specs.KeyedLaws.{by-test, or-both, or-false-left, or-false-right}
 use Rattle.paper.specs.Cache.{Numbers, Counters, serve}
 use Rattle.paper.specs.Engine.{labelled}
 use Rattle.paper.specs.Lent.{Lent, Ask, calling, lentBlock, wrongBuffers, wrongBlock, otherLength, refusal, callOf, served, call, After}
@@ -21,7 +21,7 @@ use Rattle.paper.specs.RefusalLaws.{exactly}
 use Rattle.arc.specs.Policy.{serveBy}
 use Rattle.arc.specs.Arc.{Sizes, baseNumbers, mOf}
 use Rattle.arc.specs.ArcLent.{ArcLent, ArcAfter, ListRecord, words, totalOf, listsIn, listRecord, listBytes, misnamed, oversized, listsUnsound, topUncached}
-use Rattle.arc.specs.ArcLent.{topsIn, wrongArcBuffers, arcRefusal, arcLentOf, arcServed, arcCall}
+use Rattle.arc.specs.ArcLent.{unfitArc, topsIn, wrongArcBuffers, arcRefusal, arcLentOf, arcServed, arcCall}
 use Rattle.arc.specs.ArcDemand.{listsOf, boxOf}
 use Rattle.arc.specs.ArcDemandLaws.{ArcPasses, Found, found, served-is, arc-keeps}
 use Rattle.arc.specs.ArcExactly.{arc-exactly}
@@ -146,3 +146,20 @@ module _ (a : ArcRecord) (disk flash addresses blocks lists : List ℕ) (c : Cod
         ∙ _∙_ {A = ArcTold}
         (λ i. record { numbers = Z; after = withLists (x i .after) (t .sizes) lists })
         (λ i. record { numbers = Z; after = last i })
+
+-- a full flush: numbers that 11 refuses are refused with 11, whatever is asked
+pub flush-full : (Z : Sizes) (t : ArcLent) (k : ℕ) → (unfitArc Z ≡ false → k ≡ mOf Z) → arcCall Z t (Ask.flush k) ≡ arcCall Z t (Ask.flush (mOf Z))
+flush-full Z t k h =
+    by-test (unfitArc Z)
+    (λ u. refused-11 k u ∙ sym (refused-11 (mOf Z) u))
+    (λ u. ap (λ n. arcCall Z t (Ask.flush n)) (h u))
+  where
+    refused-11 : (n : ℕ) → unfitArc Z ≡ true → arcCall Z t (Ask.flush n) ≡ record { answer = Rattle.paper.specs.Lent.refused 11; lent = t; block = none; part = [] }
+    refused-11 n u =
+        let e = arc-exactly Z t (Ask.flush n) .gives-11 .1 (tt, u) in
+        arc-keeps Z t (Ask.flush n) (λ z. absurd (omega (arith, e, z)))
+        ∙ (λ i. record { answer = Rattle.paper.specs.Lent.refused (e i); lent = t; block = none; part = [] })
+
+pub called-full : (a : ArcRecord) (t : ArcLent) (k : ℕ) → (unfitArc (sizesOf a) ≡ false → k ≡ mOf (sizesOf a))
+    → arcCalled a t (Ask.flush k) ≡ arcCalled a t (Ask.flush (mOf (sizesOf a)))
+called-full a t k h = ap (λ (x : ArcAfter). record { numbers = sizesOf a; after = x }) (flush-full (sizesOf a) t k h)

@@ -4,3 +4,5 @@ pub mod Contract
 pub mod ListLaws
 -- promises: a call that is the base's on the tables
 pub mod BaseLaws
+-- promises: an opening
+pub mod OpenLaws
