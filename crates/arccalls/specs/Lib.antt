@@ -6,3 +6,5 @@ pub mod ListLaws
 pub mod BaseLaws
 -- promises: an opening
 pub mod OpenLaws
+-- where a look finds its block; promises: what it answers and returns
+pub mod LookLaws

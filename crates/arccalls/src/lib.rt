@@ -1,5 +1,6 @@
 // The calls of a D-ARC box that don't make its step: opening, flush and look, on lent bytes.
 pub mod flushes;
+pub mod looks;
 pub mod opening;
 
 use arcrefusals::ArcRecord;
