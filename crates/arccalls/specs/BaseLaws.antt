@@ -1,7 +1,7 @@
 -- A flush and a look of a D-ARC box are the base's on its tables, and leave the lists as they are. Assumes nothing.
 use mathlib.Core.Path.{_≡_, refl, sym, ap, _∙_, subst}
-use mathlib.Core.Bool.{Bool, true, false, not, _&&_, _||_}
-use mathlib.Core.List.{List, [], _∷_, map}
+use mathlib.Core.Bool.{true, false, _||_}
+use mathlib.Core.List.{List, [], map}
 use mathlib.Core.Option.{Option, none}
 use Prim.Native.Nat.{ℕ, _+_, _*_, _≤_, _<_}
 use native.Mathlib.Omega.{arith}
@@ -13,23 +13,24 @@ use Rattle.tables.specs.Unsound.{nonzero, addressesUnsound, dirtyUncached}
 use Rattle.tables.specs.Index.{Indexed}
 use Rattle.counters.specs.declared.Counters as Code
 use Rattle.paper.specs.KeyedLaws.{by-test, or-both, or-false-left, or-false-right}
-use Rattle.paper.specs.Cache.{Numbers, Counters, serve}
+use Rattle.paper.specs.Cache.{Counters, serve}
 use Rattle.paper.specs.Engine.{labelled}
-use Rattle.paper.specs.Lent.{Lent, Ask, calling, lentBlock, wrongBuffers, wrongBlock, otherLength, refusal, callOf, served, call, After}
+use Rattle.paper.specs.Lent as Lent
+use Rattle.paper.specs.Lent.{Ask, calling, lentBlock, wrongBuffers, wrongBlock, otherLength, refusal, callOf, served, call, After}
 use Rattle.paper.specs.RefusalLaws as Base
 use Rattle.paper.specs.RefusalLaws.{exactly}
 use Rattle.arc.specs.Policy.{serveBy}
 use Rattle.arc.specs.Arc.{Sizes, baseNumbers, mOf}
-use Rattle.arc.specs.ArcLent.{ArcLent, ArcAfter, ListRecord, words, totalOf, listsIn, listRecord, listBytes, misnamed, oversized, listsUnsound, topUncached}
+use Rattle.arc.specs.ArcLent.{ArcLent, ArcAfter, ListRecord, words, totalOf, listRecord, listBytes, misnamed, oversized, listsUnsound, topUncached}
 use Rattle.arc.specs.ArcLent.{unfitArc, topsIn, wrongArcBuffers, arcRefusal, arcLentOf, arcServed, arcCall}
 use Rattle.arc.specs.ArcDemand.{listsOf, boxOf}
-use Rattle.arc.specs.ArcDemandLaws.{ArcPasses, Found, found, served-is, arc-keeps}
+use Rattle.arc.specs.ArcDemandLaws.{ArcPasses, found, served-is, arc-keeps}
 use Rattle.arc.specs.ArcExactly.{arc-exactly}
 use Rattle.arc.specs.ArcLentLaws.{length-words-in}
 use Rattle.refusals.specs.Given.{countersOf, lent}
 use Rattle.policy.specs.declared.calls.Outcome.{Outcome}
 use Rattle.policy.specs.declared.Answer.the-variants.{Refused}
-use Rattle.policy.specs.Contract.{Told, told, called}
+use Rattle.policy.specs.Contract.{told, called}
 use Rattle.parts.specs.declared.BoxRecord.{BoxRecord}
 use Rattle.parts.specs.Rep.{numbersOf}
 use Rattle.arcrefusals.specs.declared.ArcRecord.{ArcRecord}
@@ -54,9 +55,13 @@ base-zero Z t q e =
     (topUncached (labelled M) (boxOf Z t) (topsIn (t .sizes) (t .lists))) (y .1 .1 .0) in
     exactly M b q .gives-0 .1 (
       unfit-base Z ∙ x .0,
-      (x .1 .0,
-        (or-both (wrongBuffers M b) wrong right (or-false-right (wrongArcBuffers Z t) wrong two),
-          (x .1 .1 .1 .0, (six, (y .1 .0, (eight, (y .1 .1 .1 .0, (y .1 .1 .1 .1 .0, tt)))))))),
+      (
+        x .1 .0,
+        (
+          or-both (wrongBuffers M b) wrong right (or-false-right (wrongArcBuffers Z t) wrong two),
+          (x .1 .1 .1 .0, (six, (y .1 .0, (eight, (y .1 .1 .1 .0, (y .1 .1 .1 .1 .0, tt)))))),
+        ),
+      ),
     )
 
 -- what lists that pass 2 and 6 are known to be
@@ -123,7 +128,7 @@ module _ (a : ArcRecord) (disk flash addresses blocks lists : List ℕ) (c : Cod
   arc-refused number e n one eo =
       let last = sym (arc-keeps Z t q (λ z. n (e ∙ z))) in
       _∙_ {A = ArcTold}
-      (λ i. record { numbers = Z; after = record { answer = Rattle.paper.specs.Lent.refused (e i); lent = t; block = eo i; part = [] } })
+      (λ i. record { numbers = Z; after = record { answer = Lent.refused (e i); lent = t; block = eo i; part = [] } })
       (λ i. record { numbers = Z; after = last i })
 
   -- a call that isn't refused, from the base's on the base's record
@@ -154,11 +159,11 @@ flush-full Z t k h =
     (λ u. refused-11 k u ∙ sym (refused-11 (mOf Z) u))
     (λ u. ap (λ n. arcCall Z t (Ask.flush n)) (h u))
   where
-    refused-11 : (n : ℕ) → unfitArc Z ≡ true → arcCall Z t (Ask.flush n) ≡ record { answer = Rattle.paper.specs.Lent.refused 11; lent = t; block = none; part = [] }
+    refused-11 : (n : ℕ) → unfitArc Z ≡ true → arcCall Z t (Ask.flush n) ≡ record { answer = Lent.refused 11; lent = t; block = none; part = [] }
     refused-11 n u =
         let e = arc-exactly Z t (Ask.flush n) .gives-11 .1 (tt, u) in
         arc-keeps Z t (Ask.flush n) (λ z. absurd (omega (arith, e, z)))
-        ∙ (λ i. record { answer = Rattle.paper.specs.Lent.refused (e i); lent = t; block = none; part = [] })
+        ∙ (λ i. record { answer = Lent.refused (e i); lent = t; block = none; part = [] })
 
 pub called-full : (a : ArcRecord) (t : ArcLent) (k : ℕ) → (unfitArc (sizesOf a) ≡ false → k ≡ mOf (sizesOf a))
     → arcCalled a t (Ask.flush k) ≡ arcCalled a t (Ask.flush (mOf (sizesOf a)))

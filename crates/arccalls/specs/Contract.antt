@@ -1,13 +1,18 @@
 -- What the calls of a D-ARC box promise: the code's types in the paper's words. Assumes nothing.
+use mathlib.Core.Bool.{cond}
 use mathlib.Core.List.{List, []}
 use mathlib.Core.Option.{Option}
 use Prim.Native.Nat.{ℕ}
-use Rattle.paper.specs.Lent.{Ask, opening}
-use Rattle.arc.specs.Arc.{Sizes}
+use lib.Dec.{eqb}
+use Rattle.paper.specs.Lent.{Ask, opening, calling}
+use Rattle.arc.specs.Arc.{Sizes, baseNumbers}
 use Rattle.arc.specs.ArcLent.{ArcLent, ArcAfter, arcRefusal, arcCall, arcOpened, arcLabelAfter}
 use Rattle.refusals.specs.Given.{countersOf}
 use Rattle.arcrefusals.specs.declared.ArcRecord.{ArcRecord}
 use Rattle.arcrefusals.specs.Given.{sizesOf, arcLent}
+use Rattle.look.specs.declared.Place.{Place}
+use Rattle.look.specs.declared.Place.the-variants.{Refused}
+use Rattle.look.specs.Look.{whereIs}
 use Rattle.open.specs.Contract.{openingNumber}
 use Rattle.policy.specs.Contract.{answerOf}
 use Rattle.arccalls.specs.declared.ArcOutcome.{ArcOutcome}
@@ -37,6 +42,13 @@ arcTold r disk flash addresses blocks lists block =
 -- the paper's call on what is lent
 abbrev pub arcCalled : ArcRecord → ArcLent → Ask → ArcTold
 arcCalled a t q = record { numbers = sizesOf a; after = arcCall (sizesOf a) t q }
+
+-- ---- a look
+
+-- the place of the block of a, or the number of the refusal: the base's place, where no number of the D-ARC box applies
+unfoldable pub arcWhere : Sizes → ArcLent → ℕ → Place
+arcWhere Z t a =
+    cond (eqb (arcRefusal Z t (calling (Ask.look a))) 0) (whereIs (baseNumbers Z) (t .base) a) (Refused (arcRefusal Z t (calling (Ask.look a))))
 
 -- ---- an opening
 

@@ -6,5 +6,5 @@ pub mod ListLaws
 pub mod BaseLaws
 -- promises: an opening
 pub mod OpenLaws
--- where a look finds its block; promises: what it answers and returns
+-- promises: what a look answers and returns, from where its block is found
 pub mod LookLaws

@@ -1,6 +1,6 @@
 -- Lists that pass 2 and 6 are written as they were found. Assumes nothing.
 use mathlib.Core.Path.{_≡_, refl, sym, ap, ap₂, _∙_}
-use mathlib.Core.Bool.{Bool, true, false, not, _||_}
+use mathlib.Core.Bool.{false}
 use mathlib.Core.List.{List, [], _∷_, _++_, append-assoc}
 use Prim.Native.Nat.{ℕ, zero, suc, _+_, _-_, _*_, _≤_, _<_}
 use native.Mathlib.Omega.{arith}
@@ -14,9 +14,8 @@ use Rattle.tables.specs.RecordLaws.{bytes4-le4}
 use Rattle.tables.specs.Find.{any}
 use Rattle.tables.specs.Unsound.{nonzero}
 use Rattle.paper.specs.KeyedLaws.{or-false-left, or-false-right}
-use Rattle.arc.specs.Arc.{Lists}
 use Rattle.arc.specs.ArcLent.{ListRecord, words, wordBytes, totalOf, parts, listsIn, endToEnd, listBytes, listRecord}
-use Rattle.arc.specs.ArcLentLaws.{PartSizes, part-sizes, length-words-in}
+use Rattle.arc.specs.ArcLentLaws.{part-sizes, length-words-in}
 
 -- the sizes of the lists found
 module _ (r : ListRecord) (w : List ℕ) (e : length w ≡ totalOf r) where

@@ -1,17 +1,16 @@
 -- A look of a D-ARC box, from where its block is found. Assumes nothing.
-use mathlib.Core.Path.{_≡_, refl, sym, ap, _∙_, subst}
-use mathlib.Core.Bool.{cond}
-use mathlib.Core.List.{List, []}
+use mathlib.Core.Path.{_≡_, sym, ap, _∙_, subst}
+use mathlib.Core.List.{List}
 use Prim.Native.Nat.{ℕ}
 use lib.Dec.{eqb}
-use borrow.Author.Tests.{eq-eqb, ne-eqb, eqb-true, eqb-false}
+use borrow.Author.Tests.{ne-eqb, eqb-true, eqb-false}
 use Rattle.paper.specs.KeyedLaws.{by-test}
 use Rattle.paper.specs.Cache.{Counters}
 use Rattle.paper.specs.RowBytes.{Bytes}
-use Rattle.paper.specs.Lent.{Ask, calling, refusal, served, call, After}
+use Rattle.paper.specs.Lent.{Ask, calling, refusal, call, After}
 use Rattle.paper.specs.RefusalLaws as Base
 use Rattle.arc.specs.Arc.{Sizes, baseNumbers}
-use Rattle.arc.specs.ArcLent.{ArcLent, ArcAfter, arcRefusal, arcServed, arcCall}
+use Rattle.arc.specs.ArcLent.{ArcLent, ArcAfter, arcRefusal, arcCall}
 use Rattle.arc.specs.ArcDemandLaws.{served-is, arc-keeps}
 use Rattle.parts.specs.declared.BoxRecord.{BoxRecord}
 use Rattle.parts.specs.Rep.{numbersOf}
@@ -22,12 +21,8 @@ use Rattle.look.specs.Look.{whereIs, answerAt, partAt}
 use Rattle.look.specs.LookLaws.{look-answers, PartIn, where-in, look-returns}
 use Rattle.arcrefusals.specs.declared.ArcRecord.{ArcRecord}
 use Rattle.arcrefusals.specs.Given.{sizesOf, baseOf, arcLent}
+use Rattle.arccalls.specs.Contract.{arcWhere}
 use Rattle.arccalls.specs.BaseLaws.{base-zero, look-keeps}
-
--- the place of the block of a, or the number of the refusal: the base's place, where no number of the D-ARC box applies
-unfoldable pub arcWhere : Sizes → ArcLent → ℕ → Place
-arcWhere Z t a =
-    cond (eqb (arcRefusal Z t (calling (Ask.look a))) 0) (whereIs (baseNumbers Z) (t .base) a) (Refused (arcRefusal Z t (calling (Ask.look a))))
 
 module _ (Z : Sizes) (t : ArcLent) (a : ℕ) where
   pub place-refused : (number : ℕ) → number ≡ arcRefusal Z t (calling (Ask.look a)) → (number ≡ 0 → ⊥) → Refused number ≡ arcWhere Z t a
@@ -83,7 +78,8 @@ module _ (a : ArcRecord) (disk flash addresses blocks lists : List ℕ) (k : Cou
   module _ (b : BoxRecord) (eb : b ≡ baseOf a) where
     pub look-0 : arcRefusal Z t (calling (Ask.look x)) ≡ 0 → refusal (numbersOf b) (lent b disk flash addresses blocks k) (calling (Ask.look x)) ≡ 0
     look-0 z =
-        subst (λ (y : BoxRecord). refusal (numbersOf y) (lent y disk flash addresses blocks k) (calling (Ask.look x)) ≡ 0) (sym eb) (base-zero Z t (Ask.look x) z)
+        subst (λ (y : BoxRecord). refusal (numbersOf y) (lent y disk flash addresses blocks k) (calling (Ask.look x)) ≡ 0) (sym eb)
+        (base-zero Z t (Ask.look x) z)
 
     pub look-place : (p : Place) → arcRefusal Z t (calling (Ask.look x)) ≡ 0 → p ≡ whereIs (numbersOf b) (lent b disk flash addresses blocks k) x
         → p ≡ arcWhere Z t x

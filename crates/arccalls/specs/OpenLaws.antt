@@ -1,5 +1,5 @@
 -- What an opening leaves, refused and not. Assumes nothing.
-use mathlib.Core.Path.{_≡_, refl, sym, ap, _∙_, subst}
+use mathlib.Core.Path.{_≡_, refl, sym, ap, _∙_}
 use mathlib.Core.Bool.{Bool, true, false, _||_, cond}
 use mathlib.Core.List.{List, [], _∷_}
 use Prim.Native.Nat.{ℕ, _*_}
@@ -18,9 +18,13 @@ use Rattle.refusals.specs.Given.{countersOf}
 use Rattle.arcrefusals.specs.declared.ArcRecord.{ArcRecord}
 use Rattle.arcrefusals.specs.Given.{sizesOf, arcLent}
 use Rattle.arcrefusals.specs.Checks.{Fits}
-use Rattle.arcrefusals.specs.CallLaws.{Opens, opens-with}
+use Rattle.arcrefusals.specs.CallLaws.{opens-with}
 use Rattle.arccalls.specs.declared.opening.ArcBegun.{ArcBegun}
 use Rattle.arccalls.specs.Contract.{emptyArc, relabelled, arcBegun, arcOpens}
+
+-- counters that have counted nothing
+abbrev none-counted : Code.Counters
+none-counted = record { reads = 0; hits = 0; flash = 0; primary = 0 }
 
 -- of 11, 12 and 2, the label's length can be looked at last
 last : (u l x y z : Bool) → let a = first (test u 11 ∷ test l 12 ∷ test (x || false || z) 2 ∷ []) in
@@ -51,11 +55,13 @@ module _ (size blocks cached extra limit : ℕ) (label disk flash addresses tabl
   unfolding arcRefusal unfitArc wrongBuffers
   by-label =
       last (unfitArc Z) (limitOutside (baseNumbers Z))
-      (otherLength disk (blocks * size) || otherLength flash (cached * size) || otherLength addresses (tableBytes (mOf Z)) || otherLength table (tableBytes cached))
+      (otherLength disk (blocks * size) || otherLength flash (cached * size) || otherLength addresses (tableBytes (mOf Z))
+      || otherLength table (tableBytes cached))
       (otherLength label 64) (otherLength lists (mOf Z * 4))
 
   -- the number of the check, of the record that was made
-  module _ (a : ArcRecord) (ea : a ≡ zeroed) (no : ℕ) (en : no ≡ arcRefusal (sizesOf a) (arcLent a disk flash addresses table lists (countersOf c)) opening) where
+  module _ (a : ArcRecord) (ea : a ≡ zeroed) (no : ℕ)
+      (en : no ≡ arcRefusal (sizesOf a) (arcLent a disk flash addresses table lists (countersOf c)) opening) where
     number-is : no ≡ arcRefusal (sizesOf zeroed) t opening
     number-is = en ∙ ap (λ (x : ArcRecord). arcRefusal (sizesOf x) (arcLent x disk flash addresses table lists (countersOf c)) opening) ea
 
@@ -86,7 +92,7 @@ module _ (size blocks cached extra limit : ℕ) (label disk flash addresses tabl
 
   pub opening-done : arcRefusal Z t opening ≡ 0 → (a : ArcRecord) → a ≡ zeroed → (addresses′ table′ lists′ : List ℕ)
       → addresses′ ≡ freshAddresses (mOf (sizesOf a)) → table′ ≡ freshBlocks (a .sizes .cached) → lists′ ≡ zeros (mOf (sizesOf a) * 4)
-      → (r : ArcBegun) → r ≡ record { answer = Open; arc_record = relabelled a label; counters = record { reads = 0; hits = 0; flash = 0; primary = 0 } }
+      → (r : ArcBegun) → r ≡ record { answer = Open; arc_record = relabelled a label; counters = none-counted }
       → arcBegun r disk flash addresses′ table′ lists′ ≡ arcOpens given t
   unfolding fresh arcOpened arcLabelAfter
   opening-done z a ea addresses′ table′ lists′ xa xt xl r er =
@@ -98,5 +104,5 @@ module _ (size blocks cached extra limit : ℕ) (label disk flash addresses tabl
       let f : arcLent given disk flash addresses′ table′ lists′ noCounts ≡ arcOpened Z t
       = (λ i. arcLent given disk flash (ma i) (mt i) (ml i) noCounts) ∙ l in
       ap (λ (x : ArcBegun). arcBegun x disk flash addresses′ table′ lists′)
-      (er ∙ ap (λ (x : ArcRecord). record { answer = Open; arc_record = relabelled x label; counters = record { reads = 0; hits = 0; flash = 0; primary = 0 } }) ea)
+      (er ∙ ap (λ (x : ArcRecord). record { answer = Open; arc_record = relabelled x label; counters = none-counted }) ea)
       ∙ (λ i. record { number = sym z i; numbers = record { B = size; P = blocks; C = cached; X = extra; label = s i; t = limit }; lent = f i })

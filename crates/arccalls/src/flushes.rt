@@ -44,7 +44,16 @@ pub fn flush_some(
         (Ask.flush k) ⌝ }
 {
     let mut heads = [0u16; index::ENTRIES];
-    let number = arcrefusals::calls::arc_flush(a, disk, flash, addresses, blocks, lists, c, &mut heads);
+    let number = arcrefusals::calls::arc_flush(
+        a,
+        disk,
+        flash,
+        addresses,
+        blocks,
+        lists,
+        c,
+        &mut heads,
+    );
     if number != 0 {
         return refused(number, a, c);
     }

@@ -11,7 +11,7 @@ ghost use Rattle.paper.specs.Lent.{Ask};
 ghost use Rattle.arc.specs.ArcLent.{arcCall};
 ghost use Rattle.policy.specs.Contract.{answerOf};
 ghost use Rattle.arcrefusals.specs.Given.{sizesOf, arcLent};
-ghost use Rattle.arccalls.specs.LookLaws.{arcWhere};
+ghost use Rattle.arccalls.specs.Contract.{arcWhere};
 
 // Where the block of `asked` is, or the number of the refusal.
 pub fn place_of(

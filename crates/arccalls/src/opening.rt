@@ -42,8 +42,15 @@ fn no_sizes(cached: usize, extra: usize) -> ListSizes
     }
 }
 
-// The record of a box that holds none, with a label of zeros.
-fn empty_arc(size: usize, blocks: usize, cached: usize, extra: usize, limit: usize, label: [u8; 64]) -> ArcRecord
+// The record of a box that holds none.
+fn empty_arc(
+    size: usize,
+    blocks: usize,
+    cached: usize,
+    extra: usize,
+    limit: usize,
+    label: [u8; 64],
+) -> ArcRecord
     ensures { λ r. ⌜ r ≡ emptyArc size blocks cached extra limit label ⌝ }
 {
     let sizes = no_sizes(cached, extra);

@@ -1,5 +1,5 @@
 -- A flush of at most m, where the numbers are such that m can be asked. Assumes nothing.
-use mathlib.Core.Path.{_≡_, _∙_}
+use mathlib.Core.Path.{_∙_}
 use borrow.Author.Needs.{needs}
 use Rattle.refusals.specs.Given.{countersOf}
 use Rattle.arcrefusals.specs.Given.{arcLent}

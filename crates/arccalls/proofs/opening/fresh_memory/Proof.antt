@@ -1,6 +1,6 @@
 -- The tables by their fresh forms, the lists by as many zeros as they have bytes. Assumes nothing.
-use mathlib.Core.Path.{_≡_, refl, sym, ap, _∙_}
-use Prim.Native.Nat.{ℕ, _*_, _≤_}
+use mathlib.Core.Path.{_≡_, sym, ap, _∙_}
+use Prim.Native.Nat.{ℕ, _*_}
 use native.Mathlib.Omega.{arith}
 use lib.ListN.{length}
 use borrow.Author.Needs.{needs}
@@ -69,8 +69,10 @@ returns c =
     let k : n ≡ mOf (sizesOf (a .a)) * 4 = ap (λ x. x * 4) e in
     let l : length (a .lists .now) ≡ n = start b .pre .lists-are ∙ sym k in (
       ad .fresh-addresses .ensures ∙ ap freshAddresses e,
-      (bl .fresh-blocks .ensures ∙ ap freshBlocks (slots-are b),
-        cl .clear .ensures ∙ pasted-whole (a .lists .now) (zeros n) n l (length-zeros n) ∙ ap zeros k),
+      (
+        bl .fresh-blocks .ensures ∙ ap freshBlocks (slots-are b),
+        cl .clear .ensures ∙ pasted-whole (a .lists .now) (zeros n) n l (length-zeros n) ∙ ap zeros k,
+      ),
     )
 
 pub fresh-memory-spec : {M : Type 1} → statement M

@@ -1,6 +1,5 @@
 -- By the check's number and the label's length: refused, nothing is touched; else tables and lists are made fresh, whose lengths the check has seen to.
 -- Assumes nothing.
-use mathlib.Core.Path.{_≡_}
 use native.Mathlib.Omega.{arith}
 use borrow.Author.Needs.{needs}
 use Rattle.refusals.specs.Given.{countersOf}
@@ -34,7 +33,8 @@ returns-2 c =
     opening-refused (a .size) (a .blocks) (a .cached) (a .extra) (a .limit) (a .label .now) (a .disk .now) (a .flash .now) (a .addresses .now) (a .table .now)
     (a .lists .now) (a .c) (m .result) (m .ensures) (c .unopened2 .result) 2 (c .unopened2 .ensures)
     (number-two (a .size) (a .blocks) (a .cached) (a .extra) (a .limit) (a .label .now) (a .disk .now) (a .flash .now) (a .addresses .now) (a .table .now)
-    (a .lists .now) (a .c) (m .result) (m .ensures) (o .arc-opening .result) (o .arc-opening .ensures (countersOf (a .c))) (e .if1 .left) (c .before .if2 .taken))
+    (a .lists .now) (a .c) (m .result) (m .ensures) (o .arc-opening .result) (o .arc-opening .ensures (countersOf (a .c)))
+    (e .if1 .left) (c .before .if2 .taken))
     (λ z. absurd (omega (arith, z)))
 
 fresh-memory-requires : tie.Need-fresh-memory-requires
