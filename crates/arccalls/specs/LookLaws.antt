@@ -1,17 +1,21 @@
 -- A look of a D-ARC box, from where its block is found. Assumes nothing.
 use mathlib.Core.Path.{_≡_, sym, ap, _∙_, subst}
 use mathlib.Core.List.{List}
-use Prim.Native.Nat.{ℕ}
+use Prim.Native.Nat.{ℕ, _<_}
 use lib.Dec.{eqb}
+use lib.ListN.{getD}
 use borrow.Author.Tests.{ne-eqb, eqb-true, eqb-false}
 use Rattle.paper.specs.KeyedLaws.{by-test}
 use Rattle.paper.specs.Cache.{Counters}
 use Rattle.paper.specs.RowBytes.{Bytes}
-use Rattle.paper.specs.Lent.{Ask, calling, refusal, call, After}
+use Rattle.paper.specs.LentForth.{lent-forth}
+use Rattle.paper.specs.LentLaws.{passes-sound}
+use Rattle.paper.specs.Demand3Laws.{look-stays}
+use Rattle.paper.specs.Lent.{boxIn, lentOf, Ask, calling, refusal, call, After}
 use Rattle.paper.specs.RefusalLaws as Base
 use Rattle.arc.specs.Arc.{Sizes, baseNumbers}
 use Rattle.arc.specs.ArcLent.{ArcLent, ArcAfter, arcRefusal, arcCall}
-use Rattle.arc.specs.ArcDemandLaws.{served-is, arc-keeps}
+use Rattle.arc.specs.ArcDemandLaws.{found, served-is, arc-keeps}
 use Rattle.parts.specs.declared.BoxRecord.{BoxRecord}
 use Rattle.parts.specs.Rep.{numbersOf}
 use Rattle.refusals.specs.Given.{lent}
@@ -22,7 +26,7 @@ use Rattle.look.specs.LookLaws.{look-answers, PartIn, where-in, look-returns}
 use Rattle.arcrefusals.specs.declared.ArcRecord.{ArcRecord}
 use Rattle.arcrefusals.specs.Given.{sizesOf, baseOf, arcLent}
 use Rattle.arccalls.specs.Contract.{arcWhere}
-use Rattle.arccalls.specs.BaseLaws.{base-zero, look-keeps}
+use Rattle.arccalls.specs.BaseLaws.{base-zero, look-keeps, call-base}
 
 module _ (Z : Sizes) (t : ArcLent) (a : ℕ) where
   pub place-refused : (number : ℕ) → number ≡ arcRefusal Z t (calling (Ask.look a)) → (number ≡ 0 → ⊥) → Refused number ≡ arcWhere Z t a
@@ -73,6 +77,20 @@ module _ (a : ArcRecord) (disk flash addresses blocks lists : List ℕ) (k : Cou
       by-test (eqb n 0)
       (λ y. rw y (look-returns (baseOf a) disk flash addresses blocks k x ba bb ∙ sym (base-call Z t x (eqb-true n 0 y) .1)))
       (λ y. rw y (sym (ap (λ (x : ArcAfter). x .part) (arc-keeps Z t (Ask.look x) (eqb-false n 0 y)))))
+
+  -- what it leaves is what is lent, so nothing is to be written
+  pub look-leaves : Bytes addresses → Bytes blocks → ((i : ℕ) → getD lists i 0 < 256) → (arcCall Z t (Ask.look x)) .lent ≡ t
+  look-leaves ba bb low =
+      let n = arcRefusal Z t (calling (Ask.look x)) in
+      by-test (eqb n 0)
+      (λ y.
+      let z = eqb-true n 0 y in
+      let p = found Z t (Ask.look x) z .passes .base in
+      let w : t .base ≡ lentOf (baseNumbers Z) (boxIn (baseNumbers Z) (t .base)) k
+      = sym (lent-forth (baseNumbers Z) (t .base) (p .lengths) ba bb (p .addresses) (p .blocks)) in
+      let base = look-stays (baseNumbers Z) (t .base) x (boxIn (baseNumbers Z) (t .base), k, passes-sound (baseNumbers Z) (t .base) p, w) in
+      ap (λ (o : ArcAfter). o .lent) (call-base Z t (Ask.look x) z (look-keeps Z t x) low) ∙ (λ i. record { base = base i; sizes = t .sizes; lists = lists }))
+      (λ y. ap (λ (o : ArcAfter). o .lent) (arc-keeps Z t (Ask.look x) (eqb-false n 0 y)))
 
   -- the base's refusal and the base's place, of the base's record
   module _ (b : BoxRecord) (eb : b ≡ baseOf a) where
