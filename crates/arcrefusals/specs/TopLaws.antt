@@ -45,7 +45,7 @@ module _ (N : Numbers) (bs : List (List ℕ)) (wide : Wide bs) (seen tops : List
   row-tells r l h =
       let m : eqb (bitAt seen (rowAddress r)) 1 ≡ isIn (rowAddress r) tops =
       ap (λ n. eqb n 1) (marked (rowAddress r) h) ∙ mark-test (elem (rowAddress r) tops) ∙ elem-in (rowAddress r) tops in
-      let c = ap (λ g. not (absent (findFrom (caches g) 0 bs))) (sym (held-print-is r l)) 
+      let c = ap (λ g. not (absent (findFrom (caches g) 0 bs))) (sym (held-print-is r l))
       ∙ ap not (cached-is N (fit 32 (readAddress r .fingerprint)) 0 bs wide)
       ∙ twice (cached (labelled N) (fit 32 (readAddress r .fingerprint)) (usedRows (map readBlock bs))) in
       rw (m, c) (both (isIn (rowAddress r) tops) (cached (labelled N) (fit 32 (readAddress r .fingerprint)) (usedRows (map readBlock bs))))
