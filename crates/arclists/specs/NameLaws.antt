@@ -47,17 +47,17 @@ module _ {ws : List ℕ} {k x : ℕ} (r : Read ws 65536 k x) (at : ℕ → ℕ) 
       let b : all possible (drop (k - 1) ws) ≡ true = rw (q, lt-ltb x 65536 (r .has)) (and-left (all possible (drop k ws)) (distinct (drop k ws)) f) in
       rw (b, once r at m h (and-right (all possible (drop k ws)) (distinct (drop k ws)) f)) refl
 
-mark-test : (b : Bool) → eqb (mark b) 1 ≡ b
+pub mark-test : (b : Bool) → eqb (mark b) 1 ≡ b
 mark-test true = refl
 mark-test false = refl
 
-elem-in : (x : ℕ) (l : List ℕ) → elem x l ≡ isIn x l
+pub elem-in : (x : ℕ) (l : List ℕ) → elem x l ≡ isIn x l
 unfolding elem
 elem-in x [] = refl
 elem-in x (y ∷ ys) = ap (λ b. eqb x y || b) (elem-in x ys)
 
 -- numbers that differ are each there once, and the other way
-distinct-once : (l : List ℕ) → distinct l ≡ true → Once l
+pub distinct-once : (l : List ℕ) → distinct l ≡ true → Once l
 unfolding distinct
 distinct-once [] h = tt
 distinct-once (x ∷ xs) h = (

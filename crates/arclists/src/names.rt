@@ -17,7 +17,7 @@ ghost use Rattle.arc.specs.ArcLent.{words, misnamed};
 ghost use Rattle.arclists.specs.Names.{fine};
 
 // Sets the bit of each of the first `n` names. Whether they are below 65,536 and all different.
-pub(crate) fn names_marked(lists: &[u8], n: usize, seen: &mut [u8]) -> bool
+pub fn names_marked(lists: &[u8], n: usize, seen: &mut [u8]) -> bool
     requires { ⌜ (n * 4 ≤ length (now lists)) × (length (now seen) ≡ 8192) ⌝ }
     requires { ⌜ ((x : ℕ) → x < 65536 → bitAt (now seen) x ≡ 0) ⌝ }
     ensures { λ r. ⌜ r ≡ fine (words n (now (lists .entry))) ⌝ }
@@ -50,7 +50,7 @@ pub(crate) fn has_bit(seen: &[u8], x: usize) -> bool
 }
 
 // Whether the address of row `k` has its bit.
-pub(crate) fn row_named(addresses: &[u8], k: usize, seen: &[u8]) -> bool
+pub fn row_named(addresses: &[u8], k: usize, seen: &[u8]) -> bool
     requires { ⌜ (tableBytes (k + 1) ≤ length (now addresses)) × (length (now seen) ≡ 8192) ⌝ }
     requires { ⌜ rowAddress (rowAt (now addresses) k) < 65536 ⌝ }
     ensures { λ r. ⌜ r ≡ eqb (bitAt (now (seen .entry)) (rowAddress (rowAt (now (addresses .entry)) k))) 1 ⌝ }

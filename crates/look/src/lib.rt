@@ -21,7 +21,7 @@ pub enum Place {
 }
 
 // Where the block of `a` is, of lent memory that a look is not refused on.
-pub(crate) fn found(
+pub fn found(
     b: BoxRecord,
     a: SourceAddress,
     disk: &[u8],

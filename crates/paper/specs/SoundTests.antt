@@ -93,7 +93,7 @@ pub held-print-is : (r : List ℕ) → length r ≡ rowBytes → (fit 32 (readAd
 held-print-is r l = fit-is 32 (readAddress r .fingerprint) (address-print-length r l)
 
 -- "cached" as the tables search for it
-cached-is : (N : Numbers) (g : Fixed 32) (k : ℕ) (rs : List (List ℕ)) → Wide rs
+pub cached-is : (N : Numbers) (g : Fixed 32) (k : ℕ) (rs : List (List ℕ)) → Wide rs
     → absent (findFrom (caches (g .0)) k rs) ≡ not (cached (labelled N) g (usedRows (map readBlock rs)))
 unfolding usedRows findFrom
 cached-is N g k [] w = refl

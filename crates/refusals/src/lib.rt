@@ -146,7 +146,7 @@ pub fn of_tables(b: BoxRecord, addresses: &[u8], blocks: &[u8], heads: &mut [u16
 }
 
 // Refusal 9: a counter above 2 to the power 63.
-pub(crate) fn counters_over(c: counters::Counters) -> bool
+pub fn counters_over(c: counters::Counters) -> bool
     ensures { λ r. ⌜ r ≡ over (countersOf c) ⌝ }
 {
     if 9223372036854775808 < c.reads {
