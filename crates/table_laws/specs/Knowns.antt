@@ -17,7 +17,7 @@ use Rattle.tables.specs.declared.Found.{Found}
 use Rattle.tables.specs.declared.Found.the-variants.{At, Nothing}
 use Rattle.tables.specs.FindLaws.{found-at, same-refl}
 use Rattle.tables.specs.RowLaws.{rows-length, rows-at}
-use Rattle.tables.specs.SoundLaws.{Marks, same-true, not-true-false, and-left, and-right}
+use Rattle.tables.specs.SoundLaws.{same-true, not-true-false, and-left, and-right}
 use Rattle.tables.specs.Records.{readAddress, readBlock}
 
 clash : {A : Type 0} → true ≡ false → A
@@ -98,16 +98,22 @@ mark-not : (b : Bool) → eqb (mark (not b)) 0 ≡ b
 mark-not true = refl
 mark-not false = refl
 
--- a used row's byte is 0 if no address row has its fingerprint
-pub unmarked-is : (d : ℕ) (t : List ℕ) (n : ℕ) (a known : List ℕ) → d ≤ 256 → d ≤ length known → every unique (rows d t) ≡ true → Marks known (map (placeIn (rows d t)) (rows n a))
-    → (k : ℕ) → k < d → isUsed (rowAt t k) && eqb (getD known k 0) 0 ≡ unknownIn (rows n a) (rowAt t k)
-unmarked-is d t n a known few l u m k h =
-    elim (isUsed (rowAt t k)) as (λ q. isUsed (rowAt t k) ≡ q → q && eqb (getD known k 0) 0 ≡ q && absent (findFrom (hasFingerprint (readBlock (rowAt t k) .fingerprint)) 0 (rows n a))) [
+-- the bytes of `known` tell, of each used row of the d, whether none of the rows hs has its fingerprint
+abbrev pub Tells : (d : ℕ) (t known : List ℕ) (hs : List (List ℕ)) → Type 0
+Tells d t known hs = (k : ℕ) → k < d → isUsed (rowAt t k) && eqb (getD known k 0) 0 ≡ unknownIn hs (rowAt t k)
+
+-- a used row's byte is 0 if no address row of hs has its fingerprint
+pub unmarked-is : (d : ℕ) (t : List ℕ) (hs : List (List ℕ)) (known : List ℕ) → d ≤ 256 → every unique (rows d t) ≡ true
+    → ((k : ℕ) → k < d → getD known k 0 ≡ mark (elem k (map (placeIn (rows d t)) hs))) → Tells d t known hs
+unmarked-is d t hs known few u m k h =
+    elim (isUsed (rowAt t k)) as (λ q. isUsed (rowAt t k) ≡ q → q && eqb (getD known k 0) 0
+        ≡ q && absent (findFrom (hasFingerprint (readBlock (rowAt t k) .fingerprint)) 0 hs)) [
       | true ↦ λ o.
           (let r = rows-at d t k h in
-          let i : getD known k 0 ≡ mark (not (absent (findFrom (hasFingerprint (readBlock (getD (rows d t) k []) .fingerprint)) 0 (rows n a)))) =
-          m k (omega arith) ∙ ap mark (elem-held (rows d t) u (rw rows-length few) k (rw rows-length h) (rw r o) 0 (rows n a)) in
-          ap (λ (x : ℕ). eqb x 0) i ∙ mark-not (absent (findFrom (hasFingerprint (readBlock (getD (rows d t) k []) .fingerprint)) 0 (rows n a))) ∙ ap (λ (s : List ℕ). absent (findFrom (hasFingerprint (readBlock s .fingerprint)) 0 (rows n a))) r)
+          let i : getD known k 0 ≡ mark (not (absent (findFrom (hasFingerprint (readBlock (getD (rows d t) k []) .fingerprint)) 0 hs))) =
+          m k h ∙ ap mark (elem-held (rows d t) u (rw rows-length few) k (rw rows-length h) (rw r o) 0 hs) in
+          ap (λ (x : ℕ). eqb x 0) i ∙ mark-not (absent (findFrom (hasFingerprint (readBlock (getD (rows d t) k []) .fingerprint)) 0 hs))
+          ∙ ap (λ (s : List ℕ). absent (findFrom (hasFingerprint (readBlock s .fingerprint)) 0 hs)) r)
       | false ↦ λ o. refl
     ] refl
 
