@@ -19,7 +19,7 @@ use Rattle.parts.specs.Rep.{numbersOf, Rep, Copied, copiedRows, partBox, engine
 use Rattle.parts.specs.Asked.{noBlock, victimPlace}
 use Rattle.step.specs.Steps.{Picked, pickedTaken, Out4, out4}
 use Rattle.parts.specs.MoveLaws.{slot-is, slot-below, first-slot, renewed}
-use Rattle.step.proofs.Taking.{victim-picked, taken-is}
+use Rattle.step.specs.Taking.{victim-picked, taken-is}
 use Rattle.tables.specs.Records.{readBlock}
 use Rattle.tables.specs.Operations.{rowNewest}
 
@@ -33,25 +33,30 @@ unfolding pickedTaken
 picked-below d bt (k ∷ free) used t h p = h .free-below .0
 picked-below d bt [] used t h p = slot-below d bt [] used h t p noBlock
 
-module _ (b : BoxRecord) (disk flash addrs blocks : List ℕ) (s : Box (Fixed 32) (Fixed (b .size))) (h : Rep b disk flash addrs blocks s) (ds : Distinct (comparing .same) (λ u. u .fingerprint) (s .used)) (d0 : 0 < b .slots) (t k : ℕ) (et : t ≡ victimPlace (s .rows) (s .free) (s .used)) (ek : k ≡ readBlock (rowAt blocks t) .slot) where
+-- the place that the victim gives
+module _ (b : BoxRecord) (disk flash addrs blocks : List ℕ) (s : Box (Fixed 32) (Fixed (b .size))) (h : Rep b disk flash addrs blocks s) (d0 : 0 < b .slots)
+    (t : ℕ) (et : t ≡ victimPlace (s .rows) (s .free) (s .used)) where
   pub at-picked : Picked (s .free) (s .used) t
   at-picked = subst (Picked (s .free) (s .used)) (sym et) (victim-picked (b .slots) blocks (s .rows) (s .used) (s .free) (h .blocks-are) d0)
 
-  pub at-slot : k ≡ pickedTaken (s .free) (s .used) t .slot
-  at-slot = ek ∙ picked-slot (b .slots) blocks (s .free) (s .used) t (h .blocks-are) at-picked
-
-  pub at-below : k < b .slots
-  at-below = subst (λ (x : ℕ). x < b .slots) (sym at-slot) (picked-below (b .slots) blocks (s .free) (s .used) t (h .blocks-are) at-picked)
-
-  at-taken : taken (engine b) (s .rows) (s .free) (s .used) ≡ pickedTaken (s .free) (s .used) t
-  at-taken =
+  pub at-taken : Distinct (comparing .same) (λ u. u .fingerprint) (s .used) → taken (engine b) (s .rows) (s .free) (s .used) ≡ pickedTaken (s .free) (s .used) t
+  at-taken ds =
       taken-is (numbersOf b) (s .rows) (s .free) (s .used) ds (victim-picked (b .slots) blocks (s .rows) (s .used) (s .free) (h .blocks-are) d0)
       ∙ ap (pickedTaken (s .free) (s .used)) (sym et)
+
+-- a place that can be taken
+module _ (b : BoxRecord) (disk flash addrs blocks : List ℕ) (s : Box (Fixed 32) (Fixed (b .size))) (h : Rep b disk flash addrs blocks s) (t k : ℕ)
+    (p : Picked (s .free) (s .used) t) (ek : k ≡ readBlock (rowAt blocks t) .slot) where
+  pub at-slot : k ≡ pickedTaken (s .free) (s .used) t .slot
+  at-slot = ek ∙ picked-slot (b .slots) blocks (s .free) (s .used) t (h .blocks-are) p
+
+  pub at-below : k < b .slots
+  at-below = subst (λ (x : ℕ). x < b .slots) (sym at-slot) (picked-below (b .slots) blocks (s .free) (s .used) t (h .blocks-are) p)
 
   pub store-is : (f : Fixed 32) (x : Fixed (b .size)) (count : ℕ) (disk′ addrs′ flash′ blocks′ : List ℕ) → _≡_ {A = Copied} (record { count = count; disk = disk′; addrs = addrs′ }) (copiedRows b (isLost (engine b) (pickedTaken (s .free) (s .used) t .lost)) s (b .held))
       → (flash′ ≡ join (set (s .flash) k x)) × (blocks′ ≡ blocksOf (pickedTaken (s .free) (s .used) t .free) (pickedTaken (s .free) (s .used) t .used ++ (blockRow f k ∷ [])))
       → _≡_ {A = Out4} (record { flashed = 1; primary = count; disk = disk′; flash = flash′; addrs = addrs′; blocks = blocks′ })
-      (out4 b (stored (engine b) (s .rows) (s .used) (s .flash) (s .disk) f x 0 (taken (engine b) (s .rows) (s .free) (s .used))))
+      (out4 b (stored (engine b) (s .rows) (s .used) (s .flash) (s .disk) f x 0 (pickedTaken (s .free) (s .used) t)))
   unfolding out4 stored copiedRows partBox
   store-is f x count disk′ addrs′ flash′ blocks′ e q =
       let T : Taken (Fixed 32) = pickedTaken (s .free) (s .used) t in
@@ -70,7 +75,7 @@ module _ (b : BoxRecord) (disk flash addrs blocks : List ℕ) (s : Box (Fixed 32
       let e4 : flash′ ≡ join (set (s .flash) (pickedTaken (s .free) (s .used) t .slot) x) = q .0 ∙ ap (λ (y : ℕ). join (set (s .flash) y x)) kt in
       let e5 : blocks′ ≡ blocksOf (pickedTaken (s .free) (s .used) t .free) (pickedTaken (s .free) (s .used) t .used ++ (blockRow f (pickedTaken (s .free) (s .used) t .slot) ∷ []))
       = q .1 ∙ ap (λ (y : ℕ). blocksOf (pickedTaken (s .free) (s .used) t .free) (pickedTaken (s .free) (s .used) t .used ++ (blockRow f y ∷ []))) kt in
-      rw at-taken (λ j. record { flashed = 1; primary = e1 j; disk = e2 j; flash = e4 j; addrs = e3 j; blocks = e5 j })
+      (λ j. record { flashed = 1; primary = e1 j; disk = e2 j; flash = e4 j; addrs = e3 j; blocks = e5 j })
 
 -- step 4
 module _ (b : BoxRecord) (disk flash addrs blocks : List ℕ) (s : Box (Fixed 32) (Fixed (b .size))) (h : Rep b disk flash addrs blocks s) (f : Fixed 32) (x : Fixed (b .size)) (j : ℕ) (ej : j ≡ length (s .free) + indexWhere (λ u. comparing .same f (u .fingerprint)) (s .used)) where

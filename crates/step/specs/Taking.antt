@@ -8,9 +8,8 @@ use native.Mathlib.Nat.{le-of-suc-le-suc, zero-add}
 use native.Mathlib.Omega.{arith}
 use lib.Dec.{ltb}
 use lib.ListN.{length, getD, take, drop}
-use Rattle.paper.specs.Keyed.{without}
 use Rattle.paper.specs.KeyedLaws.{by-test, clash, Distinct}
-use Rattle.paper.specs.Cache.{Numbers, AddressRow, BlockRow, Taken, known, slotOf, taken, takenUsed, victim}
+use Rattle.paper.specs.Cache.{Numbers, AddressRow, BlockRow, known, slotOf, taken, takenUsed, victim}
 use Rattle.paper.specs.Engine.{Fixed, labelled, comparing}
 use Rattle.paper.specs.Index.{indexWhere, unknown-yes, unknown-no, has-at, without-at}
 use Rattle.paper.specs.Layout.{Blocks}
@@ -38,19 +37,25 @@ own-slot N (x ∷ xs) (suc i) d h =
     (λ e. clash (has-at (comparing .same) (λ (u : BlockRow (Fixed 32)). u .fingerprint) (x .fingerprint) xs i noBlock (le-of-suc-le-suc h) (ap (λ (f : Fixed 32). comparing .same f (getD xs i noBlock .fingerprint)) (sym (labelled N .same→≡ (getD xs i noBlock .fingerprint) (x .fingerprint) e)) ∙ comparing .same-refl (getD xs i noBlock .fingerprint))) (d .0))
     (λ e. rw e (own-slot N xs i (d .1) (le-of-suc-le-suc h)))
 
+-- what is taken with the used row at t
+pub taken-at : (N : Numbers) (used : List (BlockRow (Fixed 32))) → Distinct (comparing .same) (λ u. u .fingerprint) used → (t : ℕ) → t < length used
+    → takenUsed (labelled N) (some (getD used t noBlock)) used ≡ pickedTaken [] used t
+unfolding takenUsed pickedTaken
+taken-at N used d t h =
+    ap (λ (x : List (BlockRow (Fixed 32))). record { slot = getD used t noBlock .slot; lost = some (getD used t noBlock .fingerprint); free = []; used = x })
+    (without-at (comparing .same) (λ (u : BlockRow (Fixed 32)). u .fingerprint) (comparing .same→≡) (getD used t noBlock .fingerprint) used t noBlock d h
+    (comparing .same-refl (getD used t noBlock .fingerprint)))
+
 -- what is taken
 pub taken-is : (N : Numbers) (l : List (AddressRow (Fixed 32))) (free : List ℕ) (used : List (BlockRow (Fixed 32))) → Distinct (comparing .same) (λ u. u .fingerprint) used → Picked free used (victimPlace l free used) → taken (labelled N) l free used ≡ pickedTaken free used (victimPlace l free used)
 unfolding taken pickedTaken victimPlace takenUsed victim
 taken-is N l (k ∷ free) used d = λ p. refl
 taken-is N l [] used d =
     by-test (ltb (indexWhere (λ u. not (known comparing (u .fingerprint) l)) used) (length used))
-    (λ e. rw e (λ p. rw (unknown-yes (labelled N) l used noBlock p) (taken-row (indexWhere (λ u. not (known comparing (u .fingerprint) l)) used) p)))
+    (λ e. rw e (λ p. rw (unknown-yes (labelled N) l used noBlock p) (taken-at N used d (indexWhere (λ u. not (known comparing (u .fingerprint) l)) used) p)))
     (λ e. rw e (λ p. rw (unknown-no (labelled N) l used (borrow.Author.Tests.ltb-false _ _ e)) (oldest used d p)))
   where
-    taken-row : (t : ℕ) → t < length used → _≡_ {A = Taken (Fixed 32)} (record { slot = getD used t noBlock .slot; lost = some (getD used t noBlock .fingerprint); free = []; used = without (labelled N .same) (λ u. u .fingerprint) (getD used t noBlock .fingerprint) used })
-        (record { slot = getD used t noBlock .slot; lost = some (getD used t noBlock .fingerprint); free = []; used = take t used ++ drop (suc t) used })
-    taken-row t h = ap (λ (x : List (BlockRow (Fixed 32))). record { slot = getD used t noBlock .slot; lost = some (getD used t noBlock .fingerprint); free = []; used = x }) (without-at (comparing .same) (λ (u : BlockRow (Fixed 32)). u .fingerprint) (comparing .same→≡) (getD used t noBlock .fingerprint) used t noBlock d h (comparing .same-refl (getD used t noBlock .fingerprint)))
-
-    oldest : (us : List (BlockRow (Fixed 32))) → Distinct (comparing .same) (λ u. u .fingerprint) us → 0 < length us → takenUsed (labelled N) (victim (labelled N) none us) us ≡ record { slot = getD us 0 noBlock .slot; lost = some (getD us 0 noBlock .fingerprint); free = []; used = take 0 us ++ drop 1 us }
+    oldest : (us : List (BlockRow (Fixed 32))) → Distinct (comparing .same) (λ u. u .fingerprint) us → 0 < length us
+        → takenUsed (labelled N) (victim (labelled N) none us) us ≡ pickedTaken [] us 0
     oldest [] d p = absurd (omega arith)
-    oldest (u ∷ us) d p = ap (λ (x : List (BlockRow (Fixed 32))). record { slot = u .slot; lost = some (u .fingerprint); free = []; used = x }) (without-at (comparing .same) (λ (u : BlockRow (Fixed 32)). u .fingerprint) (comparing .same→≡) (u .fingerprint) (u ∷ us) 0 noBlock d p (comparing .same-refl (u .fingerprint)))
+    oldest (u ∷ us) d p = taken-at N (u ∷ us) d 0 p
