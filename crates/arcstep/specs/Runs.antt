@@ -1,0 +1,54 @@
+-- When numbers and lent bytes are those of a paper box and its lists, between the first and the last part of a step. Assumes nothing.
+use mathlib.Core.Path.{_≡_}
+use mathlib.Core.List.{List}
+use Prim.Native.Nat.{ℕ, _+_, _*_, _≤_, _<_}
+use lib.Dec.{eqb}
+use lib.ListN.{length}
+use Rattle.tables.specs.Rows.{tableBytes}
+use Rattle.paper.specs.KeyedLaws.{Distinct}
+use Rattle.paper.specs.Cache.{Stepped}
+use Rattle.paper.specs.Engine.{Fixed}
+use Rattle.arc.specs.Policy.{Ran}
+use Rattle.arc.specs.Arc.{Lists}
+use Rattle.arclists.specs.Holding.{total, Holds, Kept, Low}
+use Rattle.parts.specs.declared.BoxRecord.{BoxRecord}
+use Rattle.parts.specs.Rep.{withHeld, Rep}
+use Rattle.step.specs.Steps.{OnceEach}
+use Rattle.arcstep.specs.declared.Running.{Running}
+use Rattle.arcstep.specs.declared.evict.Gone.{Gone}
+
+-- a paper box and its lists within a step
+abbrev pub Within : BoxRecord → Type 0
+Within b = Ran (Fixed 32) (Fixed (b .size)) Lists
+
+-- the numbers r and the bytes are those of R; its rows have different addresses, its used block rows different fingerprints, and its names fit in four bytes
+pub record Runs (b : BoxRecord) (r : Running) (disk flash addrs blocks lists : List ℕ) (R : Within b) : Type 0 where
+  pub box : Rep (withHeld b (r .held)) disk flash addrs blocks (R .stepped .box)
+  pub apart : Distinct eqb (λ x. x .address) (R .stepped .box .rows)
+  pub once : OnceEach (R .stepped .box .used)
+  pub names : Holds (b .rows) (r .sizes) lists (R .kept)
+  pub low : Low (R .kept)
+  pub flashed : r .flashed ≡ R .stepped .flashWrites
+  pub primary : r .primary ≡ R .stepped .primaryWrites
+
+-- they are those of some
+abbrev pub SomeRuns : (b : BoxRecord) → Running → (disk flash addrs blocks lists : List ℕ) → Type 0
+SomeRuns b r disk flash addrs blocks lists = (R : Within b) × Runs b r disk flash addrs blocks lists R
+
+-- the tables and the lists have room for the numbers, and no more blocks were copied than rows were taken out
+abbrev pub Fits : BoxRecord → Running → (addrs blocks lists : List ℕ) → Type 0
+Fits b r addrs blocks lists =
+    (0 < b .slots) × (b .slots ≤ 256) × (b .rows ≤ 1024) × (r .primary + r .held ≤ b .rows) × (length addrs ≡ tableBytes (b .rows))
+    × (length blocks ≡ tableBytes (b .slots)) × (total (r .sizes) * 4 ≤ length lists)
+
+-- no row more is held than before, each block copied was that of a row taken out, no name is more, and C and X stay
+abbrev pub Less : Running → Running → Type 0
+Less r s = (r .held ≤ s .held) × (r .primary + r .held ≤ s .primary + s .held) × (total (r .sizes) ≤ total (s .sizes)) × Kept (r .sizes) (s .sizes)
+
+-- the bytes are those of the box u after one row of t was taken out, and so many blocks more were copied to the disk
+pub record RowGone (b : BoxRecord) (r : Gone) (disk flash addrs blocks : List ℕ) (t u : Stepped (Fixed 32) (Fixed (b .size))) : Type 0 where
+  pub box : Rep (withHeld b (r .held)) disk flash addrs blocks (u .box)
+  pub apart : Distinct eqb (λ x. x .address) (u .box .rows)
+  pub same-used : u .box .used ≡ t .box .used
+  pub flashed : u .flashWrites ≡ t .flashWrites
+  pub primary : u .primaryWrites ≡ t .primaryWrites + r .primary

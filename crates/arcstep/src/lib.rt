@@ -1,0 +1,12 @@
+// The step of one request of a D-ARC box, on lent bytes: the rows, the blocks and the five lists of a paper box that runs through the parts of the step.
+pub mod evict;
+
+use arclists::ListSizes;
+
+// What runs through the parts of a step: how many rows are held, the lists' sizes with p, C and X, the blocks stored in the flash, and those copied to the disk.
+pub struct Running {
+    pub held: usize,
+    pub sizes: ListSizes,
+    pub flashed: usize,
+    pub primary: usize,
+}
