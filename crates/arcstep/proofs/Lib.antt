@@ -1,2 +1,4 @@
 -- The laws that the proofs share. Assumes nothing.
+pub mod Naming
 pub mod Evicting
+pub mod Leaving

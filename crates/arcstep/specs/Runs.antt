@@ -1,21 +1,30 @@
 -- When numbers and lent bytes are those of a paper box and its lists, between the first and the last part of a step. Assumes nothing.
 use mathlib.Core.Path.{_≡_}
 use mathlib.Core.List.{List}
-use Prim.Native.Nat.{ℕ, _+_, _*_, _≤_, _<_}
+use Prim.Native.Nat.{ℕ, _+_, _*_, _^_, _≤_, _<_}
 use lib.Dec.{eqb}
 use lib.ListN.{length}
 use Rattle.tables.specs.Rows.{tableBytes}
-use Rattle.paper.specs.KeyedLaws.{Distinct}
+use Rattle.paper.specs.KeyedLaws.{All, Distinct}
 use Rattle.paper.specs.Cache.{Stepped}
 use Rattle.paper.specs.Engine.{Fixed}
 use Rattle.arc.specs.Policy.{Ran}
-use Rattle.arc.specs.Arc.{Lists}
-use Rattle.arclists.specs.Holding.{total, Holds, Kept, Low}
+use Rattle.arc.specs.Arc.{Lists, evicted}
+use Rattle.arclists.specs.Holding.{total, Holds, Kept, ghosts, outOf}
+use Rattle.arclists.specs.declared.Ghost.{Ghost}
 use Rattle.parts.specs.declared.BoxRecord.{BoxRecord}
-use Rattle.parts.specs.Rep.{withHeld, Rep}
+use Rattle.parts.specs.Rep.{withHeld, Rep, engine}
 use Rattle.step.specs.Steps.{OnceEach}
 use Rattle.arcstep.specs.declared.Running.{Running}
 use Rattle.arcstep.specs.declared.evict.Gone.{Gone}
+
+-- each name fits in four bytes
+pub record Small (l : Lists) : Type 0 where
+  pub t1 : All (λ a. a < 2 ^ 32) (l .T1)
+  pub t2 : All (λ a. a < 2 ^ 32) (l .T2)
+  pub b1 : All (λ a. a < 2 ^ 32) (l .B1)
+  pub b2 : All (λ a. a < 2 ^ 32) (l .B2)
+  pub b3 : All (λ a. a < 2 ^ 32) (l .B3)
 
 -- a paper box and its lists within a step
 abbrev pub Within : BoxRecord → Type 0
@@ -27,9 +36,13 @@ pub record Runs (b : BoxRecord) (r : Running) (disk flash addrs blocks lists : L
   pub apart : Distinct eqb (λ x. x .address) (R .stepped .box .rows)
   pub once : OnceEach (R .stepped .box .used)
   pub names : Holds (b .rows) (r .sizes) lists (R .kept)
-  pub low : Low (R .kept)
+  pub low : Small (R .kept)
   pub flashed : r .flashed ≡ R .stepped .flashWrites
   pub primary : r .primary ≡ R .stepped .primaryWrites
+
+-- "B1's oldest, or B2's if B1 is empty, is evicted first", "B3's oldest is evicted": of one of the three lists
+abbrev pub evictedFrom : (b : BoxRecord) → Ghost → Within b → Within b
+evictedFrom b from R = record { kept = outOf from (R .kept); stepped = evicted (engine b) (ghosts from (R .kept)) (R .stepped) }
 
 -- they are those of some
 abbrev pub SomeRuns : (b : BoxRecord) → Running → (disk flash addrs blocks lists : List ℕ) → Type 0
