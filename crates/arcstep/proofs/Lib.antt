@@ -2,3 +2,4 @@
 pub mod Naming
 pub mod Evicting
 pub mod Leaving
+pub mod Ways

@@ -12,6 +12,7 @@ use Rattle.arc.specs.Policy.{Ran}
 use Rattle.arc.specs.Arc.{Lists, evicted}
 use Rattle.arclists.specs.Holding.{total, Holds, Kept, ghosts, outOf}
 use Rattle.arclists.specs.declared.Ghost.{Ghost}
+use Rattle.arclists.specs.declared.ListSizes.{ListSizes}
 use Rattle.parts.specs.declared.BoxRecord.{BoxRecord}
 use Rattle.parts.specs.Rep.{withHeld, Rep, engine}
 use Rattle.step.specs.Steps.{OnceEach}
@@ -44,6 +45,10 @@ pub record Runs (b : BoxRecord) (r : Running) (disk flash addrs blocks lists : L
 abbrev pub evictedFrom : (b : BoxRecord) → Ghost → Within b → Within b
 evictedFrom b from R = record { kept = outOf from (R .kept); stepped = evicted (engine b) (ghosts from (R .kept)) (R .stepped) }
 
+-- other sizes, and the rest as it is
+abbrev pub withSizes : Running → ListSizes → Running
+withSizes r s = record { held = r .held; sizes = s; flashed = r .flashed; primary = r .primary }
+
 -- they are those of some
 abbrev pub SomeRuns : (b : BoxRecord) → Running → (disk flash addrs blocks lists : List ℕ) → Type 0
 SomeRuns b r disk flash addrs blocks lists = (R : Within b) × Runs b r disk flash addrs blocks lists R
@@ -52,7 +57,7 @@ SomeRuns b r disk flash addrs blocks lists = (R : Within b) × Runs b r disk fla
 abbrev pub Fits : BoxRecord → Running → (addrs blocks lists : List ℕ) → Type 0
 Fits b r addrs blocks lists =
     (0 < b .slots) × (b .slots ≤ 256) × (b .rows ≤ 1024) × (r .primary + r .held ≤ b .rows) × (length addrs ≡ tableBytes (b .rows))
-    × (length blocks ≡ tableBytes (b .slots)) × (total (r .sizes) * 4 ≤ length lists)
+    × (length blocks ≡ tableBytes (b .slots)) × (total (r .sizes) * 4 ≤ length lists) × (r .sizes .cached + r .sizes .extra ≤ b .rows)
 
 -- no row more is held than before, each block copied was that of a row taken out, no name is more, and C and X stay
 abbrev pub Less : Running → Running → Type 0
