@@ -7,9 +7,9 @@ use arclists::moves;
 use arclists::replace as lists_replace;
 use parts::BoxRecord;
 ghost use mathlib.Core.Path.{_≡_};
-ghost use mathlib.Core.Bool.{cond};
 ghost use Prim.Native.Nat.{_+_, _≤_};
-ghost use Rattle.arc.specs.Arc.{roomInB, replace};
+ghost use Rattle.arc.specs.Arc.{Sizes, roomInB, replace, manage, check};
+ghost use Rattle.arclists.specs.Holding.{Limits};
 ghost use Rattle.parts.specs.Rep.{engine};
 ghost use Rattle.arcstep.specs.Runs.{Within, Runs, SomeRuns, Fits, Less, withSizes};
 
@@ -76,4 +76,94 @@ pub(crate) fn replace(
     let r = room(b, t, disk, flash, addrs, blocks, lists);
     let s = lists_replace::move_top(r.sizes, lists, top);
     with_sizes(r, s)
+}
+
+// MANAGEMETADATACACHE, where T1 and B1 have C or more together.
+pub(crate) fn manage_full(
+    b2: bool,
+    b: BoxRecord,
+    t: Running,
+    disk: &mut [u8],
+    flash: &[u8],
+    addrs: &mut [u8],
+    blocks: &[u8],
+    lists: &mut [u8],
+) -> Running
+    requires { ⌜ Fits b t (now addrs) (now blocks) (now lists) × (t .sizes .cached ≤ t .sizes .t1 + t .sizes .b1) ⌝ }
+    requires { ⌜ SomeRuns b t (now disk) (now flash) (now addrs) (now blocks) (now lists) ⌝ }
+    ensures { λ r. ⌜ Less r t ⌝ }
+    ensures { λ r. ⌜ ((R : Within b) → Runs b t (now (disk .entry)) (now (flash .entry)) (now (addrs .entry)) (now (blocks .entry)) (now (lists .entry)) R
+        → Runs b r (now (disk .exit)) (now (flash .entry)) (now (addrs .exit)) (now (blocks .entry)) (now (lists .exit))
+        (manage (engine b) (t .sizes .cached) b2 R)) ⌝ }
+{
+    if t.sizes.t1 < t.sizes.cached {
+        let s = moves::b1_to_b3(t.sizes, lists);
+        let r = with_sizes(t, s);
+        return replace(b2, b, r, disk, flash, addrs, blocks, lists);
+    }
+    if t.sizes.b1 == 0 {
+        let s = moves::t1_to_b3(t.sizes, lists);
+        return with_sizes(t, s);
+    }
+    let s = moves::b1_to_b3(t.sizes, lists);
+    let u = moves::t1_to_b1(s, lists);
+    with_sizes(t, u)
+}
+
+// MANAGEMETADATACACHE. "Of the metadata subroutine's four ways, the two that name the replacement always run it."
+pub(crate) fn manage(
+    b2: bool,
+    b: BoxRecord,
+    t: Running,
+    disk: &mut [u8],
+    flash: &[u8],
+    addrs: &mut [u8],
+    blocks: &[u8],
+    lists: &mut [u8],
+) -> Running
+    requires { ⌜ Fits b t (now addrs) (now blocks) (now lists) ⌝ }
+    requires { ⌜ SomeRuns b t (now disk) (now flash) (now addrs) (now blocks) (now lists) ⌝ }
+    ensures { λ r. ⌜ Less r t ⌝ }
+    ensures { λ r. ⌜ ((R : Within b) → Runs b t (now (disk .entry)) (now (flash .entry)) (now (addrs .entry)) (now (blocks .entry)) (now (lists .entry)) R
+        → Runs b r (now (disk .exit)) (now (flash .entry)) (now (addrs .exit)) (now (blocks .entry)) (now (lists .exit))
+        (manage (engine b) (t .sizes .cached) b2 R)) ⌝ }
+{
+    if t.sizes.cached <= t.sizes.t1 + t.sizes.b1 {
+        return manage_full(b2, b, t, disk, flash, addrs, blocks, lists);
+    }
+    if t.sizes.cached <= t.sizes.b1 + t.sizes.b2 {
+        let s = moves::b2_to_b3(t.sizes, lists);
+        let r = with_sizes(t, s);
+        return replace(b2, b, r, disk, flash, addrs, blocks, lists);
+    }
+    replace(b2, b, t, disk, flash, addrs, blocks, lists)
+}
+
+// CHECKMETADATACACHE. "B3's oldest is evicted only if there is one."
+pub(crate) fn check(
+    b2: bool,
+    b: BoxRecord,
+    t: Running,
+    disk: &mut [u8],
+    flash: &[u8],
+    addrs: &mut [u8],
+    blocks: &[u8],
+    lists: &mut [u8],
+) -> Running
+    requires { ⌜ Fits b t (now addrs) (now blocks) (now lists) ⌝ }
+    requires { ⌜ SomeRuns b t (now disk) (now flash) (now addrs) (now blocks) (now lists) ⌝ }
+    ensures { λ r. ⌜ Less r t ⌝ }
+    ensures { λ r. ⌜ ((Z : Sizes) (R : Within b) → Limits Z (t .sizes)
+        → Runs b t (now (disk .entry)) (now (flash .entry)) (now (addrs .entry)) (now (blocks .entry)) (now (lists .entry)) R
+        → Runs b r (now (disk .exit)) (now (flash .entry)) (now (addrs .exit)) (now (blocks .entry)) (now (lists .exit))
+        (check (engine b) Z b2 R)) ⌝ }
+{
+    if t.sizes.t1 + t.sizes.t2 + t.sizes.b3 != t.sizes.cached + t.sizes.extra {
+        return t;
+    }
+    if t.sizes.b3 == 0 {
+        let r = manage(b2, b, t, disk, flash, addrs, blocks, lists);
+        return evict::evict(Ghost::OfB3, b, r, disk, flash, addrs, blocks, lists);
+    }
+    evict::evict(Ghost::OfB3, b, t, disk, flash, addrs, blocks, lists)
 }
