@@ -119,6 +119,13 @@ parts-back l =
       take-whole (l .B3),
     ) refl
 
+-- the first of some addresses
+pub words-take : (k n : ℕ) (u : List ℕ) → k ≤ n → take k (words n u) ≡ words k u
+unfolding words
+words-take zero n u h = refl
+words-take (suc k) zero u h = absurd (omega (arith, h))
+words-take (suc k) (suc n) u h = ap (λ l. le4 u 0 ∷ l) (words-take k n (drop 4 u) (omega (arith, h)))
+
 pub total-end : (l : Lists) → length (endToEnd l) ≡ totalOf (listRecord l)
 total-end l =
     let e4 = length-append (l .B2) (l .B3) in
@@ -382,12 +389,6 @@ module _ {F X : Type 0} (H : Hashing F X) (Z : Sizes) (r : ListRecord) (t : List
           go : (l : List ℕ) → All (λ x. p x ≡ false) l → isIn x l ≡ true → p x ≡ false
           go [] a i = absurd (false≢true i)
           go (y ∷ ys) a i = either (or-cases (eqb x y) (isIn x ys) i) (λ e. subst (λ z. p z ≡ false) (sym (eqb→≡ x y e)) (a .0)) (λ e. go ys (a .1) e)
-
-  words-take : (k n : ℕ) (u : List ℕ) → k ≤ n → take k (words n u) ≡ words k u
-  unfolding words
-  words-take zero n u h = refl
-  words-take (suc k) zero u h = absurd (omega (arith, h))
-  words-take (suc k) (suc n) u h = ap (λ l. le4 u 0 ∷ l) (words-take k n (drop 4 u) (omega (arith, h)))
 
   tops-in : (x : ℕ) → onTop (listsIn r t) x ≡ true → isIn x (topsIn r t) ≡ true
   unfolding parts

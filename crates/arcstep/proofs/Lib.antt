@@ -3,3 +3,4 @@ pub mod Naming
 pub mod Evicting
 pub mod Leaving
 pub mod Ways
+pub mod Victims

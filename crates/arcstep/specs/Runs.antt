@@ -1,7 +1,7 @@
 -- When numbers and lent bytes are those of a paper box and its lists, between the first and the last part of a step. Assumes nothing.
 use mathlib.Core.Path.{_≡_}
 use mathlib.Core.List.{List}
-use Prim.Native.Nat.{ℕ, _+_, _*_, _^_, _≤_, _<_}
+use Prim.Native.Nat.{ℕ, _+_, _*_, _≤_, _<_}
 use lib.Dec.{eqb}
 use lib.ListN.{length}
 use Rattle.tables.specs.Rows.{tableBytes}
@@ -10,6 +10,7 @@ use Rattle.paper.specs.Cache.{Stepped}
 use Rattle.paper.specs.Engine.{Fixed}
 use Rattle.arc.specs.Policy.{Ran}
 use Rattle.arc.specs.Arc.{Lists, evicted}
+use Rattle.arc.specs.ArcMid.{named}
 use Rattle.arclists.specs.Holding.{total, Holds, Kept, ghosts, outOf}
 use Rattle.arclists.specs.declared.Ghost.{Ghost}
 use Rattle.arclists.specs.declared.ListSizes.{ListSizes}
@@ -19,19 +20,20 @@ use Rattle.step.specs.Steps.{OnceEach}
 use Rattle.arcstep.specs.declared.Running.{Running}
 use Rattle.arcstep.specs.declared.evict.Gone.{Gone}
 
--- each name fits in four bytes
+-- the names are below 65,536, the greatest P, and none is there twice
 pub record Small (l : Lists) : Type 0 where
-  pub t1 : All (λ a. a < 2 ^ 32) (l .T1)
-  pub t2 : All (λ a. a < 2 ^ 32) (l .T2)
-  pub b1 : All (λ a. a < 2 ^ 32) (l .B1)
-  pub b2 : All (λ a. a < 2 ^ 32) (l .B2)
-  pub b3 : All (λ a. a < 2 ^ 32) (l .B3)
+  pub t1 : All (λ a. a < 65536) (l .T1)
+  pub t2 : All (λ a. a < 65536) (l .T2)
+  pub b1 : All (λ a. a < 65536) (l .B1)
+  pub b2 : All (λ a. a < 65536) (l .B2)
+  pub b3 : All (λ a. a < 65536) (l .B3)
+  pub single : (x : ℕ) → named x l ≤ 1
 
 -- a paper box and its lists within a step
 abbrev pub Within : BoxRecord → Type 0
 Within b = Ran (Fixed 32) (Fixed (b .size)) Lists
 
--- the numbers r and the bytes are those of R; its rows have different addresses, its used block rows different fingerprints, and its names fit in four bytes
+-- the numbers r and the bytes are those of R; its rows have different addresses, its used block rows different fingerprints, and its names are small
 pub record Runs (b : BoxRecord) (r : Running) (disk flash addrs blocks lists : List ℕ) (R : Within b) : Type 0 where
   pub box : Rep (withHeld b (r .held)) disk flash addrs blocks (R .stepped .box)
   pub apart : Distinct eqb (λ x. x .address) (R .stepped .box .rows)

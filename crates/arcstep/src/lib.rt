@@ -1,6 +1,7 @@
 // The step of one request of a D-ARC box, on lent bytes: the rows, the blocks and the five lists of a paper box that runs through the parts of the step.
 pub mod evict;
 pub mod metadata;
+pub mod victim;
 
 use arclists::ListSizes;
 
