@@ -4,3 +4,4 @@ pub mod Evicting
 pub mod Leaving
 pub mod Ways
 pub mod Victims
+pub mod Clearing

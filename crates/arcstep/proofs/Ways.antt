@@ -1,5 +1,5 @@
 -- The subroutines of Algorithm 3, way by way, by the sizes of the lists. Assumes nothing.
-use mathlib.Core.Path.{_≡_, refl, sym, subst}
+use mathlib.Core.Path.{_≡_, refl, sym, _∙_, subst}
 use mathlib.Core.Bool.{Bool, true, false, _&&_, cond}
 use mathlib.Core.List.{List}
 use Prim.Native.Nat.{ℕ, _+_, _≤_, _<_}
@@ -16,7 +16,7 @@ use Rattle.arclists.specs.ReplaceLaws.{nil-yes, nil-no}
 use Rattle.parts.specs.declared.BoxRecord.{BoxRecord}
 use Rattle.parts.specs.Rep.{engine}
 use Rattle.arcstep.specs.declared.Running.{Running}
-use Rattle.arcstep.specs.Runs.{Within, Runs, Small, evictedFrom, withSizes}
+use Rattle.arcstep.specs.Runs.{Within, Runs, Small, FitsIn, Less, evictedFrom, withSizes}
 
 -- the same, told otherwise
 pub told : {b : BoxRecord} {r : Running} {disk flash addrs blocks lists : List ℕ} {R S : Within b} → S ≡ R → Runs b r disk flash addrs blocks lists R
@@ -146,3 +146,21 @@ pub topped : {b : BoxRecord} {r : Running} {disk flash addrs blocks lists : List
     → Runs b (withSizes r s) disk flash addrs blocks lists′ (cond top (listed (engine b) t1b1 R) (listed (engine b) t2b2 R))
 topped true s lists′ h q1 q2 k = relisted t1b1 s lists′ h q1 k
 topped false s lists′ h q1 q2 k = relisted t2b2 s lists′ h q2 k
+
+-- tables and lists that had room still have
+pub fits-less : (b : BoxRecord) (r t : Running) {addrs blocks lists addrs′ lists′ : ℕ} → FitsIn b t addrs blocks lists → Less r t → addrs′ ≡ addrs → lists′ ≡ lists
+    → FitsIn b r addrs′ blocks lists′
+fits-less b r t p l ea el = (
+  p .0,
+  p .1,
+  p .2,
+  omega (arith, p .3, l .1),
+  ea ∙ p .4,
+  p .5,
+  omega (arith, p .6, l .2, el),
+  omega (arith, p .7, l .3 .0, l .3 .1),
+  omega (arith, p .8, l .0),
+)
+
+pub less-less : (r s t : Running) → Less r s → Less s t → Less r t
+less-less r s t p q = (omega (arith, p .0, q .0), omega (arith, p .1, q .1), omega (arith, p .2, q .2), (p .3 .0 ∙ q .3 .0, p .3 .1 ∙ q .3 .1))

@@ -18,7 +18,9 @@ use Rattle.parts.specs.declared.BoxRecord.{BoxRecord}
 use Rattle.parts.specs.Rep.{withHeld, Rep, engine}
 use Rattle.step.specs.Steps.{OnceEach}
 use Rattle.arcstep.specs.declared.Running.{Running}
+use Rattle.arcstep.specs.declared.Cleared.{Cleared}
 use Rattle.arcstep.specs.declared.evict.Gone.{Gone}
+use Rattle.arcstep.specs.Victim.{victimAt}
 
 -- the names are below 65,536, the greatest P, and none is there twice
 pub record Small (l : Lists) : Type 0 where
@@ -55,11 +57,14 @@ withSizes r s = record { held = r .held; sizes = s; flashed = r .flashed; primar
 abbrev pub SomeRuns : (b : BoxRecord) → Running → (disk flash addrs blocks lists : List ℕ) → Type 0
 SomeRuns b r disk flash addrs blocks lists = (R : Within b) × Runs b r disk flash addrs blocks lists R
 
--- the tables and the lists have room for the numbers, and no more blocks were copied than rows were taken out
+-- tables and lists of these lengths have room for the numbers, and each row was copied at most twice
+abbrev pub FitsIn : BoxRecord → Running → (addrs blocks lists : ℕ) → Type 0
+FitsIn b r addrs blocks lists =
+    (0 < b .slots) × (b .slots ≤ 256) × (b .rows ≤ 1024) × (r .primary + r .held ≤ b .rows + b .rows) × (addrs ≡ tableBytes (b .rows))
+    × (blocks ≡ tableBytes (b .slots)) × (total (r .sizes) * 4 ≤ lists) × (r .sizes .cached + r .sizes .extra ≤ b .rows) × (r .held ≤ b .rows)
+
 abbrev pub Fits : BoxRecord → Running → (addrs blocks lists : List ℕ) → Type 0
-Fits b r addrs blocks lists =
-    (0 < b .slots) × (b .slots ≤ 256) × (b .rows ≤ 1024) × (r .primary + r .held ≤ b .rows) × (length addrs ≡ tableBytes (b .rows))
-    × (length blocks ≡ tableBytes (b .slots)) × (total (r .sizes) * 4 ≤ length lists) × (r .sizes .cached + r .sizes .extra ≤ b .rows)
+Fits b r addrs blocks lists = FitsIn b r (length addrs) (length blocks) (length lists)
 
 -- no row more is held than before, each block copied was that of a row taken out, no name is more, and C and X stay
 abbrev pub Less : Running → Running → Type 0
@@ -72,3 +77,8 @@ pub record RowGone (b : BoxRecord) (r : Gone) (disk flash addrs blocks : List �
   pub same-used : u .box .used ≡ t .box .used
   pub flashed : u .flashWrites ≡ t .flashWrites
   pub primary : u .primaryWrites ≡ t .primaryWrites + r .primary
+
+-- .. and the place is that of the block row that is taken from R
+pub record Clears (b : BoxRecord) (c : Cleared) (disk flash addrs blocks lists : List ℕ) (R : Within b) : Type 0 where
+  pub runs : Runs b (c .running) disk flash addrs blocks lists R
+  pub place-is : c .place ≡ victimAt (R .kept) (R .stepped .box)

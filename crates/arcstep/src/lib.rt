@@ -1,5 +1,6 @@
 // The step of one request of a D-ARC box, on lent bytes: the rows, the blocks and the five lists of a paper box that runs through the parts of the step.
 pub mod evict;
+pub mod insert;
 pub mod metadata;
 pub mod victim;
 
@@ -11,4 +12,10 @@ pub struct Running {
     pub sizes: ListSizes,
     pub flashed: usize,
     pub primary: usize,
+}
+
+// What runs on, and the place of the block row that can be taken then, the count of block rows for none.
+pub struct Cleared {
+    pub running: Running,
+    pub place: usize,
 }

@@ -20,7 +20,7 @@ evict-row-requires c κs =
     let s = c .before .before .before .before .before .before .before .before .before .before .before .before in
     let p = s .pre .0 in
     let q = s .pre .1 in
-    rw (c .before .before .with-held .ensures) ((p .0, (omega (arith, p .3), p .4, p .5)), (q .0 .stepped .box, q .1 .box))
+    rw (c .before .before .with-held .ensures) ((p .0, (p .8, p .4, p .5)), (q .0 .stepped .box, q .1 .box))
 
 add-t23 : tie.Need-add-t23
 add-t23 c =

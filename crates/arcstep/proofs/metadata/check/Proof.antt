@@ -4,7 +4,7 @@ use native.Mathlib.Omega.{arith}
 use borrow.Author.Needs.{needs}
 use Rattle.arc.specs.Arc.{manage}
 use Rattle.parts.specs.Rep.{engine}
-use Rattle.arcstep.proofs.Ways.{told, check-not, check-none, check-some}
+use Rattle.arcstep.proofs.Ways.{told, fits-less, check-not, check-none, check-some}
 use Rattle.arcstep.proofs.metadata.check.Statement.{statement}
 use Rattle.arcstep.proofs.metadata.check.Tie as tie
 
@@ -20,7 +20,7 @@ evict-requires c κs =
     let p = start .pre .0 in
     let q = start .pre .1 in
     let m = c .before .before .before .before .before .before .before .before .before .manage .ensures in (
-      (p .0, p .1, p .2, omega (arith, p .3, m .0 .1), omega (arith, p .4), omega (arith, p .5), omega (arith, p .6, m .0 .2), omega (arith, p .7, m .0 .3 .0, m .0 .3 .1)),
+      fits-less (start .args .b) (c .before .before .before .before .before .before .before .before .before .manage .result) (start .args .t) p (m .0) (omega arith) (omega arith),
       (manage (engine (start .args .b)) (start .args .t .sizes .cached) (start .args .b2) (q .0), m .1 (q .0) (q .1)),
     )
 

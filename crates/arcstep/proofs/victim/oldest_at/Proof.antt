@@ -33,7 +33,7 @@ mark-tops-requires c κs =
     let a = start .args in
     let p = start .pre .0 in
     let h = start .pre .1 .0 .3 .box .rows-are in (
-      (omega (arith, p .3, p .4), c .before .before .before .names-marked .ensures .1 .1, (omega (arith, p .5), p .1), length-replicate {A = ℕ} 257 0),
+      (omega (arith, p .8, p .4), c .before .before .before .names-marked .ensures .1 .1, (omega (arith, p .5), p .1), length-replicate {A = ℕ} 257 0),
       (
         (λ k l.
             let e = address-is (a .b .blocks) (a .b .rows) (a .t .held) (a .addrs .now) _ h k l noRow in
