@@ -53,7 +53,7 @@ module _ {F : Type 0} where
   in-map x [] = refl
   in-map x (r ∷ rs) = ap (λ b. eqb x (r .address) || b) (in-map x rs)
 
-  in-below : (P x : ℕ) (rows : List (AddressRow F)) → All (λ r. r .address < P) rows → held x rows ≡ true → x < P
+  pub in-below : (P x : ℕ) (rows : List (AddressRow F)) → All (λ r. r .address < P) rows → held x rows ≡ true → x < P
   in-below P x [] b h = absurd (false≢true h)
   in-below P x (r ∷ rs) b h =
       either (or-cases (eqb x (r .address)) (held x rs) h) (λ e. subst (λ y. y < P) (sym (eqb→≡ x (r .address) e)) (b .0)) (λ e. in-below P x rs (b .1) e)

@@ -23,7 +23,7 @@ use Rattle.step.specs.Steps.{OnceEach, Picked, pickedTaken}
 use Rattle.step.specs.Taking.{taken-at}
 use Rattle.arcstep.specs.declared.Cleared.{Cleared}
 use Rattle.arcstep.specs.Victim.{oldestAt, victimAt}
-use Rattle.arcstep.specs.Runs.{Within, Clears}
+use Rattle.arcstep.specs.Runs.{Within, Clears, Taken}
 
 -- there is a row to be taken if its place is below the count of rows
 module _ (b : BoxRecord) (t : List ℕ) (l : Lists) (s : Box (Fixed 32) (Fixed (b .size))) (d0 : 0 < b .slots) where
@@ -94,3 +94,10 @@ ends {b} {c} {disk} {flash} {addrs} {blocks} {lists} {C} {k} {K} {b2} {R} g e n 
 pub cleared-as : {b : BoxRecord} {c : Cleared} {disk flash addrs blocks lists : List ℕ} {R S : Within b} → S ≡ R → Clears b c disk flash addrs blocks lists R
     → Clears b c disk flash addrs blocks lists S
 cleared-as {b} {c} {disk} {flash} {addrs} {blocks} {lists} e h = subst (λ x. Clears b c disk flash addrs blocks lists x) (sym e) h
+
+-- there is a row, and its place is the one found
+pub has-taken : (b : BoxRecord) (c : Cleared) (disk flash addrs blocks lists : List ℕ) (R : Within b) → Clears b c disk flash addrs blocks lists R → 0 < b .slots
+    → hasRow (engine b) (R .kept) (R .stepped .box) ≡ true → Taken b (c .place) R
+has-taken b c disk flash addrs blocks lists R k d0 e =
+    let y = ltb-true (victimAt (R .kept) (R .stepped .box)) (b .slots) (sym (row-tells b blocks (R .kept) (R .stepped .box) d0 (k .runs .box .blocks-are)) ∙ e) in
+    let p = k .place-is in (p, omega (arith, p, y))

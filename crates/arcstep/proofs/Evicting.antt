@@ -35,7 +35,7 @@ set-all Q [] i x h q = h
 set-all Q (y ∷ l) zero x h q = (q (omega arith), h .1)
 set-all Q (y ∷ l) (suc i) x h q = (h .0, set-all Q l i x (h .1) (λ k. q (omega (arith, k))))
 
-get-all : {A : Type 0} (Q : A → Type 0) (l : List A) (i : ℕ) (x : A) → All Q l → i < length l → Q (getD l i x)
+pub get-all : {A : Type 0} (Q : A → Type 0) (l : List A) (i : ℕ) (x : A) → All Q l → i < length l → Q (getD l i x)
 get-all Q [] i x h k = absurd (omega (arith, k))
 get-all Q (y ∷ l) zero x h k = h .0
 get-all Q (y ∷ l) (suc i) x h k = get-all Q l i x (h .1) (omega (arith, k))

@@ -5,3 +5,5 @@ pub mod Leaving
 pub mod Ways
 pub mod Victims
 pub mod Clearing
+pub mod Inserting
+pub mod Parting

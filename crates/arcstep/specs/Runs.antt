@@ -1,5 +1,6 @@
 -- When numbers and lent bytes are those of a paper box and its lists, between the first and the last part of a step. Assumes nothing.
 use mathlib.Core.Path.{_≡_}
+use mathlib.Core.Bool.{Bool, true, false}
 use mathlib.Core.List.{List}
 use Prim.Native.Nat.{ℕ, _+_, _*_, _≤_, _<_}
 use lib.Dec.{eqb}
@@ -9,7 +10,7 @@ use Rattle.paper.specs.KeyedLaws.{All, Distinct}
 use Rattle.paper.specs.Cache.{Stepped}
 use Rattle.paper.specs.Engine.{Fixed}
 use Rattle.arc.specs.Policy.{Ran}
-use Rattle.arc.specs.Arc.{Lists, evicted}
+use Rattle.arc.specs.Arc.{Sizes, Lists, Was, inT1, inT2, inB1, inB2, inB3, unheld, evicted, hasRow, cleared!}
 use Rattle.arc.specs.ArcMid.{named}
 use Rattle.arclists.specs.Holding.{total, Holds, Kept, ghosts, outOf}
 use Rattle.arclists.specs.declared.Ghost.{Ghost}
@@ -82,3 +83,31 @@ pub record RowGone (b : BoxRecord) (r : Gone) (disk flash addrs blocks : List �
 pub record Clears (b : BoxRecord) (c : Cleared) (disk flash addrs blocks lists : List ℕ) (R : Within b) : Type 0 where
   pub runs : Runs b (c .running) disk flash addrs blocks lists R
   pub place-is : c .place ≡ victimAt (R .kept) (R .stepped .box)
+
+-- j is the place of the block row that is taken, and there is one
+abbrev pub Taken : (b : BoxRecord) → ℕ → Within b → Type 0
+Taken b j R = (j ≡ victimAt (R .kept) (R .stepped .box)) × (j < b .slots)
+
+-- "the replacement runs again until there is" a row
+abbrev pub Ends : (b : BoxRecord) → (C : ℕ) → Bool → Within b → Type 0
+Ends b C b2 R = hasRow (engine b) (cleared! (engine b) C b2 R .kept) (cleared! (engine b) C b2 R .stepped .box) ≡ true
+
+-- the numbers of a box with this record and these sizes of its lists
+abbrev pub sizesFor : BoxRecord → ListSizes → Sizes
+sizesFor b s = record { B = b .size; P = b .blocks; C = s .cached; X = s .extra; label = b .label; t = b .limit }
+
+-- the numbers r and the bytes are those of R, when the step is done
+pub record Stands (b : BoxRecord) (r : Running) (disk flash addrs blocks lists : List ℕ) (R : Within b) : Type 0 where
+  pub box : Rep (withHeld b (r .held)) disk flash addrs blocks (R .stepped .box)
+  pub names : Holds (b .rows) (r .sizes) lists (R .kept)
+  pub flashed : r .flashed ≡ R .stepped .flashWrites
+  pub primary : r .primary ≡ R .stepped .primaryWrites
+
+-- Algorithm 2 runs CHECK for an address of B1 or B2 and for a new one
+abbrev pub needsCheck : Was → Bool
+needsCheck inT1 = false
+needsCheck inT2 = false
+needsCheck inB1 = true
+needsCheck inB2 = true
+needsCheck inB3 = false
+needsCheck unheld = true

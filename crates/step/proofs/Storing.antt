@@ -8,18 +8,18 @@ use native.Mathlib.Omega.{arith}
 use lib.ListN.{length, getD, set, take, drop, drop-of-length-le}
 use lib.Seq.{take-all}
 use Rattle.parts.specs.declared.BoxRecord.{BoxRecord}
-use Rattle.tables.specs.Rows.{rowAt, removeAt}
+use Rattle.tables.specs.Rows.{rowAt}
 use Rattle.paper.specs.KeyedLaws.{Distinct}
-use Rattle.paper.specs.Cache.{AddressRow, BlockRow, Box, Taken, blockRow, withoutBlock, cached, slotOf, copied, copies, cleaned, isLost, taken, stored, step4}
+use Rattle.paper.specs.Cache.{AddressRow, BlockRow, Box, Taken, blockRow, cached, copied, copies, cleaned, isLost, taken, stored, step4}
 use Rattle.paper.specs.Engine.{Fixed, comparing}
 use Rattle.paper.specs.Lent.{join}
-use Rattle.paper.specs.Index.{indexWhere, index-holds, has-yes, has-no, without-yes, slotOf-yes}
+use Rattle.paper.specs.Index.{indexWhere, has-yes, has-no}
 use Rattle.paper.specs.Layout.{Blocks, addressesOf, blocksOf}
 use Rattle.parts.specs.Rep.{numbersOf, Rep, Copied, copiedRows, partBox, engine}
 use Rattle.parts.specs.Asked.{noBlock, victimPlace}
 use Rattle.step.specs.Steps.{Picked, pickedTaken, Out4, out4}
-use Rattle.parts.specs.MoveLaws.{slot-is, slot-below, first-slot, renewed}
-use Rattle.step.specs.Taking.{victim-picked, taken-is}
+use Rattle.parts.specs.MoveLaws.{slot-is, slot-below, first-slot}
+use Rattle.step.specs.Taking.{victim-picked, taken-is, renewed-at}
 use Rattle.tables.specs.Records.{readBlock}
 use Rattle.tables.specs.Operations.{rowNewest}
 
@@ -83,16 +83,9 @@ module _ (b : BoxRecord) (disk flash addrs blocks : List ℕ) (s : Box (Fixed 32
       → _≡_ {A = Out4} (record { flashed = 0; primary = 0; disk = disk; flash = flash; addrs = addrs; blocks = blocks′ }) (out4 b (step4 (engine b) (s .rows) (record { free = s .free; used = s .used }) (s .flash) (s .disk) f x 0))
   unfolding out4 step4
   step4-hit ds l blocks′ eb =
-      let i : ℕ = indexWhere (λ (u : BlockRow (Fixed 32)). comparing .same f (u .fingerprint)) (s .used) in
-      let ib : i < length (s .used) = omega (arith, ej, h .blocks-are .count) in
-      let y : cached (engine b) f (s .used) ≡ true = has-yes (comparing .same) (λ (u : BlockRow (Fixed 32)). u .fingerprint) f (s .used) ib in
-      let fe : getD (s .used) i noBlock .fingerprint ≡ f = sym (comparing .same→≡ f (getD (s .used) i noBlock .fingerprint) (index-holds (λ (u : BlockRow (Fixed 32)). comparing .same f (u .fingerprint)) (s .used) noBlock ib)) in
-      let se : getD (s .used) i noBlock .slot ≡ slotOf (engine b) f (s .used) = sym (slotOf-yes (engine b) f (s .used) noBlock ib) in
-      let ue : getD (s .used) i noBlock ≡ blockRow f (slotOf (engine b) f (s .used)) = λ n. record { fingerprint = fe n; slot = se n } in
-      let wo : withoutBlock (engine b) f (s .used) ≡ removeAt (s .used) i = without-yes (comparing .same) (λ (u : BlockRow (Fixed 32)). u .fingerprint) f (comparing .same→≡) (s .used) ds ib in
-      let e5 : blocks′ ≡ blocksOf (s .free) (withoutBlock (engine b) f (s .used) ++ (blockRow f (slotOf (engine b) f (s .used)) ∷ []))
-      = eb ∙ ap (λ (n : ℕ). rowNewest (b .slots) n blocks) ej ∙ renewed (b .slots) blocks (s .free) (s .used) (h .blocks-are) i ib noBlock
-      ∙ ap₂ {C = List ℕ} (λ u v. blocksOf (s .free) (u ++ (v ∷ []))) (sym wo) ue in
+      let y : cached (engine b) f (s .used) ≡ true
+      = has-yes (comparing .same) (λ (u : BlockRow (Fixed 32)). u .fingerprint) f (s .used) (omega (arith, ej, l, h .blocks-are .count)) in
+      let e5 = eb ∙ renewed-at (numbersOf b) (b .slots) blocks (s .free) (s .used) (h .blocks-are) ds f j ej l in
       rw y (λ n. record { flashed = 0; primary = 0; disk = h .disk-is .is n; flash = h .flash-is .is n; addrs = h .rows-are .is n; blocks = e5 n })
 
   pub step4-miss : b .slots ≤ j → (o : Out4) → o ≡ out4 b (stored (engine b) (s .rows) (s .used) (s .flash) (s .disk) f x 0 (taken (engine b) (s .rows) (s .free) (s .used)))

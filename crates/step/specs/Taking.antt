@@ -1,19 +1,22 @@
 -- The row that step 4 takes, and what is taken with it. Assumes nothing.
-use mathlib.Core.Path.{_≡_, refl, sym, ap, _∙_}
+use mathlib.Core.Path.{_≡_, refl, sym, ap, ap₂, _∙_}
 use mathlib.Core.Bool.{true, not}
 use mathlib.Core.List.{List, [], _∷_, _++_}
 use mathlib.Core.Option.{none, some}
-use Prim.Native.Nat.{ℕ, suc, zero, _<_}
+use Prim.Native.Nat.{ℕ, suc, zero, _+_, _<_}
 use native.Mathlib.Nat.{le-of-suc-le-suc, zero-add}
 use native.Mathlib.Omega.{arith}
 use lib.Dec.{ltb}
 use lib.ListN.{length, getD, take, drop}
 use Rattle.paper.specs.KeyedLaws.{by-test, clash, Distinct}
-use Rattle.paper.specs.Cache.{Numbers, AddressRow, BlockRow, known, slotOf, taken, takenUsed, victim}
+use Rattle.paper.specs.Cache.{Numbers, AddressRow, BlockRow, blockRow, withoutBlock, known, slotOf, taken, takenUsed, victim}
 use Rattle.paper.specs.Engine.{Fixed, labelled, comparing}
-use Rattle.paper.specs.Index.{indexWhere, unknown-yes, unknown-no, has-at, without-at}
-use Rattle.paper.specs.Layout.{Blocks}
+use Rattle.paper.specs.Index.{indexWhere, index-holds, unknown-yes, unknown-no, has-at, without-at, without-yes, slotOf-yes}
+use Rattle.paper.specs.Layout.{Blocks, blocksOf}
 use Rattle.parts.specs.Asked.{noBlock, victimPlace}
+use Rattle.parts.specs.MoveLaws.{renewed}
+use Rattle.tables.specs.Rows.{removeAt}
+use Rattle.tables.specs.Operations.{rowNewest}
 use Rattle.step.specs.Steps.{Picked, pickedTaken}
 
 -- the row that victim gives can be taken
@@ -59,3 +62,18 @@ taken-is N l [] used d =
         → takenUsed (labelled N) (victim (labelled N) none us) us ≡ pickedTaken [] us 0
     oldest [] d p = absurd (omega arith)
     oldest (u ∷ us) d p = taken-at N (u ∷ us) d 0 p
+
+-- the row of a cached fingerprint becomes newest
+pub renewed-at : (N : Numbers) (d : ℕ) (t : List ℕ) (free : List ℕ) (used : List (BlockRow (Fixed 32))) → Blocks d t free used
+    → Distinct (comparing .same) (λ u. u .fingerprint) used → (f : Fixed 32) (j : ℕ) → j ≡ length free + indexWhere (λ u. comparing .same f (u .fingerprint)) used → j < d
+    → rowNewest d j t ≡ blocksOf free (withoutBlock (labelled N) f used ++ (blockRow f (slotOf (labelled N) f used) ∷ []))
+renewed-at N d t free used h ds f j ej l =
+    let i : ℕ = indexWhere (λ (u : BlockRow (Fixed 32)). comparing .same f (u .fingerprint)) used in
+    let ib : i < length used = omega (arith, ej, l, h .count) in
+    let fe : getD used i noBlock .fingerprint ≡ f
+    = sym (comparing .same→≡ f (getD used i noBlock .fingerprint) (index-holds (λ (u : BlockRow (Fixed 32)). comparing .same f (u .fingerprint)) used noBlock ib)) in
+    let se : getD used i noBlock .slot ≡ slotOf (labelled N) f used = sym (slotOf-yes (labelled N) f used noBlock ib) in
+    let ue : getD used i noBlock ≡ blockRow f (slotOf (labelled N) f used) = λ n. record { fingerprint = fe n; slot = se n } in
+    let wo : withoutBlock (labelled N) f used ≡ removeAt used i
+    = without-yes (comparing .same) (λ (u : BlockRow (Fixed 32)). u .fingerprint) f (comparing .same→≡) used ds ib in
+    ap (λ (n : ℕ). rowNewest d n t) ej ∙ renewed d t free used h i ib noBlock ∙ ap₂ {C = List ℕ} (λ u v. blocksOf free (u ++ (v ∷ []))) (sym wo) ue
