@@ -14,7 +14,7 @@ use Rattle.paper.specs.Cache.{Box, known}
 use Rattle.paper.specs.Engine.{Fixed, comparing}
 use Rattle.paper.specs.Index.{indexWhere, unknown-yes, unknown-no}
 use Rattle.paper.specs.Layout.{Blocks}
-use Rattle.arc.specs.Arc.{Lists, topRows, hasRow, takenBy, replace, cleared, cleared!}
+use Rattle.arc.specs.Arc.{Lists, topRows, hasRow, takenBy, replace, cleared, cleared! }
 use Rattle.arclists.specs.Holding.{Sized}
 use Rattle.parts.specs.declared.BoxRecord.{BoxRecord}
 use Rattle.parts.specs.Rep.{numbersOf, engine}

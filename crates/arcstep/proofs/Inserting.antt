@@ -17,7 +17,7 @@ use Rattle.paper.specs.Cache.{AddressRow, BlockRow, Box, Taken, blockRow, witho
 use Rattle.paper.specs.Engine.{Fixed, comparing}
 use Rattle.paper.specs.Index.{indexWhere, has-yes, has-no, without-yes}
 use Rattle.paper.specs.Layout.{Blocks, blocksOf}
-use Rattle.arc.specs.Arc.{Lists, takenBy, victimOf, storedIn, blockNewest, inserted, cleared!}
+use Rattle.arc.specs.Arc.{Lists, takenBy, victimOf, storedIn, blockNewest, inserted, cleared! }
 use Rattle.parts.specs.declared.BoxRecord.{BoxRecord}
 use Rattle.parts.specs.Rep.{numbersOf, withHeld, engine}
 use Rattle.parts.specs.Asked.{noBlock}

@@ -7,3 +7,4 @@ pub mod Victims
 pub mod Clearing
 pub mod Inserting
 pub mod Parting
+pub mod Requests

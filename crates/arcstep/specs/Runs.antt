@@ -10,7 +10,7 @@ use Rattle.paper.specs.KeyedLaws.{All, Distinct}
 use Rattle.paper.specs.Cache.{Stepped}
 use Rattle.paper.specs.Engine.{Fixed}
 use Rattle.arc.specs.Policy.{Ran}
-use Rattle.arc.specs.Arc.{Sizes, Lists, Was, inT1, inT2, inB1, inB2, inB3, unheld, evicted, hasRow, cleared!}
+use Rattle.arc.specs.Arc.{Sizes, Lists, Was, inT1, inT2, inB1, inB2, inB3, unheld, evicted, hasRow, cleared! }
 use Rattle.arc.specs.ArcMid.{named}
 use Rattle.arclists.specs.Holding.{total, Holds, Kept, ghosts, outOf}
 use Rattle.arclists.specs.declared.Ghost.{Ghost}

@@ -69,7 +69,7 @@ pub(crate) fn settle(
         × (t .primary + t .held + t .held ≤ b .rows + b .rows) ⌝ }
     requires { ⌜ ((R : Within b) × Runs b t (now disk) (now flash) (now addrs) (now blocks) (now lists) R × Ends b (t .sizes .cached) (wasB2 (wasOf was)) R) ⌝ }
     requires { ⌜ Indexed (b .slots) (now blocks) (now heads) ⌝ }
-    ensures { λ r. ⌜ (r .held ≤ t .held) × (r .primary ≤ t .primary + t .held + t .held) × (r .flashed ≤ 1) × Kept (r .sizes) (t .sizes) ⌝ }
+    ensures { λ r. ⌜ (r .held ≤ t .held) × (r .primary ≤ t .primary + t .held + t .held) × Kept (r .sizes) (t .sizes) ⌝ }
     ensures { λ r. ⌜ ((Z : Sizes) (R : Within b) (f : Fixed 32) (x : Fixed (b .size)) → Limits Z (t .sizes)
         → Runs b t (now (disk .entry)) (now (flash .entry)) (now (addrs .entry)) (now (blocks .entry)) (now (lists .entry)) R
         → Ends b (t .sizes .cached) (wasB2 (wasOf was)) R → f .0 ≡ now (g .entry) → x .0 ≡ now (block .entry)
@@ -115,6 +115,18 @@ pub fn step(
     let p = ends::part(b, s, a, addrs, lists);
     let was = p.was;
     let t = p.running;
-    let r = settle(was, b, t, disk, flash, addrs, blocks, lists, g, block, heads);
+    let r = settle(
+        was,
+        b,
+        t,
+        disk,
+        flash,
+        addrs,
+        blocks,
+        lists,
+        g,
+        block,
+        heads,
+    );
     ends::join(b, r, was, a, g, dirty, seat, addrs, lists)
 }

@@ -107,7 +107,7 @@ pub unmarked-is : (d : ℕ) (t : List ℕ) (hs : List (List ℕ)) (known : List 
     → ((k : ℕ) → k < d → getD known k 0 ≡ mark (elem k (map (placeIn (rows d t)) hs))) → Tells d t known hs
 unmarked-is d t hs known few u m k h =
     elim (isUsed (rowAt t k)) as (λ q. isUsed (rowAt t k) ≡ q → q && eqb (getD known k 0) 0
-        ≡ q && absent (findFrom (hasFingerprint (readBlock (rowAt t k) .fingerprint)) 0 hs)) [
+    ≡ q && absent (findFrom (hasFingerprint (readBlock (rowAt t k) .fingerprint)) 0 hs)) [
       | true ↦ λ o.
           (let r = rows-at d t k h in
           let i : getD known k 0 ≡ mark (not (absent (findFrom (hasFingerprint (readBlock (getD (rows d t) k []) .fingerprint)) 0 hs))) =

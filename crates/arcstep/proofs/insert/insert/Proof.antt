@@ -4,7 +4,7 @@ use mathlib.Core.Bool.{true}
 use native.Mathlib.Omega.{arith}
 use borrow.Author.Needs.{needs}
 use borrow.Author.Tests.{ltb-true}
-use Rattle.arc.specs.Arc.{cleared!}
+use Rattle.arc.specs.Arc.{cleared! }
 use Rattle.parts.specs.Rep.{engine}
 use Rattle.arcstep.specs.Runs.{Within, Taken, Clears, Ends}
 use Rattle.arcstep.proofs.Ways.{told}

@@ -15,8 +15,8 @@ returns-2 : tie.Need-returns-2
 returns-2 c =
     let a = c .before .before .before .before .before .before .before .args in
     λ disk flash R h.
-        let e = first-used (a .b .slots) (a .blocks .now) (R .stepped .box .used) (R .stepped .box .free) (h .box .blocks-are) (sym (c .before .before .is-used .ensures) ∙ not-false _ (c .before .if1 .left)) in
-        none-free (R .kept) (R .stepped .box) e _ (c .oldest-at .ensures disk flash R h e)
+    let e = first-used (a .b .slots) (a .blocks .now) (R .stepped .box .used) (R .stepped .box .free) (h .box .blocks-are) (sym (c .before .before .is-used .ensures) ∙ not-false _ (c .before .if1 .left)) in
+    none-free (R .kept) (R .stepped .box) e _ (c .oldest-at .ensures disk flash R h e)
 
 pub victim-spec : {M : Type 1} → statement M
 victim-spec =
