@@ -19,7 +19,7 @@ pub struct ArcOutcome {
 }
 
 // A refusal: the number, and the rest as given.
-fn refused(number: u32, a: ArcRecord, c: Counters) -> ArcOutcome
+pub fn refused(number: u32, a: ArcRecord, c: Counters) -> ArcOutcome
     ensures { λ r. ⌜ r ≡ record { answer = Refused number; arc_record = a; counters = c } ⌝ }
 {
     ArcOutcome {
@@ -30,7 +30,7 @@ fn refused(number: u32, a: ArcRecord, c: Counters) -> ArcOutcome
 }
 
 // What the base's call gives back, for the D-ARC box: the lists' sizes, p, C and X stay.
-fn answered(a: ArcRecord, o: Outcome) -> ArcOutcome
+pub fn answered(a: ArcRecord, o: Outcome) -> ArcOutcome
     ensures { λ r. ⌜ r ≡ record { answer = o .answer; arc_record = withHeld a (o .box_record .held); counters = o .counters } ⌝ }
 {
     let answer = o.answer;
