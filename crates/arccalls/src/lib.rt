@@ -30,7 +30,7 @@ pub fn refused(number: u32, a: ArcRecord, c: Counters) -> ArcOutcome
 }
 
 // What the base's call gives back, for the D-ARC box: the lists' sizes, p, C and X stay.
-pub fn answered(a: ArcRecord, o: Outcome) -> ArcOutcome
+fn answered(a: ArcRecord, o: Outcome) -> ArcOutcome
     ensures { λ r. ⌜ r ≡ record { answer = o .answer; arc_record = withHeld a (o .box_record .held); counters = o .counters } ⌝ }
 {
     let answer = o.answer;
