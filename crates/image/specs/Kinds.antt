@@ -86,7 +86,3 @@ arcForm =
 -- "a body that starts above 1" has no form
 unfoldable pub kinds : ℕ → Option Form
 kinds k = cond (eqb k 0) (some lruForm) (cond (eqb k 1) (some arcForm) none)
-
--- nor has one that starts above 0, where boxes run D-LRU alone
-unfoldable pub lruKinds : ℕ → Option Form
-lruKinds k = cond (eqb k 0) (some lruForm) none

@@ -1,6 +1,7 @@
 -- The body follows the header, as long as that says. Assumes nothing.
 use native.Mathlib.Omega.{arith}
-use Rattle.restoring.specs.FoundLaws.{found-header, found-room, taken-body}
+use Rattle.restoring.specs.RestoreLaws.{found-header, found-room}
+use Rattle.restoring.specs.FoundLaws.{taken-body}
 use borrow.Author.Needs.{needs}
 use Rattle.restoring.proofs.body_in.Statement.{statement}
 use Rattle.restoring.proofs.body_in.Tie as tie
