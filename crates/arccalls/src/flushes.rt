@@ -41,7 +41,8 @@ pub fn flush_served(
     c: Counters,
     heads: &[u16],
 ) -> ArcOutcome
-    requires { ⌜ arcRefusal (sizesOf a) (arcLent a (now disk) (now flash) (now addresses) (now blocks) (now lists) (countersOf c)) (calling (Ask.flush k)) ≡ 0 ⌝ }
+    requires { ⌜ arcRefusal (sizesOf a) (arcLent a (now disk) (now flash) (now addresses) (now blocks) (now lists) (countersOf c)) (calling (Ask.flush k))
+        ≡ 0 ⌝ }
     requires { ⌜ Indexed (a .sizes .cached) (now blocks) (now heads) ⌝ }
     ensures { λ r. ⌜ arcTold r (now (disk .exit)) (now (flash .entry)) (now (addresses .exit)) (now (blocks .entry)) (now (lists .entry)) Option.none
         ≡ arcCalled a (arcLent a (now (disk .entry)) (now (flash .entry)) (now (addresses .entry)) (now (blocks .entry)) (now (lists .entry)) (countersOf c))

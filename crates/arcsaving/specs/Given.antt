@@ -15,17 +15,15 @@ use Rattle.image.specs.Kinds.{arcFields}
 use Rattle.image.specs.Saved.{Saved, arcSaver, save}
 use Rattle.arcrefusals.specs.declared.ArcRecord.{ArcRecord}
 use Rattle.arcrefusals.specs.Given.{sizesOf, arcLent}
+use Rattle.restoring.specs.Given.{arcLong}
 use Rattle.arccalls.specs.declared.ArcOutcome.{ArcOutcome}
 
--- the fields and the body of a box with these tables and lists, and how long that is: 52 bytes of numbers, 64 of label, the tables, the lists
+-- the fields and the body of a box with these tables and lists
 abbrev pub fieldsOf : ArcRecord → (addresses blocks lists : List ℕ) → Fields
 fieldsOf a addresses blocks lists = arcFields (sizesOf a) (arcLent a [] [] addresses blocks lists noCounts)
 
 abbrev pub arcBody : ArcRecord → (addresses blocks lists : List ℕ) → List ℕ
 arcBody a addresses blocks lists = bodyOf (fieldsOf a addresses blocks lists)
-
-abbrev pub longOf : ArcRecord → ℕ
-longOf a = 116 + mOf (sizesOf a) * 40 + a .sizes .cached * 40 + mOf (sizesOf a) * 4
 
 -- a box whose numbers have 4 bytes and whose label, tables and lists have their lengths, and an area with room for it
 pub record Writable (a : ArcRecord) (addresses blocks lists area : List ℕ) : Type 0 where
@@ -33,8 +31,8 @@ pub record Writable (a : ArcRecord) (addresses blocks lists area : List ℕ) : T
   pub cached : a .sizes .cached ≤ 256
   pub rows : mOf (sizesOf a) ≤ 1024
   pub label : length (a .label) ≡ 64
-  pub long : length (arcBody a addresses blocks lists) ≡ longOf a
-  pub room : 64 + writesFor (longOf a) * 64 ≤ length area
+  pub long : length (arcBody a addresses blocks lists) ≡ arcLong a
+  pub room : 64 + writesFor (arcLong a) * 64 ≤ length area
 
 -- what a save tells and leaves: the numbers of its box record, its answer, what is lent and the area
 pub record ArcSavedTold : Type 0 where

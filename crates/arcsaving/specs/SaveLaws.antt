@@ -20,7 +20,7 @@ use Rattle.image.specs.Body.{Fields, bodyOf}
 use Rattle.image.specs.Area.{writesFor, applied, saveWrites}
 use Rattle.image.specs.Image.{tooShort}
 use Rattle.image.specs.Kinds.{arcFields, arcForm, kinds}
-use Rattle.image.specs.Saved.{arcSaver, saveRefusal, save}
+use Rattle.image.specs.Saved.{arcSaver, saveRefusal}
 use Rattle.image.specs.BodyLaws.{length-body}
 use Rattle.image.specs.KindLaws.{Savable}
 use Rattle.image.specs.SavedLaws.{save-number, save-is, save-keeps}
@@ -29,7 +29,7 @@ use Rattle.arcrefusals.specs.declared.ArcRecord.{ArcRecord}
 use Rattle.arcrefusals.specs.Given.{sizesOf, arcLent}
 use Rattle.arccalls.specs.declared.ArcOutcome.{ArcOutcome}
 use Rattle.arccalls.specs.Contract.{arcTold, arcCalled}
-use Rattle.arcsaving.specs.Given.{fieldsOf, arcBody, longOf, Writable, arcSavedTold, arcSavedBy}
+use Rattle.arcsaving.specs.Given.{fieldsOf, arcBody, Writable, arcSavedTold, arcSavedBy}
 
 -- ---- the refusals
 

@@ -12,12 +12,13 @@ ghost use Rattle.refusals.specs.Given.{countersOf};
 ghost use Rattle.image.specs.Area.{applied, saveWrites};
 ghost use Rattle.image.specs.Saved.{arcSaver, saveRefusal};
 ghost use Rattle.arcrefusals.specs.Given.{sizesOf, arcLent};
-ghost use Rattle.arcsaving.specs.Given.{longOf, arcBody, Writable, arcSavedTold, arcSavedBy};
+ghost use Rattle.restoring.specs.Given.{arcLong};
+ghost use Rattle.arcsaving.specs.Given.{arcBody, Writable, arcSavedTold, arcSavedBy};
 
 // The bytes of the body of a box: 52 of numbers, 64 of label, the tables and the lists.
 pub(crate) fn body_length(a: ArcRecord) -> u32
     requires { ⌜ (a .sizes .cached ≤ 256) × (a .sizes .extra ≤ 1024) ⌝ }
-    ensures { λ r. ⌜ r ≡ longOf a ⌝ }
+    ensures { λ r. ⌜ r ≡ arcLong a ⌝ }
 {
     let m = a.sizes.cached + a.sizes.cached + a.sizes.extra;
     (116 + m * row::BYTES + a.sizes.cached * row::BYTES + m * 4) as u32

@@ -1,22 +1,21 @@
 -- Boxes of both kinds: what a served save wrote, a restore gives back as the flush left it, and the calls go on.
-use mathlib.Core.Path.{_≡_, refl, sym, ap, ap₂, _∙_, subst}
-use mathlib.Core.Bool.{Bool, true, false, not, _||_, cond}
+use mathlib.Core.Path.{_≡_, refl, sym, ap, _∙_, subst}
+use mathlib.Core.Bool.{Bool, false, _||_, cond}
 use mathlib.Core.List.{List, [], _∷_, map}
-use mathlib.Core.Logic.{_⊎_, inl, inr}
+use mathlib.Core.Logic.{inl, inr}
 use mathlib.Core.Option.{Option, some}
-use Prim.Native.Nat.{ℕ, _+_, _*_, _^_, _≤_, _<_}
+use Prim.Native.Nat.{ℕ, _+_, _*_, _≤_}
 use native.Mathlib.Omega.{arith}
 use lib.Dec.{eqb, ltb}
 use lib.ListN.{length, drop}
 use borrow.Author.Tests.{eqb-true, eqb-false, ltb-false, le-ltb, not-false}
 use Rattle.hash.specs.LastChunk.{Size}
-use Rattle.tables.specs.Rows.{tableBytes}
 use Rattle.tables.specs.Find.{any}
 use Rattle.tables.specs.Unsound.{nonzero}
-use Rattle.paper.specs.KeyedLaws.{All, by-test, or-false-left, or-false-right}
+use Rattle.paper.specs.KeyedLaws.{by-test, or-false-left, or-false-right}
 use Rattle.paper.specs.Cache.{Numbers, Counters, dirtyRows}
 use Rattle.paper.specs.Engine.{labelled}
-use Rattle.paper.specs.Lent.{Lent, Ask, calling, unfit, limitOutside, wrongBuffers, otherLength, overLimit, FewDirty, refusal, call, boxIn}
+use Rattle.paper.specs.Lent.{Lent, Ask, calling, unfit, limitOutside, wrongBuffers, otherLength, overLimit, FewDirty, refusal, boxIn}
 use Rattle.paper.specs.BatchLent.{one, recount}
 use Rattle.paper.specs.Demand3.{next}
 use Rattle.paper.specs.SoundTests.{addresses-good}
@@ -29,8 +28,7 @@ use Rattle.arc.specs.ArcDemand.{boxOf, arcNext}
 use Rattle.arc.specs.ArcExactly.{arc-exactly}
 use Rattle.arc.specs.ArcDemandLaws as Arc
 use Rattle.arc.specs.ArcDemandLaws.{ArcPasses, arc-fits, no-6, no-8, no-13}
-use Rattle.image.specs.Body.{total, Fields, bodyOf, Form, bodyLength}
-use Rattle.image.specs.Area.{applied, saveWrites}
+use Rattle.image.specs.Body.{total, bodyOf, Form, bodyLength}
 use Rattle.image.specs.Image.{tooShort}
 use Rattle.image.specs.Kinds.{lruFields, arcFields, lruNumbers, arcSizes, lruForm, arcForm, kinds}
 use Rattle.image.specs.Saved.{Saver, lruSaver, arcSaver, saveRefusal, save, restore, goesOn, arcGoesOn}

@@ -9,7 +9,7 @@ use lib.ListN.{getD}
 use Rattle.tables.specs.Rows.{tableBytes}
 use Rattle.paper.specs.Cache.{Numbers, noCounts}
 use Rattle.paper.specs.Lent.{Lent, unfit, limitOutside, Test, test, first, tableTests}
-use Rattle.arc.specs.Arc.{Sizes, baseNumbers, mOf}
+use Rattle.arc.specs.Arc.{Sizes, baseNumbers}
 use Rattle.arc.specs.ArcLent.{ListRecord, ArcLent, unfitArc, arcTableTests}
 use Rattle.image.specs.Body.{Fields, Form}
 

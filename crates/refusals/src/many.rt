@@ -7,7 +7,6 @@ use parts::BoxRecord;
 ghost use mathlib.Core.Path.{_≡_};
 ghost use Prim.Native.Nat.{_*_};
 ghost use lib.Dec.{eqb};
-ghost use lib.ListN.{length};
 ghost use Rattle.paper.specs.BatchLent.{anyOutside, batchRefusal};
 ghost use Rattle.parts.specs.Rep.{numbersOf};
 ghost use Rattle.refusals.specs.Given.{countersOf, lent};

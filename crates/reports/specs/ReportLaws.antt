@@ -1,6 +1,6 @@
 -- A report, from its number and from what is filled. Assumes nothing.
-use mathlib.Core.Path.{_≡_, refl, sym, ap, _∙_}
-use mathlib.Core.Bool.{not, _||_}
+use mathlib.Core.Path.{_≡_, refl, _∙_}
+use mathlib.Core.Bool.{not}
 use mathlib.Core.List.{List}
 use Prim.Native.Nat.{ℕ, _*_}
 use lib.Dec.{eqb}
@@ -8,7 +8,7 @@ use lib.ListN.{length}
 use borrow.Author.Tests.{eqb-true, ne-eqb, not-false}
 use Rattle.paper.specs.KeyedLaws.{or-false-left, or-false-right}
 use Rattle.paper.specs.Cache.{Numbers}
-use Rattle.paper.specs.Lent.{Lent, wrongBuffers, otherLength, boxIn}
+use Rattle.paper.specs.Lent.{Lent, wrongBuffers, boxIn}
 use Rattle.paper.specs.LentLaws.{Passes, right-lengths}
 use Rattle.paper.specs.RefusalLaws.{Apart, gives-none}
 use Rattle.paper.specs.CallLaws.{Fits, fits}

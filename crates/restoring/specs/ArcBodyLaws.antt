@@ -14,14 +14,14 @@ use Rattle.paper.specs.Lent.{limitOutside, first}
 use Rattle.arc.specs.Arc.{mOf, baseNumbers}
 use Rattle.arc.specs.ArcLent.{words, unfitArc}
 use Rattle.arc.specs.ArcLentLaws.{words-at}
-use Rattle.arc.specs.ArcDemandLaws.{arc-fits}
+use Rattle.arc.specs.ArcDemandLaws.{ArcFits, arc-fits}
 use Rattle.arclists.specs.declared.ListSizes.{ListSizes}
 use Rattle.arcrefusals.specs.declared.ArcRecord.{ArcRecord}
 use Rattle.arcrefusals.specs.Given.{sizesOf}
 use Rattle.arcrefusals.specs.Checks.{Fits}
 use Rattle.image.specs.Body.{pieces, total, bodyLength, numbersIn, fieldsIn, failsAs, noBody}
 use Rattle.image.specs.Kinds.{arcForm, arcChecks, kinds}
-use Rattle.restoring.specs.Given.{boxIn, arcOf, arcIn, longOf, arcLong, arcFailing, bodyFields, Laid}
+use Rattle.restoring.specs.Given.{boxIn, arcOf, arcIn, arcLong, arcFailing, bodyFields, Laid}
 use Rattle.restoring.specs.FoundLaws.{or-true, string-1, string-2, string-3, laid-in, part-is, other-kind, second-kind, arc-fields, long-body}
 
 -- ---- the record in a body
@@ -144,10 +144,14 @@ module _ (body : List ℕ) (a : ArcRecord) (e : a ≡ arcIn body) where
       arc-long =
           eqb-true (length body) (arcLong a) (not-false (eqb (length body) (arcLong a)) (or-false-left other fails (sym is ∙ p)))
 
+      fits : ArcFits (sizesOf a)
+      fits = arc-fits (sizesOf a) (by-test (unfitArc (sizesOf a)) (λ y. clash (sym (arc-unfit-body y)) p) (λ y. y))
+
       pub arc-small : (a .sizes .cached ≤ 256) × (m ≤ 1024)
-      arc-small =
-          let f = arc-fits (sizesOf a) (by-test (unfitArc (sizesOf a)) (λ y. clash (sym (arc-unfit-body y)) p) (λ y. y)) in
-          (f .C-most, f .m-most)
+      arc-small = (fits .C-most, fits .m-most)
+
+      pub arc-least : 1 ≤ m
+      arc-least = let h = fits .C-least in omega (arith, h)
 
       pub arc-laid : Laid body (bodyFields body) 116 n₁ n₂ n₃
       unfolding arcForm

@@ -2,21 +2,18 @@
 use mathlib.Core.Path.{_≡_, refl, sym, ap, ap₂, _∙_, subst}
 use mathlib.Core.Bool.{Bool, true, false, not, _&&_, _||_, cond}
 use mathlib.Core.List.{List, [], _∷_}
-use mathlib.Core.Option.{some}
 use Prim.Native.Nat.{ℕ, _+_, _-_, _*_, _/_, _≤_, _<_}
 use native.Mathlib.Omega.{arith}
 use lib.Dec.{eqb, ltb}
-use lib.ListN.{length, take, drop, getD, length-take, length-drop}
+use lib.ListN.{length, take, drop, getD}
 use lib.Seq.{take-take, getD-take, drop-cons, drop-drop, length-take-le}
-use borrow.Author.Tests.{lt-ltb, le-ltb, ltb-false, eq-eqb, ne-eqb, eqb-true, eqb-false, not-false}
-use Rattle.tables.specs.Rows.{le4, tableBytes, zeros}
+use borrow.Author.Tests.{lt-ltb, le-ltb, ltb-false, eq-eqb, ne-eqb, eqb-true, not-false}
+use Rattle.tables.specs.Rows.{le4}
 use Rattle.tables.specs.Find.{all, same}
 use Rattle.tables.specs.Sound.{isZero}
 use Rattle.tables.specs.RowLaws.{drop-take}
-use Rattle.paper.specs.KeyedLaws.{by-test, clash, or-false-left, or-false-right}
-use Rattle.paper.specs.Lent.{unfit, limitOutside, test, first, boxIn}
-use Rattle.paper.specs.Cache.{noCounts}
-use Rattle.paper.specs.RefusalLaws.{Apart, gives-none}
+use Rattle.paper.specs.KeyedLaws.{by-test, clash, or-false-left}
+use Rattle.paper.specs.Lent.{unfit, limitOutside, first, boxIn}
 use Rattle.arc.specs.ArcLent.{words}
 use Rattle.arc.specs.ArcLentLaws.{words-at}
 use Rattle.tables.specs.Records.{heldRows}
@@ -25,8 +22,8 @@ use Rattle.parts.specs.Rep.{numbersOf}
 use Rattle.refusals.specs.Sizes.{most}
 use Rattle.refusals.specs.Checks.{tablesRefusal}
 use Rattle.image.specs.Body.{Fields, Form, pieces, total, bodyLength, numbersIn, fieldsIn, failsAs, failsIn, noBody}
-use Rattle.image.specs.Area.{mark, version, writesFor, put, clearing}
-use Rattle.image.specs.Image.{isImage, noImage, lengthIn, bodyIn, tooShort, imageTests, imageRefusal}
+use Rattle.image.specs.Area.{mark, version, writesFor}
+use Rattle.image.specs.Image.{isImage, noImage, lengthIn, bodyIn, tooShort, imageRefusal}
 use Rattle.image.specs.Kinds.{stringAt, lruForm, arcForm, kinds, lruChecks}
 use Rattle.image.specs.AreaLaws.{writes-enough}
 use Rattle.restoring.specs.Given as Given

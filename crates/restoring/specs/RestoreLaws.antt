@@ -1,18 +1,20 @@
 -- An area that has an image, and its restore. Assumes nothing.
-use mathlib.Core.Path.{_≡_, refl, sym, ap, _∙_, subst}
-use mathlib.Core.Bool.{Bool, true, false, not, _||_, cond}
+use mathlib.Core.Path.{_≡_, refl, sym, ap, _∙_}
+use mathlib.Core.Bool.{true, false, not, _||_, cond}
 use mathlib.Core.List.{List, []}
-use Prim.Native.Nat.{ℕ, _+_, _≤_}
+use Prim.Native.Nat.{ℕ, _+_, _*_, _≤_}
 use native.Mathlib.Omega.{arith}
 use lib.Dec.{eqb}
-use lib.ListN.{length, take, drop, length-drop}
+use lib.ListN.{length, drop, length-drop}
 use lib.Seq.{length-take-le}
 use borrow.Author.Tests.{ne-eqb, eqb-true, eqb-false, not-false}
 use Rattle.tables.specs.Rows.{le4, zeros}
 use Rattle.paper.specs.KeyedLaws.{by-test, or-false-left, or-false-right}
 use Rattle.paper.specs.Lent.{test}
 use Rattle.paper.specs.RefusalLaws.{Apart, gives-none}
+use Rattle.arc.specs.Arc.{mOf}
 use Rattle.arcrefusals.specs.declared.ArcRecord.{ArcRecord}
+use Rattle.arcrefusals.specs.Given.{sizesOf}
 use Rattle.image.specs.Body.{Fields, noBody}
 use Rattle.image.specs.Area.{put, clearing}
 use Rattle.image.specs.Image.{noImage, lengthIn, bodyIn, tooShort, imageTests, imageRefusal}
@@ -22,8 +24,9 @@ use Rattle.image.specs.Saved.{fieldsFound, wrongTables, restoreRefusal, restore
 use Rattle.image.specs.SavedLaws.{first-behind, restore-keeps}
 use Rattle.restoring.specs.declared.Found.{Found}
 use Rattle.restoring.specs.declared.Restored.{Restored}
-use Rattle.restoring.specs.Given.{arcOf, asBox, zeroArc, bodyFields, Laid, otherLengths, Left, left}
-use Rattle.restoring.specs.FoundLaws.{room-for, long-enough}
+use Rattle.restoring.specs.Given.{arcOf, arcIn, asBox, zeroArc, bodyFields, Laid, otherLengths, Left, left}
+use Rattle.restoring.specs.FoundLaws.{or-true, room-for, long-enough}
+use Rattle.restoring.specs.ArcBodyLaws.{arc-least, arc-laid}
 
 -- ---- an area that has an image
 
@@ -101,6 +104,18 @@ module _ (area a t l : List ℕ) (body : List ℕ) (h : body ≡ bodyIn area) (f
           eqb-true (length t) (f .blocks) (not-false (eqb (length t) (f .blocks)) (or-false-right p q v)),
           eqb-true (length l) (f .lists) (not-false (eqb (length l) (f .lists)) (or-false-right (p || q) r o)),
         )
+
+-- "for a D-LRU image the lists' buffer has length 0": for a D-ARC image it never has, so one that is lent no lists gets 2
+pub arc-lists-needed : (area a t : List ℕ) → imageRefusal kinds area ≡ 0 → le4 (bodyIn area) 0 ≡ 1 → restoreRefusal kinds area a t [] ≡ 2
+arc-lists-needed area a t e k =
+    let body = bodyIn area in
+    let c = arcIn body in
+    let m = mOf (sizesOf c) in
+    let p = found-body area e body refl in
+    let f : Found = record { arc_record = c; start = 116; addresses = m * 40; blocks = c .sizes .cached * 40; lists = m * 4 } in
+    let h = arc-least body c refl k p in
+    number-is area a t [] body refl f (arc-laid body c refl k p) e
+    ∙ rw (ne-eqb 0 (m * 4) (λ z. absurd (omega (arith, h, z))), or-true (not (eqb (length a) (m * 40)) || not (eqb (length t) (c .sizes .cached * 40)))) refl
 
 -- ---- a restore
 

@@ -174,7 +174,7 @@ pub(crate) fn body_in<'a>(area: &'a [u8]) -> &'a [u8]
 }
 
 // What a restore finds in a body: the record, and where the tables and the lists lie, from `start` on, as long as these numbers say.
-pub struct Found {
+pub(crate) struct Found {
     pub arc_record: ArcRecord,
     pub start: usize,
     pub addresses: usize,

@@ -17,8 +17,8 @@ start c = c .before .before .before .before .before .before .before .before
 -- the number is the paper's
 number : (c : tie.After-arc-report) (k : Counters)
     → (let a = start c .args in
-    c .arc-report .result ≡ arcReportRefusal (sizesOf (a .a)) (arcLent (a .a) (a .disk .now) (a .flash .now) (a .addresses .now) (a .blocks .now) (a .lists .now) k)
-    (readerOf (a .reader)) (a .report .now))
+    c .arc-report .result ≡ arcReportRefusal (sizesOf (a .a))
+    (arcLent (a .a) (a .disk .now) (a .flash .now) (a .addresses .now) (a .blocks .now) (a .lists .now) k) (readerOf (a .reader)) (a .report .now))
 number c k = let a = start c .args in c .arc-report .ensures k (readerOf (a .reader)) (a .report .now) (c .before .width-of .ensures .0) refl
 
 returns : tie.Need-returns

@@ -11,8 +11,8 @@ returns c =
     let c₁ = c₂ .before in
     let s = c₁ .before in
     let l = s .before in
-    arc-made (l .before .before .before .args .body .now) _ _ _ _ _ _ (l .label-in .ensures) (s .sizes-in .ensures) (c₁ .word-at .ensures) (c₂ .word-at2 .ensures)
-    (c₃ .word-at3 .ensures) (c .word-at4 .ensures)
+    arc-made (l .before .before .before .args .body .now) _ _ _ _ _ _ (l .label-in .ensures) (s .sizes-in .ensures) (c₁ .word-at .ensures)
+    (c₂ .word-at2 .ensures) (c₃ .word-at3 .ensures) (c .word-at4 .ensures)
 
 pub arc-record-in-spec : {M : Type 1} → statement M
 arc-record-in-spec =

@@ -1,12 +1,10 @@
 -- The length is the record's or another; then the tables and the lists tell. Assumes nothing.
-use mathlib.Core.Path.{ap, _∙_}
+use mathlib.Core.Path.{ap}
 use mathlib.Core.Bool.{not}
 use mathlib.Core.List.{[]}
 use Prim.Native.Nat.{ℕ}
-use native.Mathlib.Omega.{arith}
 use lib.Dec.{eqb}
-use lib.ListN.{length-drop, length-replicate}
-use lib.Seq.{length-take-le}
+use lib.ListN.{length-replicate}
 use Rattle.tables.specs.SoundLaws.{filled-with}
 use Rattle.paper.specs.Cache.{noCounts}
 use Rattle.restoring.specs.ArcBodyLaws.{parts-fit, arc-long-body, arc-tables-body}
