@@ -16,7 +16,7 @@ use Rattle.refusals.specs.Given.{lent}
 use Rattle.arcrefusals.specs.declared.ArcRecord.{ArcRecord}
 use Rattle.arcrefusals.specs.Given.{sizesOf, arcLent}
 use Rattle.image.specs.Body.{Fields, fieldsIn}
-use Rattle.image.specs.Kinds.{numberAt, stringAt, lruForm, arcForm, kinds}
+use Rattle.image.specs.Kinds.{numberAt, stringAt, arcSizes, listSizes, lruForm, arcForm, kinds}
 use Rattle.image.specs.Saved.{fieldsAs, Restored}
 use Rattle.restoring.specs.declared.Found.{Found}
 
@@ -39,22 +39,15 @@ boxIn body = boxOf (fieldsIn lruForm body)
 -- "or for D-ARC 1, B, P, C, X, n, t, p and the five list sizes .. then label": likewise. Of D-LRU fields p and the sizes are 0.
 abbrev pub arcOf : Fields → ArcRecord
 arcOf x =
+    let Z = arcSizes x in
+    let r = listSizes x in
     record {
-      size = numberAt x 1;
-      blocks = numberAt x 2;
+      size = Z .B;
+      blocks = Z .P;
       held = numberAt x 5;
-      label = stringAt x 0;
-      limit = numberAt x 6;
-      sizes = record {
-        t1 = numberAt x 8;
-        t2 = numberAt x 9;
-        b1 = numberAt x 10;
-        b2 = numberAt x 11;
-        b3 = numberAt x 12;
-        p = numberAt x 7;
-        cached = numberAt x 3;
-        extra = numberAt x 4;
-      };
+      label = Z .label;
+      limit = Z .t;
+      sizes = record { t1 = r .t1; t2 = r .t2; b1 = r .b1; b2 = r .b2; b3 = r .b3; p = r .p; cached = Z .C; extra = Z .X };
     }
 
 abbrev pub arcIn : List ℕ → ArcRecord
