@@ -216,7 +216,7 @@ extern "C" {
 #define MINDAVEHU_VERSION_PATCH 0
 
 /* The most bytes of stack that a call needs. */
-#define MINDAVEHU_STACK 24576
+#define MINDAVEHU_STACK 32768
 
 /* Lengths in bytes: of the state, of a label, of an answer, of the answer of the call for a list, of the counts of an exam question, of a row of either
  * table, of the part of each held address in the manager's report and in the desk's, of an image's header and of each write of a save. */
