@@ -4,7 +4,8 @@ pub mod image;
 mod lent;
 pub mod worked;
 
-pub use lent::{carry_out, carry_out_many, carry_out_report, refusal, refusal_many, refusal_report, ArcLent, ArcNumbers, ARC_STATE, STATE_ADAPTIVE, STATE_SIZES, WORD};
+pub use lent::{carry_out, carry_out_many, carry_out_report, refusal, refusal_many, refusal_report};
+pub use lent::{ArcLent, ArcNumbers, ARC_STATE, STATE_ADAPTIVE, STATE_SIZES, WORD};
 
 use crate::cache::{Cache, Held, Writes};
 use crate::{Fingerprint, Label};
