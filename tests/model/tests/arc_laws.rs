@@ -1,6 +1,6 @@
 //! The laws of U5 on random lists of calls on D-ARC boxes of the model, with those of U2, U3, U7 and U8 that are about these boxes too.
 use common::Random;
-use model::arc::{carry_out, carry_out_many, carry_out_report, ArcLent, ArcNumbers, B1, B2, B3, T1, T2, WORD};
+use model::arc::{carry_out, carry_out_many, carry_out_report, ArcLent, ArcNumbers, Lists, B1, B2, B3, T1, T2, WORD};
 use model::machines::PlainDisk;
 use model::{fingerprint, read_tables, AddressRow, Answer, BlockRow, Cache, Call, Fingerprint, Folder, Label, Lent, ManyAnswer, Report};
 use model::{ANSWER, DISK, HIT, LABEL, MANY_ANSWER, ROW};
@@ -64,9 +64,9 @@ impl Shape {
     }
 
     /// Of a box with n held addresses.
-    fn numbers(&self, n: usize, adaptive: usize, sizes: [usize; 5]) -> ArcNumbers {
+    fn numbers(&self, n: usize, adaptive: usize, sizes: [u64; 5]) -> ArcNumbers {
         let [b, p, c, x, n, t, adaptive] = [B, self.p, self.c, self.x, n, self.t, adaptive].map(|number| number as u64);
-        ArcNumbers { b, p, c, x, n, counters: [5; 4], label: OFFICE, t, adaptive, sizes: sizes.map(|size| size as u64) }
+        ArcNumbers { b, p, c, x, n, counters: [5; 4], label: OFFICE, t, adaptive, sizes }
     }
 }
 
@@ -93,22 +93,6 @@ fn shuffled<T>(random: &mut Random, list: impl IntoIterator<Item = T>) -> Vec<T>
         list.swap(k, random.below(k + 1));
     }
     list
-}
-
-/// Any lists that are sound for these held addresses: T1 and T2 take none that is without its block. Lists and addresses are in no order of use.
-fn any_lists(random: &mut Random, shape: Shape, rows: &[(u32, bool)]) -> [Vec<u32>; 5] {
-    let (least, most) = (rows.len().saturating_sub(shape.c + shape.x), rows.len().min(shape.c));
-    let ghosts = least + random.below(most - least + 1);
-    let mut lists: [Vec<u32>; 5] = Default::default();
-    for (k, (address, cached)) in shuffled(random, rows).into_iter().enumerate() {
-        let list = match (k < ghosts, cached) {
-            (true, _) => [B1, B2][random.below(2)],
-            (false, true) => [T1, T2, B3][random.below(3)],
-            (false, false) => B3,
-        };
-        lists[list].push(*address);
-    }
-    lists
 }
 
 /// A box that is sound and under the premise faithful, which no list need reach, and its plain disk.
@@ -143,11 +127,9 @@ fn faithful(random: &mut Random, shape: Shape) -> (ArcLent, Vec<u8>) {
         }
     }
     addresses.resize(m * ROW, 0);
-    let lists = any_lists(random, shape, &named);
-    let numbers = shape.numbers(n, random.below(c + 1), std::array::from_fn(|list| lists[list].len()));
-    let mut words: Vec<u8> = lists.concat().iter().flat_map(|address| address.to_le_bytes()).collect();
-    words.resize(m * WORD, 0);
-    (memory(numbers, &disk, &flash, [addresses, blocks, words]), plain)
+    let lists = Lists::any(&named, c, shape.x, |end| random.below(end));
+    let numbers = shape.numbers(n, lists.p, lists.sizes());
+    (memory(numbers, &disk, &flash, [addresses, blocks, lists.to_bytes(m)]), plain)
 }
 
 /// The named addresses of each list, read from the bytes.

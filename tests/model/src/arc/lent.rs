@@ -35,11 +35,10 @@ pub struct ArcNumbers {
 }
 
 impl ArcNumbers {
-    /// Those of a cache: its numbers, and its lists.
-    pub(crate) fn of(numbers: Numbers, lists: &Lists) -> ArcNumbers {
+    /// Those of a box of these numbers, in which m and d are of a C and an X, and these lists.
+    pub fn of(numbers: Numbers, lists: &Lists) -> ArcNumbers {
         let Numbers { b, p, m, d, n, counters, label, t } = numbers;
-        let sizes = std::array::from_fn(|list| lists.size(list) as u64);
-        ArcNumbers { b, p, c: d, x: m - 2 * d, n, counters, label, t, adaptive: lists.p as u64, sizes }
+        ArcNumbers { b, p, c: d, x: m - 2 * d, n, counters, label, t, adaptive: lists.p as u64, sizes: lists.sizes() }
     }
 
     pub fn from_bytes(state: &[u8]) -> ArcNumbers {
@@ -239,12 +238,8 @@ impl Cache {
         Cache { lists, ..Cache::load_as(numbers.base(), &mut lent.base) }
     }
 
-    /// "oldest first, end to end in m × 4 bytes, little-endian, zeros after"
-    pub(crate) fn list_bytes(&self) -> Vec<u8> {
-        let lists = self.lists.as_ref().expect("a D-ARC box");
-        let mut bytes: Vec<u8> = lists.of.iter().flatten().flat_map(|a| a.to_le_bytes()).collect();
-        bytes.resize(self.m * WORD, 0);
-        bytes
+    fn list_bytes(&self) -> Vec<u8> {
+        self.lists.as_ref().expect("a D-ARC box").to_bytes(self.m)
     }
 
     /// Writes the box into bytes: every buffer but the lent block, the answer and the lent label.

@@ -42,6 +42,36 @@ impl Lists {
         Some(list)
     }
 
+    pub fn sizes(&self) -> [u64; 5] {
+        std::array::from_fn(|list| self.size(list) as u64)
+    }
+
+    /// "oldest first, end to end in m × 4 bytes, little-endian, zeros after"
+    pub fn to_bytes(&self, m: usize) -> Vec<u8> {
+        let mut bytes: Vec<u8> = self.of.iter().flatten().flat_map(|a| a.to_le_bytes()).collect();
+        bytes.resize(m * WORD, 0);
+        bytes
+    }
+
+    /// Any sound lists of these held addresses, each with whether its block is cached, and any p. `below` gives any number below another one. The lists are in
+    /// no order of use.
+    pub fn any(rows: &[(u32, bool)], c: usize, x: usize, mut below: impl FnMut(usize) -> usize) -> Lists {
+        let (least, most) = (rows.len().saturating_sub(c + x), rows.len().min(c));
+        let ghosts = least + below(most - least + 1);
+        let mut left = rows.to_vec();
+        let mut lists = Lists { p: below(c + 1), ..Lists::default() };
+        while !left.is_empty() {
+            let (address, cached) = left.swap_remove(below(left.len()));
+            let list = match (lists.size(B1) + lists.size(B2) < ghosts, cached) {
+                (true, _) => [B1, B2][below(2)],
+                (false, true) => [T1, T2, B3][below(3)],
+                (false, false) => B3,
+            };
+            lists.of[list].push_back(address);
+        }
+        lists
+    }
+
     /// "move LRU from .. to .."
     fn move_oldest(&mut self, from: usize, to: usize) {
         let oldest = self.of[from].pop_front().expect("an address to move");
