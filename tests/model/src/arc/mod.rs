@@ -2,6 +2,7 @@
 //! `image`. A D-ARC box is a `Cache` with lists, whose m is 2 × C + X and whose d is C; all calls are those of the cache, but for the step.
 pub mod image;
 mod lent;
+pub mod search;
 pub mod worked;
 
 pub use lent::{carry_out, carry_out_many, carry_out_report, refusal, refusal_many, refusal_report};
