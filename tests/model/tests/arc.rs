@@ -42,7 +42,7 @@ fn worked_states() {
         states += 1;
     }
     println!("{calls} calls lead to {states} worked states of D-ARC, and answer as these say");
-    assert!(states >= 49 && calls > states);
+    assert!(states >= 57 && calls > states);
 }
 
 /// The box of crates/arc/specs/ArcRefused.antt: B 64, P 4, C 2, X 1, so m is 5; rows by address, byte of the fingerprint and dirty byte.
