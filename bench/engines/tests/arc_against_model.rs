@@ -2,7 +2,7 @@
 //! broken ones.
 use common::Random;
 use engines::arc;
-use model::arc::worked::{examples, shown, Asked};
+use model::arc::worked::play;
 use model::arc::{carry_out, carry_out_many, carry_out_report, ArcLent, ArcNumbers, Lists, ARC_STATE, WORD};
 use model::{AddressRow, BlockRow, Call, Folder, Lent, Report, CALLS, LABEL, REPORTS, ROW, STATE_LABEL, STATE_LIMIT};
 
@@ -57,26 +57,8 @@ fn report(random: &mut Random, lent: &ArcLent, context: &str) {
 
 #[test]
 fn worked_states() {
-    let mut states = 0;
-    for example in examples() {
-        let mut lent = example.from.clone();
-        for asked in &example.asked {
-            match asked {
-                Asked::One(said) => {
-                    lent.base.block = vec![said.content; 64];
-                    assert_eq!(one(said.call, said.address, &mut lent, example.name), 0);
-                }
-                Asked::Folder { asked, .. } => {
-                    let mut folder = Folder { asked: asked.clone(), buffer: vec![0; asked.len() * 64], answer: vec![0; 32] };
-                    assert_eq!(many(&mut lent, &mut folder, example.name), 0);
-                }
-            }
-        }
-        assert_eq!(shown(&lent), example.to, "{}", example.name);
-        states += 1;
-    }
-    println!("the engine of D-ARC boxes reaches {states} worked states");
-    assert!(states >= 57);
+    let (states, calls) = play(|call, a, lent| one(call, a, lent, "a worked state"), |lent, folder| many(lent, folder, "a worked state"));
+    println!("the engine of D-ARC boxes reaches {states} worked states with {calls} calls");
 }
 
 /// A box to be opened, with any limit, over any bytes.

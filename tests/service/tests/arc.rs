@@ -1,52 +1,18 @@
 //! D-ARC boxes on the service: the worked states, and random lists of all calls from fresh boxes, beside the model. Every byte of every buffer is compared
 //! after every call.
 use common::Random;
-use model::arc::worked::{examples, shown, Asked, Said, B};
+use model::arc::worked::play;
 use model::arc::{ArcLent, B1, B2, T1, T2};
-use model::{word, Answer, Cache, Call, Folder, ManyAnswer, BLOCK_SIZES, MANY_ANSWER, REPORTS};
+use model::{Answer, Cache, Call, BLOCK_SIZES, REPORTS};
 use service::arc_boxes::{unopened, ArcShape};
 use service::arc_calls::{call, call_many, call_report};
 use service::boxes::{any_seat, bytes, folder, folder_count, most, office, pick, Contents};
 use service::progress::{count, seed, Progress};
 
-/// Asks one call of a worked state and compares its answer.
-fn one(lent: &mut ArcLent, said: &Said, name: &str) {
-    let Said { call: kind, address, content, .. } = *said;
-    lent.base.block = vec![content; B];
-    assert_eq!(call(kind, address, lent), 0, "{name}: {kind:?} {address}");
-    let answer = Answer::from_bytes(&lent.base.answer);
-    let writes = if kind == Call::Look { (0, 0) } else { (answer.first, answer.second) };
-    assert_eq!((word(answer.word), writes), (said.word.as_str(), (said.flash, said.primary)), "{name}: {kind:?} {address}");
-    let returned = match kind {
-        Call::Look if said.word == "cache" => &lent.base.flash[answer.first as usize..][..answer.second as usize],
-        Call::Look => &lent.base.disk[answer.first as usize..][..answer.second as usize],
-        _ => &lent.base.block,
-    };
-    assert_eq!(returned, [said.returned.unwrap_or(content); B], "{name}: {kind:?} {address}");
-}
-
 #[test]
 fn worked_states() {
-    let (mut states, mut calls) = (0, 0);
-    for example in examples() {
-        let mut lent = example.from.clone();
-        for asked in &example.asked {
-            match asked {
-                Asked::One(said) => one(&mut lent, said, example.name),
-                Asked::Folder { asked, answer, blocks } => {
-                    let mut folder = Folder { asked: asked.to_vec(), buffer: vec![0xEE; asked.len() * B], answer: vec![0; MANY_ANSWER] };
-                    assert_eq!(call_many(&mut lent, &mut folder), 0, "{}", example.name);
-                    assert_eq!(ManyAnswer::from_bytes(&folder.answer), *answer, "{}", example.name);
-                    assert!(folder.buffer.chunks_exact(B).zip(blocks).all(|(block, content)| block == [*content; B]), "{}", example.name);
-                }
-            }
-            calls += 1;
-        }
-        assert_eq!(shown(&lent), example.to, "{}", example.name);
-        states += 1;
-    }
+    let (states, calls) = play(call, call_many);
     println!("{calls} calls lead to {states} worked states of D-ARC, and answer as these say");
-    assert!(states >= 57 && calls > states);
 }
 
 /// What the lists met, to say where a list would say little.

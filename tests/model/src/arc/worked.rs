@@ -167,3 +167,46 @@ pub fn shown(lent: &ArcLent) -> String {
     };
     format!("{lists}p {}; rows{rows}; free{free}; used{used}; flash{}; disk{}", numbers.adaptive, filled(&lent.base.flash), filled(&lent.base.disk))
 }
+
+/// Asks one call of a box and compares its answer, and the block that a read or a look returned.
+fn ask_one(lent: &mut ArcLent, said: &Said, name: &str, one: &mut impl FnMut(Call, u32, &mut ArcLent) -> u32) {
+    let Said { call, address, content, .. } = *said;
+    lent.base.block = vec![content; B];
+    assert_eq!(one(call, address, lent), 0, "{name}: {call:?} {address}");
+    let answer = Answer::from_bytes(&lent.base.answer);
+    let writes = if call == Call::Look { (0, 0) } else { (answer.first, answer.second) };
+    assert_eq!((word(answer.word), writes), (said.word.as_str(), (said.flash, said.primary)), "{name}: {call:?} {address}");
+    let returned = match call {
+        Call::Look if answer.word == CACHE => &lent.base.flash[answer.first as usize..][..answer.second as usize],
+        Call::Look => &lent.base.disk[answer.first as usize..][..answer.second as usize],
+        _ => &lent.base.block,
+    };
+    // A write keeps its block.
+    assert_eq!(returned, [said.returned.unwrap_or(content); B], "{name}: {call:?} {address}");
+}
+
+fn ask_many(lent: &mut ArcLent, asked: &[u32], answer: ManyAnswer, blocks: &[u8], many: &mut impl FnMut(&mut ArcLent, &mut Folder) -> u32) {
+    let mut folder = Folder { asked: asked.to_vec(), buffer: vec![0xEE; asked.len() * B], answer: vec![0; MANY_ANSWER] };
+    assert_eq!(many(lent, &mut folder), 0, "{asked:?}");
+    assert_eq!(ManyAnswer::from_bytes(&folder.answer), answer, "{asked:?}");
+    assert!(folder.buffer.chunks_exact(B).zip(blocks).all(|(block, content)| block == [*content; B]), "{asked:?}");
+}
+
+/// Plays every example by an engine's calls, and compares its answers and the state that it leaves. Gives how many states and calls there were.
+pub fn play(mut one: impl FnMut(Call, u32, &mut ArcLent) -> u32, mut many: impl FnMut(&mut ArcLent, &mut Folder) -> u32) -> (usize, usize) {
+    let (mut states, mut calls) = (0, 0);
+    for example in examples() {
+        let mut lent = example.from.clone();
+        for asked in &example.asked {
+            match asked {
+                Asked::One(said) => ask_one(&mut lent, said, example.name, &mut one),
+                Asked::Folder { asked, answer, blocks } => ask_many(&mut lent, asked, *answer, blocks, &mut many),
+            }
+            calls += 1;
+        }
+        assert_eq!(shown(&lent), example.to, "{}", example.name);
+        states += 1;
+    }
+    assert!(states >= 57 && calls > states, "{states} worked states");
+    (states, calls)
+}
