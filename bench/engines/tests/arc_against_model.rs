@@ -136,7 +136,7 @@ fn lists_and_broken_boxes() {
     for round in 0..300 {
         // A few large tables among the small ones.
         let large = round % 50 == 0;
-        let (most_p, most_c, most_x) = if large { (600, 200, 600) } else { (14, 4, 4) };
+        let (most_p, most_c, most_x) = if large { ([600, 9_000][round / 50 % 2], 200, 600) } else { (14, 4, 4) };
         let shape = [[64, 128][random.below(2)], 1 + random.below(most_p), 1 + random.below(most_c), random.below(most_x + 1)];
         let [b, p, c, _] = shape;
         let contents = 1 + random.below(2 * c.min(100));

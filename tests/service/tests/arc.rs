@@ -243,14 +243,15 @@ fn every_block_size() {
 /// The largest lists, and others of that size.
 #[test]
 fn large_boxes() {
-    let (seed, total) = (seed(503), count(8_000));
+    let (seed, total) = (seed(503), count(10_000));
     let mut random = Random(seed);
     let mut met = Met::default();
     let mut progress = Progress::new("large D-ARC boxes", total);
-    let shapes = [(256, 512), (256, 0), (1, 1_022), (100, 300)];
+    // The largest disk in blocks is among them.
+    let shapes = [(256, 512, 1_500), (256, 0, 1_500), (1, 1_022, 1_500), (100, 300, 1_500), (256, 512, 65_536)];
     while met.calls < total {
-        let (c, x) = shapes[met.lists % shapes.len()];
-        list(&mut random, ArcShape { b: 64, p: 1_500, c, x }, 2_000, &mut met);
+        let (c, x, p) = shapes[met.lists % shapes.len()];
+        list(&mut random, ArcShape { b: 64, p, c, x }, 2_000, &mut met);
         progress.at(met.calls);
     }
     let Met { calls, lists, words, folders, .. } = met;

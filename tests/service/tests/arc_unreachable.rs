@@ -136,7 +136,8 @@ fn large_boxes() {
     let mut progress = Progress::new("large sound D-ARC boxes", total);
     while had.calls < total {
         let (c, x) = pick(&mut random, &[(256, 512), (256, 512), (256, 0), (90, 300), (2, 1_020)]);
-        let shape = ArcShape { b: 64, p: 1_024 + random.below(600), c, x };
+        let p = if random.below(30) == 0 { 65_536 } else { 1_024 + random.below(600) };
+        let shape = ArcShape { b: 64, p, c, x };
         let mut lent = sound(&mut random, shape);
         calls_from(&mut random, shape, &mut lent, 10, &mut had, seed);
         progress.at(had.calls);
