@@ -207,6 +207,6 @@ pub fn play(mut one: impl FnMut(Call, u32, &mut ArcLent) -> u32, mut many: impl 
         assert_eq!(shown(&lent), example.to, "{}", example.name);
         states += 1;
     }
-    assert!(states >= 57 && calls > states, "{states} worked states");
+    assert!(states >= 59 && calls > states, "{states} worked states");
     (states, calls)
 }
