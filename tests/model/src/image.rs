@@ -59,7 +59,11 @@ pub fn room(m: usize, d: usize) -> usize {
 /// The writes of a save of this box, in their order: "The first write clears the header, the next ones fill the body in rising order, the last one writes the
 /// header", with "zeros filling the last" of the body.
 pub fn writes(lent: &Lent) -> Vec<Write> {
-    let body = body(lent);
+    writes_of(&body(lent))
+}
+
+/// The same for a body of either kind of box.
+pub(crate) fn writes_of(body: &[u8]) -> Vec<Write> {
     let part = |k: usize| std::array::from_fn(|i| body.get(k * WRITE + i).copied().unwrap_or(0));
     let parts = (0..body.len().div_ceil(WRITE)).map(|k| (HEADER + k * WRITE, part(k)));
     [(0, [0; HEADER])].into_iter().chain(parts).chain([(0, header(body.len() as u32))]).collect()

@@ -1,4 +1,9 @@
 //! The proved service as Rust calls it, random boxes to lend to it, and what the tests have in common.
+pub mod arc_boxes;
+pub mod arc_calls;
+pub mod arc_compare;
+#[cfg(feature = "double")]
+mod arc_double;
 pub mod areas;
 pub mod asked;
 pub mod boxes;
