@@ -1,5 +1,6 @@
 // The calls of a D-ARC box that make its step, not refused, on the bytes of a paper box and its lists.
 pub mod reads;
+pub mod writes;
 
 use arcstep::Running;
 

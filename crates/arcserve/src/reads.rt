@@ -24,10 +24,11 @@ ghost use Rattle.arcstep.specs.Runs.{sizesFor};
 ghost use Rattle.serve.specs.Calls.{HitAt};
 ghost use Rattle.arcserve.specs.ArcCalls.{ArcAccess, LentArc, LentHit, Serves, Few};
 
-// Copies the block of the block row at `j`, which is that of row `i`, from the flash.
+// Copies the block of the block row at `j` from the flash.
 pub(crate) fn hit_block(b: BoxRecord, j: usize, flash: &[u8], blocks: &[u8], block: &mut [u8])
     requires { ⌜ (j < b .slots) × (length (now block) ≡ b .size) × (length (now blocks) ≡ tableBytes (b .slots)) ⌝ }
-    requires { ⌜ ((disk addrs : List ℕ) × (s : Box (Fixed 32) (Fixed (b .size))) × (a : ℕ) × (i : ℕ) × Rep b disk (now flash) addrs (now blocks) s × HitAt b s a i j) ⌝ }
+    requires { ⌜ ((disk addrs : List ℕ) × (s : Box (Fixed 32) (Fixed (b .size))) × (a : ℕ) × (i : ℕ)
+        × Rep b disk (now flash) addrs (now blocks) s × HitAt b s a i j) ⌝ }
     ensures { λ _. ⌜ ((disk addrs : List ℕ) (s : Box (Fixed 32) (Fixed (b .size))) (a i : ℕ)
         → Rep b disk (now (flash .entry)) addrs (now (blocks .entry)) s → HitAt b s a i j
         → now (block .exit) ≡ blockOf (engine b) (getD (s .rows) i noRow .fingerprint) (s .used) (s .flash) .0) ⌝ }
