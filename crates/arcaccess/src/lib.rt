@@ -5,12 +5,14 @@ use arclists::ListSizes;
 use arcrefusals::ArcRecord;
 use arcrefusals::base_of;
 use arcserve::reads;
+use arcserve::writes;
 use arcstep::Running;
 use checks::index;
 use counters::Counters;
 use policy::Answer;
 use policy::Word;
 use policy::calls;
+use serve::Write;
 use tables::SourceAddress;
 ghost use mathlib.Core.Path.{_≡_};
 ghost use mathlib.Core.Option.{Option};
@@ -19,6 +21,7 @@ ghost use Rattle.paper.specs.Lent.{Ask};
 ghost use Rattle.counters.specs.Added.{added};
 ghost use Rattle.refusals.specs.Given.{countersOf};
 ghost use Rattle.policy.specs.declared.Answer.the-variants.{Answered};
+ghost use Rattle.policy.specs.Contract.{askOf};
 ghost use Rattle.arcrefusals.specs.Given.{arcLent};
 ghost use Rattle.arccalls.specs.Contract.{arcTold, arcCalled};
 ghost use Rattle.arcaccess.specs.AccessLaws.{moved};
@@ -113,4 +116,60 @@ pub fn read(
     let s = reads::serve_read(b, sizes, asked, disk, flash, addresses, blocks, lists, block, &heads);
     let t = s.running;
     accessed(a, calls::read_word(s.yes), t, c, 1, calls::one_if(s.yes))
+}
+
+// Write of any kind by a seat: through, the lent block goes to the disk and into the cache; back, into the cache, and to the disk later;
+// invalidate, to the disk, and its address out of the cache and out of its list.
+pub fn write(
+    kind: Write,
+    a: ArcRecord,
+    asked: SourceAddress,
+    seat: u16,
+    disk: &mut [u8],
+    flash: &mut [u8],
+    addresses: &mut [u8],
+    blocks: &mut [u8],
+    lists: &mut [u8],
+    c: Counters,
+    block: &[u8],
+) -> ArcOutcome
+    ensures { λ r. ⌜ arcTold r (now (disk .exit)) (now (flash .exit)) (now (addresses .exit)) (now (blocks .exit)) (now (lists .exit))
+        (Option.some (now (block .entry)))
+        ≡ arcCalled a (arcLent a (now (disk .entry)) (now (flash .entry)) (now (addresses .entry)) (now (blocks .entry)) (now (lists .entry)) (countersOf c))
+        (askOf kind (asked .0) (now (block .entry)) seat) ⌝ }
+{
+    let mut heads = [0u16; index::ENTRIES];
+    let number = arcrefusals::calls::arc_access(
+        a,
+        asked,
+        disk,
+        flash,
+        addresses,
+        blocks,
+        lists,
+        c,
+        block,
+        &mut heads,
+    );
+    if number != 0 {
+        return refused(number, a, c);
+    }
+    let sizes = a.sizes;
+    let b = base_of(a);
+    let s = writes::serve_write(
+        kind,
+        b,
+        sizes,
+        asked,
+        seat,
+        disk,
+        flash,
+        addresses,
+        blocks,
+        lists,
+        block,
+        &heads,
+    );
+    let t = s.running;
+    accessed(a, calls::write_word(s.yes), t, c, 0, 0)
 }
