@@ -1,5 +1,5 @@
 -- A read or a write of a D-ARC box that isn't refused: what it finds in the lent bytes, and what it tells when the step is done. Assumes nothing.
-use mathlib.Core.Path.{_≡_, refl, sym, ap, _∙_}
+use mathlib.Core.Path.{_≡_, refl, sym, ap, _∙_, subst}
 use mathlib.Core.List.{List, []}
 use mathlib.Core.Bool.{Bool, true, false, cond, _&&_}
 use mathlib.Core.Option.{Option, none, some}
@@ -10,7 +10,8 @@ use Rattle.counters.specs.declared.Counters as Code
 use Rattle.counters.specs.Added.{added}
 use Rattle.paper.specs.Cache.{Hashing, Seat, AddressRow, Box, Call, Word, hit, miss, sameBlock, newBlock, counted, oneIf, isRead, isHit, answer, cached}
 use Rattle.paper.specs.Cache.{rowWithBlock, writeInvalidate}
-use Rattle.paper.specs.Engine.{Fixed, labelled}
+use Rattle.paper.specs.Engine.{Fixed, fit}
+use Rattle.tables.specs.Records.{bytes2}
 use Rattle.paper.specs.Lent.{Ask, calling, callOf, lentOf, answered, blockAfter, partAfter, addressOf, lentBlock, counts, over}
 use Rattle.paper.specs.CallLaws.{not-over}
 use Rattle.paper.specs.Layout.{addressesOf, blocksOf}
@@ -31,9 +32,10 @@ use Rattle.parts.specs.Rep.{Rep, withHeld, engine}
 use Rattle.refusals.specs.Given.{countersOf}
 use Rattle.policy.specs.declared.Word as CodeWord
 use Rattle.policy.specs.declared.Answer.the-variants.{Answered}
-use Rattle.policy.specs.Contract.{wordOf}
-use Rattle.policy.specs.CallLaws.{rep, access}
-use Rattle.arcserve.specs.ArcCalls.{ArcAccess}
+use Rattle.policy.specs.Contract.{wordOf, askOf}
+use Rattle.policy.specs.CallLaws.{rep, access, said-is, no-hit, asks-write}
+use Rattle.arcserve.specs.ArcCalls.{ArcAccess, Serves}
+use Rattle.arcserve.specs.declared.ArcServed.{ArcServed}
 use Rattle.arcrefusals.specs.declared.ArcRecord.{ArcRecord}
 use Rattle.arcrefusals.specs.Given.{sizesOf, baseOf, arcLent}
 use Rattle.arccalls.specs.Contract.{ArcTold, arcTold, arcCalled}
@@ -198,3 +200,41 @@ module _ {X : ℕ} (H : Hashing (Fixed 32) (Fixed X)) (Z : Sizes) (l : Lists) (x
   write-says Through y z = same-new (cached H (H .hash y) (x .used))
   write-says Back y z = same-new (cached H (H .hash y) (x .used))
   write-says Invalidate y z = same-new (cached H (H .hash y) (x .used))
+
+-- a write is refused as a read is
+pub asked-as-read : (kind : Write) (Z : Sizes) (t : ArcLent) (x : ℕ) (l : List ℕ) (z : ℕ)
+    → arcRefusal Z t (calling (Ask.read x l)) ≡ arcRefusal Z t (calling (askOf kind x l z))
+unfolding arcRefusal
+asked-as-read Through Z t x l z = refl
+asked-as-read Back Z t x l z = refl
+asked-as-read Invalidate Z t x l z = refl
+
+-- a write, from what its step leaves
+module _ (a : ArcRecord) (disk flash addresses blocks lists : List ℕ) (c : Code.Counters) (kind : Write) (x : ℕ) (l : List ℕ) (z : ℕ)
+    (e : arcRefusal (sizesOf a) (arcLent a disk flash addresses blocks lists (countersOf c)) (calling (askOf kind x l z)) ≡ 0) where
+  abbrev on : Call (Fixed (a .size)) → Served (Fixed 32) (Fixed (a .size)) Lists
+  on u =
+      serveBy (engine (baseOf a)) (arc (engine (baseOf a)) (sizesOf a)) (listsOf (arcLent a disk flash addresses blocks lists (countersOf c)))
+      (boxOf (sizesOf a) (arcLent a disk flash addresses blocks lists (countersOf c))) u
+
+  pub written-as : (w : CodeWord.Word) (r : ArcServed) (disk′ flash′ addresses′ blocks′ lists′ : List ℕ)
+      → Serves (baseOf a) r disk′ flash′ addresses′ blocks′ lists′ l l (on (writing kind x (fit (a .size) l) (bytes2 z)))
+      → wordOf w ≡ cond (r .yes) sameBlock newBlock
+      → arcTold (record {
+        answer = Answered w (r .running .flashed) (r .running .primary);
+        arc_record = moved a (r .running .held) (r .running .sizes);
+        counters = added c 0 0 (r .running .flashed) (r .running .primary);
+      }) disk′ flash′ addresses′ blocks′ lists′ (some l)
+      ≡ arcCalled a (arcLent a disk flash addresses blocks lists (countersOf c)) (askOf kind x l z)
+  written-as w r disk′ flash′ addresses′ blocks′ lists′ s ew =
+      let q = askOf kind x l z in
+      let k = asks-write kind (a .size) x z l in
+      let y : Call (Fixed (a .size)) = writing kind x (fit (a .size) l) (bytes2 z) in
+      let says = write-says (engine (baseOf a)) (sizesOf a) (listsOf (arcLent a disk flash addresses blocks lists (countersOf c)))
+      (boxOf (sizesOf a) (arcLent a disk flash addresses blocks lists (countersOf c))) x kind (fit (a .size) l) (bytes2 z) in
+      let v = subst (λ u. Serves (baseOf a) r disk′ flash′ addresses′ blocks′ lists′ l l (on u)) (sym (k .call)) s in
+      let says′ = subst (λ u. (on u) .outcome .word ≡ cond (isYes ((on u) .outcome .word)) sameBlock newBlock) (sym (k .call)) says in
+      let o = outcome a disk flash addresses blocks lists c q e in
+      access-told a disk flash addresses blocks lists c q e w (r .running .held) (r .running .flashed) (r .running .primary) 0 0 (r .running .sizes)
+      disk′ flash′ addresses′ blocks′ lists′ (some l) (v .box) (v .names) (ew ∙ said-is (o .outcome .word) sameBlock newBlock (r .yes) says′ (v .word))
+      (v .flashed) (v .primary) (sym (ap oneIf (k .no-read))) (no-hit (o .outcome .word) says′) (k .kept (o .outcome .block)) (sym (k .no-part (o .outcome .block)))
