@@ -33,7 +33,6 @@ use Rattle.arcstep.specs.declared.Running.{Running}
 use Rattle.arcstep.specs.Runs.{Within, Stands, sizesFor}
 use Rattle.serve.specs.Calls.{isYes, returnedOr, HitAt}
 use Rattle.serve.specs.ServeLaws.{hit-row, rep-onDisk, sound-rep}
-use Rattle.arcserve.specs.declared.ArcServed.{ArcServed}
 use Rattle.arcserve.specs.ArcCalls.{Serves}
 
 -- an answer with what its step left
@@ -68,7 +67,8 @@ taken-read b s l x a y lent r z disk flash addrs blocks lists block st ez eb =
 
 -- a read that hits
 pub hit-read : (b : BoxRecord) (s : ListSizes) (l : Lists) (x : Box (Fixed 32) (Fixed (b .size))) (a i j : ℕ) (y : Fixed (b .size))
-    (lent : List ℕ) (r : Running) (z : Seat) (disk flash addrs blocks lists block disk₀ flash₀ addrs₀ blocks₀ : List ℕ) → Rep b disk₀ flash₀ addrs₀ blocks₀ x → HitAt b x a i j
+    (lent : List ℕ) (r : Running) (z : Seat) (disk flash addrs blocks lists block disk₀ flash₀ addrs₀ blocks₀ : List ℕ)
+    → Rep b disk₀ flash₀ addrs₀ blocks₀ x → HitAt b x a i j
     → (let row = getD (x .rows) i noRow in
     let k = blockOf (engine b) (row .fingerprint) (x .used) (x .flash) in
     Stands b r disk flash addrs blocks lists (arcStep (engine b) (sizesFor b s) l x (asks a (row .fingerprint) k (row .dirty) z))
@@ -108,7 +108,8 @@ module _ (b : BoxRecord) (s : ListSizes) (l : Lists) (x : Box (Fixed 32) (Fixed 
       let k = tally-has (λ z. z) y (endToEnd l) e in
       let n = named-end y l in
       let t = so .names y in
-      let o = in-below (b .blocks) y (x .rows) (so .sound .below) (tally-some (λ (r : AddressRow (Fixed 32)). r .address) y (x .rows) (omega (arith, k, n, t))) in
+      let q = tally-some (λ (r : AddressRow (Fixed 32)). r .address) y (x .rows) (omega (arith, k, n, t)) in
+      let o = in-below (b .blocks) y (x .rows) (so .sound .below) q in
       omega (arith, o, most))
       (endToEnd l) (all-in (endToEnd l))
 

@@ -1,17 +1,13 @@
 -- The row's own fingerprint, dirty value and seat, and the block copied, are what the step is asked with. Assumes nothing.
-use mathlib.Core.Path.{_≡_, refl, sym, ap, _∙_}
+use mathlib.Core.Path.{sym, ap, _∙_}
 use native.Mathlib.Omega.{arith}
 use lib.ListN.{getD}
 use borrow.Author.Needs.{needs}
-use Rattle.tables.specs.Records.{Seat, bytes2}
-use Rattle.paper.specs.Cache.{Box, blockOf}
-use Rattle.paper.specs.Engine.{Fixed}
+use Rattle.tables.specs.Records.{bytes2}
+use Rattle.paper.specs.Cache.{blockOf}
 use Rattle.paper.specs.Lent.{bit}
-use Rattle.arc.specs.Arc.{arcStep}
 use Rattle.parts.specs.Rep.{noRow, engine}
 use Rattle.parts.specs.MoveLaws.{fp-is, dirty-is, seat-is}
-use Rattle.step.specs.Steps.{asks}
-use Rattle.arcstep.specs.Runs.{Stands, sizesFor}
 use Rattle.arcserve.proofs.Serving.{hit-read}
 use Rattle.arcserve.proofs.reads.read_hit.Statement.{statement}
 use Rattle.arcserve.proofs.reads.read_hit.Tie as tie
