@@ -54,14 +54,7 @@ fn moved_on(a: ArcRecord, t: Running) -> ArcRecord
 }
 
 // What a served call gives back: its word, what it told, and the counters with its own counts.
-fn accessed(
-    a: ArcRecord,
-    w: Word,
-    t: Running,
-    c: Counters,
-    reads: u64,
-    hits: u64,
-) -> ArcOutcome
+fn accessed(a: ArcRecord, w: Word, t: Running, c: Counters, reads: u64, hits: u64) -> ArcOutcome
     requires { ⌜ (c .reads + reads < 2 ^ 64) × (c .hits + hits < 2 ^ 64) × (c .flash + t .flashed < 2 ^ 64) × (c .primary + t .primary < 2 ^ 64) ⌝ }
     ensures { λ r. ⌜ r ≡ record {
       answer = Answered w (t .flashed) (t .primary);
@@ -113,7 +106,18 @@ pub fn read(
     }
     let sizes = a.sizes;
     let b = base_of(a);
-    let s = reads::serve_read(b, sizes, asked, disk, flash, addresses, blocks, lists, block, &heads);
+    let s = reads::serve_read(
+        b,
+        sizes,
+        asked,
+        disk,
+        flash,
+        addresses,
+        blocks,
+        lists,
+        block,
+        &heads,
+    );
     let t = s.running;
     accessed(a, calls::read_word(s.yes), t, c, 1, calls::one_if(s.yes))
 }
