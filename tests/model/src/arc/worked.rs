@@ -1,5 +1,4 @@
-//! Worked states of D-ARC: a box, calls with their answers, and what they leave. Those in `worked.txt` are of crates/arc/specs/ArcWorked.antt, those in
-//! `by_hand.txt` were worked out by hand from document 02.
+//! Worked states of D-ARC: a box, calls with their answers, and what they leave. Those in `worked.txt` are the tables of crates/arc/specs/ArcWorked.antt.
 //!
 //! The content k is a block of bytes k. A row is `address:content`, with `*` where it is dirty and `/seat` where the seat is not 0; a used block row is
 //! `content@slot`. A folder's answer is hits, flash writes, primary writes and fetches.
@@ -136,7 +135,7 @@ pub fn examples() -> Vec<Example> {
             to: to.strip_prefix("to ").expect("a state"),
         }
     };
-    [include_str!("worked.txt"), include_str!("by_hand.txt")].into_iter().flat_map(|text| text.split("\n\n")).map(example).collect()
+    include_str!("worked.txt").split("\n\n").map(example).collect()
 }
 
 /// The text of a sound box of the label and the block size here.
