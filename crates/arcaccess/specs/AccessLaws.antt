@@ -84,7 +84,8 @@ module _ (a : ArcRecord) (disk flash addresses blocks lists : List ℕ) (c : Cod
       rep (baseOf a) disk flash addresses blocks (countersOf c) q
       (base-zero (sizesOf a) (arcLent a disk flash addresses blocks lists (countersOf c)) q e) x y
 
-  pub lists-held : ((i : ℕ) → getD lists i 0 < 256) → Holds (mOf (sizesOf a)) (a .sizes) lists (listsOf (arcLent a disk flash addresses blocks lists (countersOf c)))
+  pub lists-held : ((i : ℕ) → getD lists i 0 < 256)
+      → Holds (mOf (sizesOf a)) (a .sizes) lists (listsOf (arcLent a disk flash addresses blocks lists (countersOf c)))
   lists-held low =
       let u = arcLent a disk flash addresses blocks lists (countersOf c) in
       let r = passes-read (sizesOf a) u (finds .passes) in
@@ -237,4 +238,5 @@ module _ (a : ArcRecord) (disk flash addresses blocks lists : List ℕ) (c : Cod
       let o = outcome a disk flash addresses blocks lists c q e in
       access-told a disk flash addresses blocks lists c q e w (r .running .held) (r .running .flashed) (r .running .primary) 0 0 (r .running .sizes)
       disk′ flash′ addresses′ blocks′ lists′ (some l) (v .box) (v .names) (ew ∙ said-is (o .outcome .word) sameBlock newBlock (r .yes) says′ (v .word))
-      (v .flashed) (v .primary) (sym (ap oneIf (k .no-read))) (no-hit (o .outcome .word) says′) (k .kept (o .outcome .block)) (sym (k .no-part (o .outcome .block)))
+      (v .flashed) (v .primary) (sym (ap oneIf (k .no-read))) (no-hit (o .outcome .word) says′) (k .kept (o .outcome .block))
+      (sym (k .no-part (o .outcome .block)))

@@ -108,7 +108,8 @@ pub(crate) fn join(
     ensures { λ r. ⌜ (r .primary ≡ t .primary) × (r .flashed ≡ t .flashed) ⌝ }
     ensures { λ r. ⌜ ((disk flash blocks : List ℕ) (R : Within b) (f : Fixed 32) (w : Bool)
         → Runs b t disk flash (now (addrs .entry)) blocks (now (lists .entry)) R → f .0 ≡ now (g .entry) → dirty ≡ bit w → a .0 < b .blocks
-        → total (t .sizes) < b .rows → Stands b r disk flash (now (addrs .exit)) blocks (now (lists .exit)) (joined (engine b) (a .0) f w (bytes2 seat) (wasOf was) R)) ⌝ }
+        → total (t .sizes) < b .rows
+        → Stands b r disk flash (now (addrs .exit)) blocks (now (lists .exit)) (joined (engine b) (a .0) f w (bytes2 seat) (wasOf was) R)) ⌝ }
 {
     put::push_address(addrs, t.held, a, g, dirty, seat);
     let s = join_list(was, t.sizes, lists, a.0);

@@ -9,7 +9,8 @@ pub mod victim;
 use arclists::ListSizes;
 use arclists::Was;
 
-// What runs through the parts of a step: how many rows are held, the lists' sizes with p, C and X, the blocks stored in the flash, and those copied to the disk.
+// What runs through the parts of a step: how many rows are held, the lists' sizes with p, C and X, the blocks stored in the flash, and those copied
+// to the disk.
 pub struct Running {
     pub held: usize,
     pub sizes: ListSizes,

@@ -158,7 +158,8 @@ fp-known P m n t l h g q eq f e =
     ∙ found-has (comparing .same) (λ r. r .fingerprint) q (hasFingerprint g) addrBytes (has-fp g q eq) 0 l
 
 -- a used block row's fingerprint is that of none of the rows l
-row-unknown : (l : List (AddressRow (Fixed 32))) (u : BlockRow (Fixed 32)) → unknownIn (map addrBytes l) (usedBytes u) ≡ not (known comparing (u .fingerprint) l)
+row-unknown : (l : List (AddressRow (Fixed 32))) (u : BlockRow (Fixed 32))
+    → unknownIn (map addrBytes l) (usedBytes u) ≡ not (known comparing (u .fingerprint) l)
 row-unknown l u =
     let g = readBlock (usedBytes u) .fingerprint in
     ap (λ (k : ℕ). eqb k 1 && absent (findFrom (hasFingerprint g) 0 (map addrBytes l))) (flag-used u)

@@ -23,7 +23,8 @@ use Rattle.parts.specs.CopyLaws.{right-no}
 use Rattle.tables.specs.Records.{readBlock}
 
 -- the block row of the fingerprint q, by its place
-module _ (N : Numbers) (d : ℕ) (t : List ℕ) (free : List ℕ) (used : List (BlockRow (Fixed 32))) (h : Blocks d t free used) (place : ℕ) (q : Fixed 32) (e : place ≡ placeOf (some q) free used) where
+module _ (N : Numbers) (d : ℕ) (t : List ℕ) (free : List ℕ) (used : List (BlockRow (Fixed 32))) (h : Blocks d t free used) (place : ℕ) (q : Fixed 32)
+    (e : place ≡ placeOf (some q) free used) where
   pub not-there : d ≤ place → cached (labelled N) q used ≡ false
   not-there b = has-no (comparing .same) (λ (u : BlockRow (Fixed 32)). u .fingerprint) q used (omega (arith, e, h .count))
 
@@ -35,21 +36,31 @@ module _ (N : Numbers) (d : ℕ) (t : List ℕ) (free : List ℕ) (used : List (
     there = has-yes (comparing .same) (λ (u : BlockRow (Fixed 32)). u .fingerprint) q used below
 
     -- a row has the fingerprint whose bytes are there
-    pub known-as : (l : List (AddressRow (Fixed 32))) (v : Bool) (g : List ℕ) → g ≡ readBlock (rowAt t place) .fingerprint → ((f : Fixed 32) → f .0 ≡ g → v ≡ known (comparing) f l) → known comparing q l ≡ v
+    pub known-as : (l : List (AddressRow (Fixed 32))) (v : Bool) (g : List ℕ) → g ≡ readBlock (rowAt t place) .fingerprint
+        → ((f : Fixed 32) → f .0 ≡ g → v ≡ known (comparing) f l) → known comparing q l ≡ v
     known-as l v g eg f =
-        let is : q ≡ getD used (indexWhere (λ (u : BlockRow (Fixed 32)). comparing .same q (u .fingerprint)) used) noBlock .fingerprint = comparing .same→≡ q (getD used (indexWhere (λ (u : BlockRow (Fixed 32)). comparing .same q (u .fingerprint)) used) noBlock .fingerprint) (index-holds (λ (u : BlockRow (Fixed 32)). comparing .same q (u .fingerprint)) used noBlock below) in
-        sym (f q (ap (λ (x : Fixed 32). x .0) is ∙ sym (eg ∙ ap (λ (x : ℕ). readBlock (rowAt t x) .fingerprint) e ∙ used-fp d t free used h (indexWhere (λ (u : BlockRow (Fixed 32)). comparing .same q (u .fingerprint)) used) below noBlock)))
+        let i : ℕ = indexWhere (λ (u : BlockRow (Fixed 32)). comparing .same q (u .fingerprint)) used in
+        let is : q ≡ getD used i noBlock .fingerprint
+        = comparing .same→≡ q (getD used i noBlock .fingerprint)
+        (index-holds (λ (u : BlockRow (Fixed 32)). comparing .same q (u .fingerprint)) used noBlock below) in
+        let eq : g ≡ getD used i noBlock .fingerprint .0
+        = eg ∙ ap (λ (x : ℕ). readBlock (rowAt t x) .fingerprint) e ∙ used-fp d t free used h i below noBlock in
+        sym (f q (ap (λ (x : Fixed 32). x .0) is ∙ sym eq))
 
     -- it is freed
-    pub freed-at : Distinct (comparing .same) (λ u. u .fingerprint) used → rowFreed d place t ≡ blockBytes (freed (labelled N) q (record { free = free; used = used }))
+    pub freed-at : Distinct (comparing .same) (λ u. u .fingerprint) used
+        → rowFreed d place t ≡ blockBytes (freed (labelled N) q (record { free = free; used = used }))
     unfolding freed
     freed-at ds =
         let slot = slotOf-yes (labelled N) q used noBlock below in
         let rest = without-yes (comparing .same) (λ (u : BlockRow (Fixed 32)). u .fingerprint) q (comparing .same→≡) used ds below in
-        ap (λ (x : ℕ). rowFreed d x t) e ∙ fronted d t free used h (indexWhere (λ (u : BlockRow (Fixed 32)). comparing .same q (u .fingerprint)) used) below noBlock ∙ ap₂ {C = List ℕ} (λ x y. blocksOf (x ∷ free) y) (sym slot) (sym rest)
+        ap (λ (x : ℕ). rowFreed d x t) e
+        ∙ fronted d t free used h (indexWhere (λ (u : BlockRow (Fixed 32)). comparing .same q (u .fingerprint)) used) below noBlock
+        ∙ ap₂ {C = List ℕ} (λ x y. blocksOf (x ∷ free) y) (sym slot) (sym rest)
 
 -- write invalidate's block rows
-module _ (N : Numbers) (d : ℕ) (t : List ℕ) (l : List (AddressRow (Fixed 32))) (free : List ℕ) (used : List (BlockRow (Fixed 32))) (h : Blocks d t free used) where
+module _ (N : Numbers) (d : ℕ) (t : List ℕ) (l : List (AddressRow (Fixed 32))) (free : List ℕ) (used : List (BlockRow (Fixed 32)))
+    (h : Blocks d t free used) where
   pub drop-none : (o : Option (AddressRow (Fixed 32))) → o ≡ none → t ≡ blockBytes (dropped (labelled N) l (record { free = free; used = used }) o)
   unfolding dropped
   drop-none o e = h .is ∙ rw e refl
@@ -63,7 +74,9 @@ module _ (N : Numbers) (d : ℕ) (t : List ℕ) (l : List (AddressRow (Fixed 32)
     unfolding dropped
     drop-known y = rw y (h .is)
 
-    pub drop-freed : known comparing (r .fingerprint) l ≡ false → cached (labelled N) (r .fingerprint) used ≡ true → (t′ : List ℕ) → t′ ≡ blockBytes (freed (labelled N) (r .fingerprint) (record { free = free; used = used })) → t′ ≡ blockBytes (dropped (labelled N) l (record { free = free; used = used }) (some r))
+    pub drop-freed : known comparing (r .fingerprint) l ≡ false → cached (labelled N) (r .fingerprint) used ≡ true → (t′ : List ℕ)
+        → t′ ≡ blockBytes (freed (labelled N) (r .fingerprint) (record { free = free; used = used }))
+        → t′ ≡ blockBytes (dropped (labelled N) l (record { free = free; used = used }) (some r))
     unfolding dropped
     drop-freed y c t′ e = rw (y, c) e
 
@@ -96,5 +109,7 @@ module _ (P m n : ℕ) (t : List ℕ) (l : List (AddressRow (Fixed 32))) (h : Ad
   -- it is not
   pub stays : n ≤ i → (withoutAddress a l ≡ l) × (rowOf a l ≡ none)
   stays b =
-      let y : length l ≤ indexWhere (λ (x : AddressRow (Fixed 32)). eqb a (x .address)) l = omega (arith, e, h .count) in
-      (without-absent eqb (λ (x : AddressRow (Fixed 32)). x .address) a l (has-no eqb (λ (x : AddressRow (Fixed 32)). x .address) a l y), find-no eqb (λ (x : AddressRow (Fixed 32)). x .address) a l y)
+      let y : length l ≤ indexWhere (λ (x : AddressRow (Fixed 32)). eqb a (x .address)) l = omega (arith, e, h .count) in (
+        without-absent eqb (λ (x : AddressRow (Fixed 32)). x .address) a l (has-no eqb (λ (x : AddressRow (Fixed 32)). x .address) a l y),
+        find-no eqb (λ (x : AddressRow (Fixed 32)). x .address) a l y,
+      )

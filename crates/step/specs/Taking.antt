@@ -32,12 +32,15 @@ module _ (d : ℕ) (t : List ℕ) (l : List (AddressRow (Fixed 32))) (used : Lis
   victim-picked (k ∷ free) h b = refl
 
 -- the row of a fingerprint, where fingerprints are distinct
-pub own-slot : (N : Numbers) (used : List (BlockRow (Fixed 32))) (i : ℕ) → Distinct (comparing .same) (λ u. u .fingerprint) used → i < length used → slotOf (labelled N) (getD used i noBlock .fingerprint) used ≡ getD used i noBlock .slot
+pub own-slot : (N : Numbers) (used : List (BlockRow (Fixed 32))) (i : ℕ) → Distinct (comparing .same) (λ u. u .fingerprint) used → i < length used
+    → slotOf (labelled N) (getD used i noBlock .fingerprint) used ≡ getD used i noBlock .slot
 own-slot N [] i d h = absurd (omega arith)
 own-slot N (x ∷ xs) zero d h = rw (labelled N .same-refl (x .fingerprint)) refl
 own-slot N (x ∷ xs) (suc i) d h =
     by-test (labelled N .same (getD xs i noBlock .fingerprint) (x .fingerprint))
-    (λ e. clash (has-at (comparing .same) (λ (u : BlockRow (Fixed 32)). u .fingerprint) (x .fingerprint) xs i noBlock (le-of-suc-le-suc h) (ap (λ (f : Fixed 32). comparing .same f (getD xs i noBlock .fingerprint)) (sym (labelled N .same→≡ (getD xs i noBlock .fingerprint) (x .fingerprint) e)) ∙ comparing .same-refl (getD xs i noBlock .fingerprint))) (d .0))
+    (λ e. clash (has-at (comparing .same) (λ (u : BlockRow (Fixed 32)). u .fingerprint) (x .fingerprint) xs i noBlock (le-of-suc-le-suc h)
+    (ap (λ (f : Fixed 32). comparing .same f (getD xs i noBlock .fingerprint)) (sym (labelled N .same→≡ (getD xs i noBlock .fingerprint) (x .fingerprint) e))
+    ∙ comparing .same-refl (getD xs i noBlock .fingerprint))) (d .0))
     (λ e. rw e (own-slot N xs i (d .1) (le-of-suc-le-suc h)))
 
 -- what is taken with the used row at t
@@ -50,7 +53,9 @@ taken-at N used d t h =
     (comparing .same-refl (getD used t noBlock .fingerprint)))
 
 -- what is taken
-pub taken-is : (N : Numbers) (l : List (AddressRow (Fixed 32))) (free : List ℕ) (used : List (BlockRow (Fixed 32))) → Distinct (comparing .same) (λ u. u .fingerprint) used → Picked free used (victimPlace l free used) → taken (labelled N) l free used ≡ pickedTaken free used (victimPlace l free used)
+pub taken-is : (N : Numbers) (l : List (AddressRow (Fixed 32))) (free : List ℕ) (used : List (BlockRow (Fixed 32)))
+    → Distinct (comparing .same) (λ u. u .fingerprint) used → Picked free used (victimPlace l free used)
+    → taken (labelled N) l free used ≡ pickedTaken free used (victimPlace l free used)
 unfolding taken pickedTaken victimPlace takenUsed victim
 taken-is N l (k ∷ free) used d = λ p. refl
 taken-is N l [] used d =
@@ -65,13 +70,15 @@ taken-is N l [] used d =
 
 -- the row of a cached fingerprint becomes newest
 pub renewed-at : (N : Numbers) (d : ℕ) (t : List ℕ) (free : List ℕ) (used : List (BlockRow (Fixed 32))) → Blocks d t free used
-    → Distinct (comparing .same) (λ u. u .fingerprint) used → (f : Fixed 32) (j : ℕ) → j ≡ length free + indexWhere (λ u. comparing .same f (u .fingerprint)) used → j < d
+    → Distinct (comparing .same) (λ u. u .fingerprint) used → (f : Fixed 32) (j : ℕ)
+    → j ≡ length free + indexWhere (λ u. comparing .same f (u .fingerprint)) used → j < d
     → rowNewest d j t ≡ blocksOf free (withoutBlock (labelled N) f used ++ (blockRow f (slotOf (labelled N) f used) ∷ []))
 renewed-at N d t free used h ds f j ej l =
     let i : ℕ = indexWhere (λ (u : BlockRow (Fixed 32)). comparing .same f (u .fingerprint)) used in
     let ib : i < length used = omega (arith, ej, l, h .count) in
     let fe : getD used i noBlock .fingerprint ≡ f
-    = sym (comparing .same→≡ f (getD used i noBlock .fingerprint) (index-holds (λ (u : BlockRow (Fixed 32)). comparing .same f (u .fingerprint)) used noBlock ib)) in
+    = sym (comparing .same→≡ f (getD used i noBlock .fingerprint)
+    (index-holds (λ (u : BlockRow (Fixed 32)). comparing .same f (u .fingerprint)) used noBlock ib)) in
     let se : getD used i noBlock .slot ≡ slotOf (labelled N) f used = sym (slotOf-yes (labelled N) f used noBlock ib) in
     let ue : getD used i noBlock ≡ blockRow f (slotOf (labelled N) f used) = λ n. record { fingerprint = fe n; slot = se n } in
     let wo : withoutBlock (labelled N) f used ≡ removeAt used i

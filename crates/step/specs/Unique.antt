@@ -18,13 +18,17 @@ unique-used : (l : List (BlockRow (Fixed 32))) → Distinct (comparing .same) (�
 unfolding every
 unique-used [] ds = refl
 unique-used (u ∷ l) ds =
-    let e : absent (findFrom (caches (readBlock (usedBytes u) .fingerprint)) 0 (map usedBytes l)) ≡ true = absent-is (findFrom (caches (readBlock (usedBytes u) .fingerprint)) 0 (map usedBytes l)) ∙ ap not (used-has (readBlock (usedBytes u) .fingerprint) (u .fingerprint) (sym (fp-used u)) 0 l ∙ ds .0) in
+    let e : absent (findFrom (caches (readBlock (usedBytes u) .fingerprint)) 0 (map usedBytes l)) ≡ true
+    = absent-is (findFrom (caches (readBlock (usedBytes u) .fingerprint)) 0 (map usedBytes l))
+    ∙ ap not (used-has (readBlock (usedBytes u) .fingerprint) (u .fingerprint) (sym (fp-used u)) 0 l ∙ ds .0) in
     rw (flag-used u, e) (unique-used l (ds .1))
 
-unique-all : (free : List ℕ) (used : List (BlockRow (Fixed 32))) → Distinct (comparing .same) (λ u. u .fingerprint) used → every unique (map freeBytes free ++ map usedBytes used) ≡ true
+unique-all : (free : List ℕ) (used : List (BlockRow (Fixed 32))) → Distinct (comparing .same) (λ u. u .fingerprint) used
+    → every unique (map freeBytes free ++ map usedBytes used) ≡ true
 unfolding every
 unique-all [] used ds = unique-used used ds
 unique-all (k ∷ free) used ds = rw (flag-free k) (unique-all free used ds)
 
-pub unique-is : (d : ℕ) (bt : List ℕ) (free : List ℕ) (used : List (BlockRow (Fixed 32))) → Blocks d bt free used → Distinct (comparing .same) (λ u. u .fingerprint) used → every unique (rows d bt) ≡ true
+pub unique-is : (d : ℕ) (bt : List ℕ) (free : List ℕ) (used : List (BlockRow (Fixed 32))) → Blocks d bt free used
+    → Distinct (comparing .same) (λ u. u .fingerprint) used → every unique (rows d bt) ≡ true
 unique-is d bt free used hb ds = ap (every unique) (rows-blocks d bt free used hb) ∙ unique-all free used ds

@@ -43,20 +43,26 @@ absent-at p k [] j z e h = absurd (not-suc-le-zero h)
 absent-at p k (x ∷ xs) j z e h =
     elim (p x) as (λ q. p x ≡ q → absent (pick q (At k) (findFrom p (suc k) xs)) ≡ true → p (getD (x ∷ xs) j z) ≡ false) [
       | true ↦ λ o f. clash (sym f)
-      | false ↦ λ o f. elim j as (λ i. i < length (x ∷ xs) → p (getD (x ∷ xs) i z) ≡ false) [ zero ↦ λ l. o | suc i ↦ λ l. absent-at p (suc k) xs i z f (le-of-suc-le-suc l) ] h
+      | false ↦ λ o f. elim j as (λ i. i < length (x ∷ xs) → p (getD (x ∷ xs) i z) ≡ false) [
+        | zero ↦ λ l. o
+        | suc i ↦ λ l. absent-at p (suc k) xs i z f (le-of-suc-le-suc l)
+      ] h
     ] refl e
 
 -- where no two used rows have one fingerprint, a search for row j's finds row j
-self-other : (r s : List ℕ) (rs : List (List ℕ)) (j : ℕ) → unique r rs ≡ true → j < length rs → isUsed (getD rs j []) ≡ true → caches (readBlock (getD rs j []) .fingerprint) r ≡ true → ⊥
+self-other : (r s : List ℕ) (rs : List (List ℕ)) (j : ℕ) → unique r rs ≡ true → j < length rs → isUsed (getD rs j []) ≡ true
+    → caches (readBlock (getD rs j []) .fingerprint) r ≡ true → ⊥
 self-other r s rs j u h e c =
     let o = and-left (isUsed r) (same (readBlock r .fingerprint) (readBlock (getD rs j []) .fingerprint)) c in
-    let q = same-true (readBlock r .fingerprint) (readBlock (getD rs j []) .fingerprint) (and-right (isUsed r) (same (readBlock r .fingerprint) (readBlock (getD rs j []) .fingerprint)) c) in
+    let q = same-true (readBlock r .fingerprint) (readBlock (getD rs j []) .fingerprint)
+    (and-right (isUsed r) (same (readBlock r .fingerprint) (readBlock (getD rs j []) .fingerprint)) c) in
     let v : absent (findFrom (caches (readBlock r .fingerprint)) 0 rs) ≡ true = rw o at u in
     let n : caches (readBlock r .fingerprint) (getD rs j []) ≡ false = absent-at (caches (readBlock r .fingerprint)) 0 rs j [] v h in
     let y : caches (readBlock r .fingerprint) (getD rs j []) ≡ true = rw (e, q) (same-refl (readBlock (getD rs j []) .fingerprint)) in
     clash (sym y ∙ n)
 
-self-find : (rs : List (List ℕ)) (j k : ℕ) → every unique rs ≡ true → j < length rs → isUsed (getD rs j []) ≡ true → findFrom (caches (readBlock (getD rs j []) .fingerprint)) k rs ≡ At (k + j)
+self-find : (rs : List (List ℕ)) (j k : ℕ) → every unique rs ≡ true → j < length rs → isUsed (getD rs j []) ≡ true
+    → findFrom (caches (readBlock (getD rs j []) .fingerprint)) k rs ≡ At (k + j)
 unfolding every findFrom
 self-find [] j k u h e = absurd (not-suc-le-zero h)
 self-find (r ∷ rs) zero k u h e = rw (e, same-refl (readBlock r .fingerprint), add-zero)
@@ -74,25 +80,32 @@ module _ (rs : List (List ℕ)) (u : every unique rs ≡ true) (few : length rs 
       let s = same-true (readAddress r .fingerprint) (readBlock (getD rs j []) .fingerprint) q in
       eq-eqb j (placeIn rs r) (sym (ap (λ (g : List ℕ). code (findFrom (caches g) 0 rs)) s ∙ ap code (self-find rs j 0 u h e) ∙ zero-add j))
 
-  held-found : (r : List ℕ) (f : Found) → findFrom (caches (readAddress r .fingerprint)) 0 rs ≡ f → j ≡ code f → hasFingerprint (readBlock (getD rs j []) .fingerprint) r ≡ true
+  held-found : (r : List ℕ) (f : Found) → findFrom (caches (readAddress r .fingerprint)) 0 rs ≡ f → j ≡ code f
+      → hasFingerprint (readBlock (getD rs j []) .fingerprint) r ≡ true
   held-found r (At i) o q =
       let c : caches (readAddress r .fingerprint) (getD rs j []) ≡ true = rw q (found-at (caches (readAddress r .fingerprint)) rs [] i o .holds) in
-      let s = same-true (readBlock (getD rs j []) .fingerprint) (readAddress r .fingerprint) (and-right (isUsed (getD rs j [])) (same (readBlock (getD rs j []) .fingerprint) (readAddress r .fingerprint)) c) in
+      let s = same-true (readBlock (getD rs j []) .fingerprint) (readAddress r .fingerprint)
+      (and-right (isUsed (getD rs j [])) (same (readBlock (getD rs j []) .fingerprint) (readAddress r .fingerprint)) c) in
       rw s (same-refl (readAddress r .fingerprint))
   held-found r Nothing o q = absurd (omega arith)
 
   held-is : (r : List ℕ) → eqb j (placeIn rs r) ≡ hasFingerprint (readBlock (getD rs j []) .fingerprint) r
   unfolding placeIn
-  held-is r = elim (hasFingerprint (readBlock (getD rs j []) .fingerprint) r) as (λ q. hasFingerprint (readBlock (getD rs j []) .fingerprint) r ≡ q → eqb j (placeIn rs r) ≡ q) [
-    | true ↦ held-hit r
-    | false ↦ λ o. ne-eqb j (placeIn rs r) (λ m. clash (sym (held-found r (findFrom (caches (readAddress r .fingerprint)) 0 rs) refl m) ∙ o))
-  ] refl
+  held-is r = elim (hasFingerprint (readBlock (getD rs j []) .fingerprint) r) as
+      (λ q. hasFingerprint (readBlock (getD rs j []) .fingerprint) r ≡ q → eqb j (placeIn rs r) ≡ q) [
+        | true ↦ held-hit r
+        | false ↦ λ o. ne-eqb j (placeIn rs r) (λ m. clash (sym (held-found r (findFrom (caches (readAddress r .fingerprint)) 0 rs) refl m) ∙ o))
+      ] refl
 
   -- row j is the block row of an address row, or none has its fingerprint
-  elem-held : (k : ℕ) (hs : List (List ℕ)) → elem j (map (placeIn rs) hs) ≡ not (absent (findFrom (hasFingerprint (readBlock (getD rs j []) .fingerprint)) k hs))
+  elem-held : (k : ℕ) (hs : List (List ℕ)) → elem j (map (placeIn rs) hs)
+      ≡ not (absent (findFrom (hasFingerprint (readBlock (getD rs j []) .fingerprint)) k hs))
   unfolding elem findFrom
   elem-held k [] = refl
-  elem-held k (r ∷ hs) = rw (held-is r) (elim (hasFingerprint (readBlock (getD rs j []) .fingerprint) r) as (λ q. q || elem j (map (placeIn rs) hs) ≡ not (absent (pick q (At k) (findFrom (hasFingerprint (readBlock (getD rs j []) .fingerprint)) (suc k) hs)))) [ true ↦ refl | false ↦ elem-held (suc k) hs ])
+  elem-held k (r ∷ hs) = rw (held-is r) (elim (hasFingerprint (readBlock (getD rs j []) .fingerprint) r) as
+      (λ q. q || elem j (map (placeIn rs) hs)
+      ≡ not (absent (pick q (At k) (findFrom (hasFingerprint (readBlock (getD rs j []) .fingerprint)) (suc k) hs))))
+      [ true ↦ refl | false ↦ elem-held (suc k) hs ])
 
 mark-not : (b : Bool) → eqb (mark (not b)) 0 ≡ b
 mark-not true = refl
