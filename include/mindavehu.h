@@ -216,7 +216,7 @@ extern "C" {
 #define MINDAVEHU_VERSION_PATCH 0
 
 /* The most bytes of stack that a call needs. */
-#define MINDAVEHU_STACK 24576
+#define MINDAVEHU_STACK 32768
 
 /* Lengths in bytes: of the state, of a label, of an answer, of the answer of the call for a list, of the counts of an exam question, of a row of either
  * table, of the part of each held address in the manager's report and in the desk's, of an image's header and of each write of a save. */
@@ -504,8 +504,10 @@ uint32_t mindavehu_save(uint8_t *state, size_t state_length,
  * checked. On a disk and a flash of another time the box would give blocks of another time.
  * `lists` has length 0; its pointer is not NULL.
  * Refused with 15 if the area has fewer than 64 bytes or does not start with the header of an image of version 1; then with 14 if it is too short for the
- * length in that header; then with 16 if the body starts with another number than 0, has another length than its m and d say, or is of a box that would be
+ * length in that header; then with 16 if the body starts with a number above 1, has another length than its m and d say, or is of a box that would be
  * refused with 1, 12, 6, 7, 8 or 13 (the bytes behind the body may be any); then with 2 if the tables are not m x 40 and d x 40 bytes, or the lists not 0.
+ * A body that starts with 1 is of a D-ARC box, which this library does not run: 16 if it is unsound, else 2, since such a box has lists. (Lend none: with
+ * lists of its length it is given back, and the numbers in the state, C and X for m and d, do not fit its tables.)
  * A refused restore writes zeros for B, P, m, d, n, the label and t, and keeps all else, the header too: after a 2 the caller may lend other tables. */
 uint32_t mindavehu_restore(uint8_t *state, size_t state_length,
                            uint8_t *area, size_t area_length,

@@ -23,7 +23,7 @@ pub fn check<I: Index>(sizes: &Sizes, addresses: &[u8], blocks: &[u8], index: &m
     Ok(())
 }
 
-fn addresses_sound(sizes: &Sizes, addresses: &[u8]) -> bool {
+pub(crate) fn addresses_sound(sizes: &Sizes, addresses: &[u8]) -> bool {
     let Sizes { p, m, n, .. } = *sizes;
     if n > m {
         return false;
@@ -48,11 +48,11 @@ fn held_sound<const WORDS: usize>(p: usize, held: &[u8]) -> bool {
 }
 
 /// Whether all bytes are zero: parts of 128 without a branch inside, so that the compiler takes them by its widest words.
-fn all_zero(bytes: &[u8]) -> bool {
+pub(crate) fn all_zero(bytes: &[u8]) -> bool {
     bytes.chunks(128).all(|part| part.iter().fold(0, |all, byte| all | byte) == 0)
 }
 
-fn blocks_sound<I: Index>(d: usize, blocks: &[u8], index: &mut I) -> bool {
+pub(crate) fn blocks_sound<I: Index>(d: usize, blocks: &[u8], index: &mut I) -> bool {
     index.reserve(d);
     let mut slots = [false; 256];
     let mut any_used = false;

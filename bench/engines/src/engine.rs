@@ -2,17 +2,17 @@
 use crate::checks::check;
 use crate::layout::*;
 
-const HIT: u64 = 1;
-const MISS: u64 = 2;
-const SAME: u64 = 3;
-const NEW: u64 = 4;
-const CACHE: u64 = 5;
-const DISK: u64 = 6;
-const DONE: u64 = 7;
+pub(crate) const HIT: u64 = 1;
+pub(crate) const MISS: u64 = 2;
+pub(crate) const SAME: u64 = 3;
+pub(crate) const NEW: u64 = 4;
+pub(crate) const CACHE: u64 = 5;
+pub(crate) const DISK: u64 = 6;
+pub(crate) const DONE: u64 = 7;
 
 pub(crate) const FIRST_COUNTER: usize = 5;
 const MOST_COUNTED: u64 = 1 << 63;
-const MOST_ASKED: usize = 64;
+pub(crate) const MOST_ASKED: usize = 64;
 
 /// An index of the used block rows by their fingerprints, made in each call. It is asked while the block rows are where they were.
 pub trait Index: Default {
@@ -38,36 +38,36 @@ fn numbers(state: &[u8], lengths: [usize; 4], a: Option<u32>, block: Option<usiz
     Ok(sizes)
 }
 
-fn counters_too_large(state: &[u8]) -> bool {
+pub(crate) fn counters_too_large(state: &[u8]) -> bool {
     (FIRST_COUNTER..FIRST_COUNTER + 4).any(|k| number(state, k) > MOST_COUNTED)
 }
 
 /// Adds to the counters and fills the answer.
-fn done(state: &mut [u8], answer: &mut [u8], word: u64, flash_writes: u64, primary_writes: u64) -> Result<(), u32> {
+pub(crate) fn done(state: &mut [u8], answer: &mut [u8], word: u64, flash_writes: u64, primary_writes: u64) -> Result<(), u32> {
     let is_read = word == HIT || word == MISS;
     add_counted(state, [is_read as u64, (word == HIT) as u64, flash_writes, primary_writes]);
     fill(answer, word, flash_writes, primary_writes)
 }
 
-fn add_counted(state: &mut [u8], counts: [u64; 4]) {
+pub(crate) fn add_counted(state: &mut [u8], counts: [u64; 4]) {
     for (k, more) in counts.into_iter().enumerate() {
         let counter = number(state, FIRST_COUNTER + k);
         set_number(state, FIRST_COUNTER + k, counter + more);
     }
 }
 
-fn fill(answer: &mut [u8], word: u64, first: u64, second: u64) -> Result<(), u32> {
+pub(crate) fn fill(answer: &mut [u8], word: u64, first: u64, second: u64) -> Result<(), u32> {
     set_number(answer, 0, word);
     set_number(answer, 1, first);
     set_number(answer, 2, second);
     Ok(())
 }
 
-fn copy(from: &[u8], i: usize, to: &mut [u8], j: usize, b: usize) {
+pub(crate) fn copy(from: &[u8], i: usize, to: &mut [u8], j: usize, b: usize) {
     to[j * b..(j + 1) * b].copy_from_slice(&from[i * b..(i + 1) * b]);
 }
 
-fn held(sizes: &Sizes, addresses: &[u8], a: u32) -> Option<usize> {
+pub(crate) fn held(sizes: &Sizes, addresses: &[u8], a: u32) -> Option<usize> {
     rows(&addresses[..sizes.n * ROW]).position(|row| address(row) == a)
 }
 
@@ -263,7 +263,7 @@ pub fn read<I: Index>(
 }
 
 /// Whether a buffer of this length has room for `count` blocks of `b` bytes and no byte more.
-fn is_product(length: usize, count: usize, b: usize) -> bool {
+pub(crate) fn is_product(length: usize, count: usize, b: usize) -> bool {
     length % b == 0 && length / b == count
 }
 

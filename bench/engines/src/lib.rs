@@ -3,7 +3,11 @@
 //!
 //! `maps` and `array` make the service's refusals with an index of the block rows that they build in each call: a hash map of the standard library,
 //! and an array made by hand. `persistent` refuses nothing and keeps its maps from call to call: it shows what the refusals and the lent tables cost.
+//! `arc` has the calls on D-ARC boxes, with the map of `maps` as its index.
 //! `scores` counts the lists of an exam question.
+pub mod arc;
+mod arc_checks;
+mod arc_lists;
 pub mod array;
 mod checks;
 mod engine;

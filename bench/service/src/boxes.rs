@@ -1,5 +1,9 @@
 //! The boxes that lists of calls start from: filled by calls, empty, and with tables made by hand.
-use crate::measure::{run, List};
+#[cfg(feature = "double")]
+use crate::measure::run_arc_peer;
+use crate::measure::{run_maps, List};
+#[cfg(feature = "double")]
+use engines::arc;
 use engines::maps;
 use sha2::{Digest, Sha256};
 use std::collections::BTreeSet;
@@ -24,6 +28,8 @@ pub struct Lent {
     pub blocks: Vec<u8>,
     pub block: Vec<u8>,
     pub answer: Vec<u8>,
+    /// The lists of a D-ARC box, none of a D-LRU box.
+    pub lists: Vec<u8>,
 }
 
 #[derive(Clone, Copy, PartialEq)]
@@ -150,6 +156,7 @@ fn opened(shape: Shape, contents: &[Vec<u8>]) -> Lent {
         blocks: vec![0; d * ROW],
         block: vec![0; b],
         answer: vec![0; 24],
+        lists: Vec::new(),
     };
     [(0, b), (1, p), (2, m), (3, d), (LIMIT, m)].iter().for_each(|(k, number)| set_number(&mut lent.state, *k, *number));
     assert_eq!(maps::open(&mut lent.state, &LABEL, &lent.disk, &lent.flash, &mut lent.addresses, &mut lent.blocks), 0);
@@ -161,7 +168,7 @@ fn fill(lent: &mut Lent, shape: Shape, count: usize, contents: &[Vec<u8>]) {
     let mut random = Random(4);
     let kinds = [Kind::Read, Kind::Read, Kind::Read, Kind::Back];
     let steps: Vec<Step> = (0..8 * shape.m + 16 * shape.d).map(|_| (random.pick(&kinds), random.below(count) as u32, random.below(contents.len()))).collect();
-    run(1, lent, &List { part: steps.len(), steps, contents }, &mut [Duration::MAX]);
+    run_maps(lent, &List { part: steps.len(), steps, contents }, &mut [Duration::MAX]);
 }
 
 fn filled(words: &str, shape: Shape, contents: Vec<Vec<u8>>) -> Start {
@@ -199,6 +206,35 @@ pub fn half_full(shape: Shape) -> Start {
 pub fn empty(shape: Shape) -> Start {
     let contents = contents(shape);
     Start::new("empty tables", shape, opened(shape, &contents), contents)
+}
+
+/// The places of C, X and the limit among the eights of a D-ARC state, and the length of such a state.
+#[cfg(feature = "double")]
+const ARC_C: usize = 2;
+#[cfg(feature = "double")]
+const ARC_X: usize = 3;
+#[cfg(feature = "double")]
+const ARC_STATE: usize = 192;
+
+/// A D-ARC box of the same tables, C being d, without a limit. The addresses that fill it have as many contents as there are slots, so that T1 and T2 come to
+/// hold C + X addresses; the others have all contents.
+#[cfg(feature = "double")]
+pub fn full_arc(shape: Shape) -> Start {
+    let Shape { b, p, m, d } = shape;
+    let all = contents(shape);
+    let mut random = Random(7);
+    let near = m + m / 4;
+    let disk = (0..p).flat_map(|a| all[random.below(if a < near { d } else { all.len() })].clone()).collect();
+    let mut lent = Lent { state: vec![0; ARC_STATE], disk, lists: vec![0; m * 4], ..opened(shape, &all) };
+    [(0, b), (1, p), (ARC_C, d), (ARC_X, m - 2 * d), (LIMIT, m)].iter().for_each(|(k, number)| set_number(&mut lent.state, *k, *number));
+    let Lent { state, disk, flash, addresses, blocks, lists, .. } = &mut lent;
+    assert_eq!(arc::open(state, &LABEL, disk, flash, addresses, blocks, lists), 0);
+    let kinds = [Kind::Read, Kind::Read, Kind::Read, Kind::Back];
+    let steps: Vec<Step> = (0..16 * m).map(|_| (random.pick(&kinds), random.below(near) as u32, random.below(d))).collect();
+    run_arc_peer(&mut lent, &List { part: steps.len(), steps, contents: &all }, &mut [Duration::MAX]);
+    let start = Start::new("full tables", shape, lent, all);
+    assert!(number(&start.lent.state, 4) == m as u64 && start.used().len() == d, "the tables of the D-ARC box are not full");
+    Start { name: format!("D-ARC, B {}, C {d}, X {}, full tables", comma(b), m - 2 * d), ..start }
 }
 
 /// The bucket of a fingerprint by its first two bytes, which give the buckets of the proved engine's index where they can (crates/checks/src/index.rt).

@@ -1,10 +1,13 @@
 //! Times the proved service beside unproved Rust engines in one run, interleaved, on copies of the same boxes: the best of each call, as ratios to the
 //! peer `maps`; whether the bounds are kept; and the rows of README's table, in Markdown.
+#[cfg(feature = "double")]
+mod arc;
 mod boxes;
 mod many;
 mod measure;
 mod scores;
-#[cfg(not(feature = "double"))]
+// With `double` nothing calls it, so that nothing of it is linked.
+#[cfg_attr(feature = "double", allow(dead_code))]
 mod service;
 
 use boxes::{at_limit, crafted, empty, full, half_full, one_bucket, Held, Shape, Start, LARGE};
@@ -65,7 +68,7 @@ impl Group {
 }
 
 /// Microseconds, to about three digits.
-fn micro(nanoseconds: f64) -> String {
+pub fn micro(nanoseconds: f64) -> String {
     let digits = [999.5, 9_995.0, 99_950.0].iter().filter(|end| nanoseconds < **end).count();
     format!("{:.digits$}", nanoseconds / 1000.0)
 }
@@ -128,6 +131,9 @@ fn print_what_is_measured() {
              eight bytes.");
     println!("array: the same with an index in an array on the stack in place of the hash map. persistent: no refusals, maps kept from call to call, \
              tables not written.");
+    #[cfg(feature = "double")]
+    println!("D-ARC boxes: the peer is an engine of the same kind, with the same refusals and such a map; the addresses that fill a box have as many \
+             contents as there are slots.");
     println!("The engines take turns, and so do the boxes of a group; the time of each call is its best of all runs.");
     println!("mixed: 40% reads, 20% each kind of write; half of the addresses held at first, half any; contents from 1.5 for each slot. read, miss: \
              addresses not held.");
@@ -161,6 +167,8 @@ fn main() {
     let by_hand = Group::measured(by_hand, 0);
     let folders = many::all(&large.boxes[FULL]);
     let questions = scores::all();
+    #[cfg(feature = "double")]
+    let arcs = arc::all();
     growth();
 
     println!("\nBounds:");
@@ -218,6 +226,8 @@ fn main() {
     for one in &questions {
         println!("| m {}, d {} | {:.2} | {:.2} | {:.2} |", one.m, one.d, one.service / 1e6, one.plain / 1e6, one.speed());
     }
+    #[cfg(feature = "double")]
+    arc::print(&arcs);
     if !bounds.kept {
         std::process::exit(1);
     }

@@ -56,7 +56,7 @@ fn read_many(lent: &mut Lent, asked: &[u32], buffer: &mut [u8], answer: &mut [u8
 }
 
 fn read_each(lent: &mut Lent, asked: &[u32], buffer: &mut [u8]) -> Duration {
-    let Lent { state, disk, flash, addresses, blocks, block, answer } = lent;
+    let Lent { state, disk, flash, addresses, blocks, block, answer, .. } = lent;
     let start = Instant::now();
     let places = asked.iter().zip(buffer.chunks_exact_mut(block.len()));
     let refused: u32 = places.map(|(a, into)| service::read(state, *a, disk, flash, addresses, blocks, into, answer)).sum();

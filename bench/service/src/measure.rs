@@ -8,6 +8,8 @@ use std::time::{Duration, Instant};
 
 #[cfg(feature = "double")]
 use engines::maps as service;
+#[cfg(feature = "double")]
+use engines::{arc, arc as arc_service};
 
 /// The engines in the order of the tables. The first is the service, the second its peer: ratios and bounds are to that one.
 pub const ENGINES: [&str; 4] = ["service", "maps", "array", "persistent"];
@@ -28,22 +30,22 @@ pub struct List<'a> {
 }
 
 /// A list of calls in parts, by the functions of a module. Each part's time goes into `best` where it is the best yet. Gives what was answered,
-/// in one number.
+/// in one number. The calls on a D-ARC box have its lists after the block table.
 macro_rules! run_list {
-    ($engine:ident, $lent:ident, $list:ident, $best:ident) => {{
-        let Lent { state, disk, flash, addresses, blocks, block, answer } = $lent;
+    ($engine:ident, $lent:ident, $list:ident, $best:ident $(, $lists:ident)?) => {{
+        let Lent { state, disk, flash, addresses, blocks, block, answer, $($lists,)? .. } = $lent;
         let mut sum = 0u64;
         for (steps, best) in $list.steps.chunks($list.part).zip($best) {
             let start = Instant::now();
             for (kind, a, content) in steps {
                 let (content, seat) = written($list, *content);
                 let refused = match kind {
-                    Kind::Read => $engine::read(state, *a, disk, flash, addresses, blocks, block, answer),
-                    Kind::Through => $engine::write_through(state, *a, seat, disk, flash, addresses, blocks, content, answer),
-                    Kind::Back => $engine::write_back(state, *a, seat, disk, flash, addresses, blocks, content, answer),
-                    Kind::Invalidate => $engine::write_invalidate(state, *a, seat, disk, flash, addresses, blocks, content, answer),
-                    Kind::Flush => $engine::flush(state, disk, flash, addresses, blocks, answer),
-                    Kind::Look => $engine::look(state, *a, disk, flash, addresses, blocks, answer),
+                    Kind::Read => $engine::read(state, *a, disk, flash, addresses, blocks, $($lists,)? block, answer),
+                    Kind::Through => $engine::write_through(state, *a, seat, disk, flash, addresses, blocks, $($lists,)? content, answer),
+                    Kind::Back => $engine::write_back(state, *a, seat, disk, flash, addresses, blocks, $($lists,)? content, answer),
+                    Kind::Invalidate => $engine::write_invalidate(state, *a, seat, disk, flash, addresses, blocks, $($lists,)? content, answer),
+                    Kind::Flush => $engine::flush(state, disk, flash, addresses, blocks, $($lists,)? answer),
+                    Kind::Look => $engine::look(state, *a, disk, flash, addresses, blocks, $($lists,)? answer),
                 };
                 assert_eq!(refused, 0);
                 sum = add(sum, answer, block);
@@ -67,18 +69,41 @@ fn add(sum: u64, answer: &[u8], block: &[u8]) -> u64 {
 struct Kept(Persistent);
 
 /// Runs a list on a box by an engine, notes the best times and gives the answers in one number.
-pub fn run(engine: usize, lent: &mut Lent, list: &List, best: &mut [Duration]) -> u64 {
-    match engine {
-        0 => run_list!(service, lent, list, best),
-        1 => run_list!(maps, lent, list, best),
-        2 => run_list!(array, lent, list, best),
-        _ => {
-            let mut kept = Kept(Persistent::load(&lent.state, &lent.addresses, &lent.blocks));
-            let sum = kept.run(lent, list, best);
-            kept.0.store(&mut lent.state, &mut lent.addresses, &mut lent.blocks);
-            sum
-        }
-    }
+pub type Run = fn(&mut Lent, &List, &mut [Duration]) -> u64;
+
+/// In the order of `ENGINES`.
+pub const RUNS: [Run; ENGINES.len()] = [run_service, run_maps, run_array, run_persistent];
+/// Those on D-ARC boxes: the service and its peer.
+#[cfg(feature = "double")]
+pub const ARC_RUNS: [Run; 2] = [run_arc_service, run_arc_peer];
+
+fn run_service(lent: &mut Lent, list: &List, best: &mut [Duration]) -> u64 {
+    run_list!(service, lent, list, best)
+}
+
+pub fn run_maps(lent: &mut Lent, list: &List, best: &mut [Duration]) -> u64 {
+    run_list!(maps, lent, list, best)
+}
+
+fn run_array(lent: &mut Lent, list: &List, best: &mut [Duration]) -> u64 {
+    run_list!(array, lent, list, best)
+}
+
+fn run_persistent(lent: &mut Lent, list: &List, best: &mut [Duration]) -> u64 {
+    let mut kept = Kept(Persistent::load(&lent.state, &lent.addresses, &lent.blocks));
+    let sum = kept.run(lent, list, best);
+    kept.0.store(&mut lent.state, &mut lent.addresses, &mut lent.blocks);
+    sum
+}
+
+#[cfg(feature = "double")]
+fn run_arc_service(lent: &mut Lent, list: &List, best: &mut [Duration]) -> u64 {
+    run_list!(arc_service, lent, list, best, lists)
+}
+
+#[cfg(feature = "double")]
+pub fn run_arc_peer(lent: &mut Lent, list: &List, best: &mut [Duration]) -> u64 {
+    run_list!(arc, lent, list, best, lists)
 }
 
 impl Kept {
@@ -152,54 +177,55 @@ fn steps(scenario: usize, start: &Start) -> Option<Vec<Step>> {
 }
 
 /// A list of calls on a box: each engine's copy of the box, put back after each run, and what the runs gave.
-struct Measured<'a> {
+pub struct Measured<'a> {
     start: &'a Start,
     list: List<'a>,
+    runs: &'static [Run],
     copies: Vec<Lent>,
     /// The addresses whose blocks on the disk the calls change.
     touched: Vec<u32>,
     /// What was answered, in one number.
     sum: u64,
     /// The best time of each part by each engine.
-    best: [Vec<Duration>; ENGINES.len()],
+    best: Vec<Vec<Duration>>,
 }
 
 impl<'a> Measured<'a> {
     /// The calls of a scenario after their first run. `None` where the box has no address for it.
-    fn new(scenario: usize, start: &'a Start) -> Option<Self> {
+    pub fn new(scenario: usize, start: &'a Start, runs: &'static [Run]) -> Option<Self> {
         let steps = steps(scenario, start)?;
         // A call on large tables is long enough to be timed alone; on small ones sixteen are timed together.
         let part = if start.shape.m > 100 { 1 } else { 16 };
-        let best = std::array::from_fn(|_| vec![Duration::MAX; steps.len().div_ceil(part)]);
+        let best = vec![vec![Duration::MAX; steps.len().div_ceil(part)]; runs.len()];
         let list = List { steps, part, contents: &start.contents };
-        let mut measured = Measured { start, list, copies: vec![start.lent.clone(); ENGINES.len()], touched: Vec::new(), sum: 0, best };
+        let mut measured = Measured { start, list, runs, copies: vec![start.lent.clone(); runs.len()], touched: Vec::new(), sum: 0, best };
         measured.first_turn();
         Some(measured)
     }
 
     /// A run by each engine: all answer the same and leave the same bytes.
     fn first_turn(&mut self) {
-        let sums: [u64; ENGINES.len()] = std::array::from_fn(|engine| self.run(engine));
-        for engine in 0..ENGINES.len() {
-            assert!(self.copies[engine] == self.copies[0] && sums[engine] == sums[0], "{} differs from the service", ENGINES[engine]);
+        let sums: Vec<u64> = (0..self.runs.len()).map(|engine| self.run(engine)).collect();
+        for (engine, sum) in sums.iter().enumerate() {
+            assert!(self.copies[engine] == self.copies[0] && *sum == sums[0], "engine {engine} differs from the service");
         }
         let Shape { b, p, .. } = self.start.shape;
         let changed = |a: &usize| self.copies[0].disk[a * b..(a + 1) * b] != self.start.lent.disk[a * b..(a + 1) * b];
         self.touched = (0..p).filter(changed).map(|a| a as u32).collect();
         self.sum = sums[0];
-        (0..ENGINES.len()).for_each(|engine| self.put_back(engine));
+        (0..self.runs.len()).for_each(|engine| self.put_back(engine));
     }
 
     /// Another run by each engine.
-    fn turn(&mut self) {
-        for engine in 0..ENGINES.len() {
+    pub fn turn(&mut self) {
+        for engine in 0..self.runs.len() {
             assert_eq!(self.run(engine), self.sum);
             self.put_back(engine);
         }
     }
 
     fn run(&mut self, engine: usize) -> u64 {
-        run(engine, &mut self.copies[engine], &self.list, &mut self.best[engine])
+        self.runs[engine](&mut self.copies[engine], &self.list, &mut self.best[engine])
     }
 
     fn put_back(&mut self, engine: usize) {
@@ -207,6 +233,7 @@ impl<'a> Measured<'a> {
         copy.state.copy_from_slice(&first.state);
         copy.addresses.copy_from_slice(&first.addresses);
         copy.blocks.copy_from_slice(&first.blocks);
+        copy.lists.copy_from_slice(&first.lists);
         copy.flash.copy_from_slice(&first.flash);
         copy.block.copy_from_slice(&first.block);
         copy.answer.copy_from_slice(&first.answer);
@@ -218,9 +245,9 @@ impl<'a> Measured<'a> {
     }
 
     /// Every part is the best of all runs.
-    fn times(&self) -> Times {
+    pub fn times(&self) -> Vec<f64> {
         let calls = self.list.steps.len() as f64;
-        std::array::from_fn(|engine| self.best[engine].iter().sum::<Duration>().as_nanos() as f64 / calls)
+        self.best.iter().map(|best| best.iter().sum::<Duration>().as_nanos() as f64 / calls).collect()
     }
 }
 
@@ -232,7 +259,7 @@ pub struct Row {
 
 /// The best times of a scenario. Engines and boxes take turns, so that a change of the machine's speed meets all of them.
 pub fn best(scenario: usize, boxes: &[&Start]) -> Row {
-    let mut lists: Vec<Option<Measured>> = boxes.iter().map(|start| Measured::new(scenario, start)).collect();
+    let mut lists: Vec<Option<Measured>> = boxes.iter().map(|start| Measured::new(scenario, start, &RUNS)).collect();
     let most = Duration::from_secs(3) * lists.iter().flatten().count() as u32;
     let start = Instant::now();
     let mut runs = 1;
@@ -240,5 +267,6 @@ pub fn best(scenario: usize, boxes: &[&Start]) -> Row {
         lists.iter_mut().flatten().for_each(Measured::turn);
         runs += 1;
     }
-    Row { times: lists.iter().map(|list| list.as_ref().map(Measured::times)).collect(), runs }
+    let times = |list: &Measured| list.times().try_into().expect("a time of each engine");
+    Row { times: lists.iter().map(|list| list.as_ref().map(times)).collect(), runs }
 }

@@ -58,3 +58,47 @@ pub fn read_many(s: &mut [u8], asked: &[u32], d: &mut [u8], f: &mut [u8], a: &mu
 pub fn scores([b, p, m, d, t]: [usize; 5], label: &[u8], disk: &[u8], k: usize, counts: &mut [u8]) -> u32 {
     unsafe { mindavehu_scores(b, p, m, d, t, label.as_ptr(), label.len(), disk.as_ptr(), disk.len(), k, counts.as_mut_ptr(), counts.len()) }
 }
+
+/// The calls on D-ARC boxes. The library has no such C names yet: these are built, and not called, with `double` alone.
+#[cfg(feature = "double")]
+pub mod arc {
+    use super::{M, P};
+
+    extern "C" {
+        fn mindavehu_arc_read(
+            s: M, sl: usize, address: u32, d: M, dl: usize, f: M, fl: usize, a: M, al: usize, b: M, bl: usize, i: M, il: usize, k: M, kl: usize, w: M,
+            wl: usize,
+        ) -> u32;
+        fn mindavehu_arc_write_through(
+            s: M, sl: usize, address: u32, seat: u16, d: M, dl: usize, f: M, fl: usize, a: M, al: usize, b: M, bl: usize, i: M, il: usize, k: P, kl: usize,
+            w: M, wl: usize,
+        ) -> u32;
+        fn mindavehu_arc_write_back(
+            s: M, sl: usize, address: u32, seat: u16, d: M, dl: usize, f: M, fl: usize, a: M, al: usize, b: M, bl: usize, i: M, il: usize, k: P, kl: usize,
+            w: M, wl: usize,
+        ) -> u32;
+        fn mindavehu_arc_write_invalidate(
+            s: M, sl: usize, address: u32, seat: u16, d: M, dl: usize, f: M, fl: usize, a: M, al: usize, b: M, bl: usize, i: M, il: usize, k: P, kl: usize,
+            w: M, wl: usize,
+        ) -> u32;
+        fn mindavehu_arc_flush(s: M, sl: usize, d: M, dl: usize, f: P, fl: usize, a: M, al: usize, b: P, bl: usize, i: P, il: usize, w: M, wl: usize) -> u32;
+        fn mindavehu_arc_look(
+            s: P, sl: usize, address: u32, d: P, dl: usize, f: P, fl: usize, a: P, al: usize, b: P, bl: usize, i: P, il: usize, w: M, wl: usize,
+        ) -> u32;
+    }
+
+    functions! {
+        read = mindavehu_arc_read(s: &mut [u8], as_mut_ptr, address: u32; d: &mut [u8], as_mut_ptr, f: &mut [u8], as_mut_ptr, a: &mut [u8], as_mut_ptr,
+            b: &mut [u8], as_mut_ptr, i: &mut [u8], as_mut_ptr, k: &mut [u8], as_mut_ptr, w: &mut [u8], as_mut_ptr);
+        write_through = mindavehu_arc_write_through(s: &mut [u8], as_mut_ptr, address: u32, seat: u16; d: &mut [u8], as_mut_ptr, f: &mut [u8], as_mut_ptr,
+            a: &mut [u8], as_mut_ptr, b: &mut [u8], as_mut_ptr, i: &mut [u8], as_mut_ptr, k: &[u8], as_ptr, w: &mut [u8], as_mut_ptr);
+        write_back = mindavehu_arc_write_back(s: &mut [u8], as_mut_ptr, address: u32, seat: u16; d: &mut [u8], as_mut_ptr, f: &mut [u8], as_mut_ptr,
+            a: &mut [u8], as_mut_ptr, b: &mut [u8], as_mut_ptr, i: &mut [u8], as_mut_ptr, k: &[u8], as_ptr, w: &mut [u8], as_mut_ptr);
+        write_invalidate = mindavehu_arc_write_invalidate(s: &mut [u8], as_mut_ptr, address: u32, seat: u16; d: &mut [u8], as_mut_ptr, f: &mut [u8],
+            as_mut_ptr, a: &mut [u8], as_mut_ptr, b: &mut [u8], as_mut_ptr, i: &mut [u8], as_mut_ptr, k: &[u8], as_ptr, w: &mut [u8], as_mut_ptr);
+        flush = mindavehu_arc_flush(s: &mut [u8], as_mut_ptr; d: &mut [u8], as_mut_ptr, f: &[u8], as_ptr, a: &mut [u8], as_mut_ptr, b: &[u8], as_ptr,
+            i: &[u8], as_ptr, w: &mut [u8], as_mut_ptr);
+        look = mindavehu_arc_look(s: &[u8], as_ptr, address: u32; d: &[u8], as_ptr, f: &[u8], as_ptr, a: &[u8], as_ptr, b: &[u8], as_ptr, i: &[u8], as_ptr,
+            w: &mut [u8], as_mut_ptr);
+    }
+}

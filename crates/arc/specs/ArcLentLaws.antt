@@ -53,7 +53,7 @@ module _ {F : Type 0} where
   in-map x [] = refl
   in-map x (r ∷ rs) = ap (λ b. eqb x (r .address) || b) (in-map x rs)
 
-  in-below : (P x : ℕ) (rows : List (AddressRow F)) → All (λ r. r .address < P) rows → held x rows ≡ true → x < P
+  pub in-below : (P x : ℕ) (rows : List (AddressRow F)) → All (λ r. r .address < P) rows → held x rows ≡ true → x < P
   in-below P x [] b h = absurd (false≢true h)
   in-below P x (r ∷ rs) b h =
       either (or-cases (eqb x (r .address)) (held x rs) h) (λ e. subst (λ y. y < P) (sym (eqb→≡ x (r .address) e)) (b .0)) (λ e. in-below P x rs (b .1) e)
@@ -118,6 +118,13 @@ parts-back l =
       take-append-seam (l .B2) (l .B3),
       take-whole (l .B3),
     ) refl
+
+-- the first of some addresses
+pub words-take : (k n : ℕ) (u : List ℕ) → k ≤ n → take k (words n u) ≡ words k u
+unfolding words
+words-take zero n u h = refl
+words-take (suc k) zero u h = absurd (omega (arith, h))
+words-take (suc k) (suc n) u h = ap (λ l. le4 u 0 ∷ l) (words-take k n (drop 4 u) (omega (arith, h)))
 
 pub total-end : (l : Lists) → length (endToEnd l) ≡ totalOf (listRecord l)
 total-end l =
@@ -382,12 +389,6 @@ module _ {F X : Type 0} (H : Hashing F X) (Z : Sizes) (r : ListRecord) (t : List
           go : (l : List ℕ) → All (λ x. p x ≡ false) l → isIn x l ≡ true → p x ≡ false
           go [] a i = absurd (false≢true i)
           go (y ∷ ys) a i = either (or-cases (eqb x y) (isIn x ys) i) (λ e. subst (λ z. p z ≡ false) (sym (eqb→≡ x y e)) (a .0)) (λ e. go ys (a .1) e)
-
-  words-take : (k n : ℕ) (u : List ℕ) → k ≤ n → take k (words n u) ≡ words k u
-  unfolding words
-  words-take zero n u h = refl
-  words-take (suc k) zero u h = absurd (omega (arith, h))
-  words-take (suc k) (suc n) u h = ap (λ l. le4 u 0 ∷ l) (words-take k n (drop 4 u) (omega (arith, h)))
 
   tops-in : (x : ℕ) → onTop (listsIn r t) x ≡ true → isIn x (topsIn r t) ≡ true
   unfolding parts

@@ -874,6 +874,254 @@ table =
         box = record { rows = clean 0 5 ∷ dirty 1 6 ∷ []; free = []; used = blockRow 5 0 ∷ blockRow 6 1 ∷ []; flash = 5 ∷ 6 ∷ []; disk = 5 ∷ 1 ∷ 2 ∷ [] };
       };
     }
+    -- a hit in B1, which has 2, where B2 has 3: the quotient is 1, rounded down, by the sizes before the address left
+    ∷ record {
+      C = 5;
+      X = 0;
+      t = 10;
+      from = lists ([]) ([]) (0 ∷ 1 ∷ []) (2 ∷ 3 ∷ 4 ∷ []) ([]) 0;
+      over = record {
+        rows = clean 0 0 ∷ clean 1 1 ∷ clean 2 2 ∷ clean 3 3 ∷ clean 4 4 ∷ [];
+        free = 0 ∷ 1 ∷ 2 ∷ 3 ∷ 4 ∷ [];
+        used = [];
+        flash = 99 ∷ 99 ∷ 99 ∷ 99 ∷ 99 ∷ [];
+        disk = 0 ∷ 1 ∷ 2 ∷ 3 ∷ 4 ∷ [];
+      };
+      seen = record {
+        said = says (read 0) miss 1 0 ∷ [];
+        returned = 0 ∷ [];
+        lists = lists ([]) (0 ∷ []) (1 ∷ []) (2 ∷ 3 ∷ 4 ∷ []) ([]) 1;
+        box = record {
+          rows = clean 1 1 ∷ clean 2 2 ∷ clean 3 3 ∷ clean 4 4 ∷ clean 0 0 ∷ [];
+          free = 1 ∷ 2 ∷ 3 ∷ 4 ∷ [];
+          used = blockRow 0 0 ∷ [];
+          flash = 0 ∷ 99 ∷ 99 ∷ 99 ∷ 99 ∷ [];
+          disk = 0 ∷ 1 ∷ 2 ∷ 3 ∷ 4 ∷ [];
+        };
+      };
+    }
+    -- a hit in B2, which has 2, where B1 has 3: p falls by 1
+    ∷ record {
+      C = 5;
+      X = 0;
+      t = 10;
+      from = lists ([]) ([]) (0 ∷ 1 ∷ 2 ∷ []) (3 ∷ 4 ∷ []) ([]) 5;
+      over = record {
+        rows = clean 0 0 ∷ clean 1 1 ∷ clean 2 2 ∷ clean 3 3 ∷ clean 4 4 ∷ [];
+        free = 0 ∷ 1 ∷ 2 ∷ 3 ∷ 4 ∷ [];
+        used = [];
+        flash = 99 ∷ 99 ∷ 99 ∷ 99 ∷ 99 ∷ [];
+        disk = 0 ∷ 1 ∷ 2 ∷ 3 ∷ 4 ∷ [];
+      };
+      seen = record {
+        said = says (read 3) miss 1 0 ∷ [];
+        returned = 3 ∷ [];
+        lists = lists ([]) (3 ∷ []) (0 ∷ 1 ∷ 2 ∷ []) (4 ∷ []) ([]) 4;
+        box = record {
+          rows = clean 0 0 ∷ clean 1 1 ∷ clean 2 2 ∷ clean 4 4 ∷ clean 3 3 ∷ [];
+          free = 1 ∷ 2 ∷ 3 ∷ 4 ∷ [];
+          used = blockRow 3 0 ∷ [];
+          flash = 3 ∷ 99 ∷ 99 ∷ 99 ∷ 99 ∷ [];
+          disk = 0 ∷ 1 ∷ 2 ∷ 3 ∷ 4 ∷ [];
+        };
+      };
+    }
+    -- a hit in B2 lowers p to T1's size: the replacement takes from T1
+    ∷ record {
+      C = 2;
+      X = 0;
+      t = 4;
+      from = lists (3 ∷ []) (4 ∷ []) ([]) (0 ∷ []) ([]) 2;
+      over = record {
+        rows = clean 0 0 ∷ clean 3 3 ∷ clean 4 4 ∷ [];
+        free = [];
+        used = blockRow 3 0 ∷ blockRow 4 1 ∷ [];
+        flash = 3 ∷ 4 ∷ [];
+        disk = 0 ∷ 1 ∷ 2 ∷ 3 ∷ 4 ∷ [];
+      };
+      seen = record {
+        said = says (read 0) miss 1 0 ∷ [];
+        returned = 0 ∷ [];
+        lists = lists ([]) (4 ∷ 0 ∷ []) (3 ∷ []) ([]) ([]) 1;
+        box = record {
+          rows = clean 3 3 ∷ clean 4 4 ∷ clean 0 0 ∷ [];
+          free = [];
+          used = blockRow 4 1 ∷ blockRow 0 0 ∷ [];
+          flash = 0 ∷ 4 ∷ [];
+          disk = 0 ∷ 1 ∷ 2 ∷ 3 ∷ 4 ∷ [];
+        };
+      };
+    }
+    -- an address goes to B2 where B1 and B2 hold C: B1's oldest is evicted
+    ∷ record {
+      C = 2;
+      X = 0;
+      t = 4;
+      from = lists ([]) (3 ∷ 4 ∷ []) (0 ∷ []) (1 ∷ []) ([]) 0;
+      over = record {
+        rows = clean 0 0 ∷ clean 1 1 ∷ clean 3 3 ∷ clean 4 4 ∷ [];
+        free = [];
+        used = blockRow 3 0 ∷ blockRow 4 1 ∷ [];
+        flash = 3 ∷ 4 ∷ [];
+        disk = 0 ∷ 1 ∷ 2 ∷ 3 ∷ 4 ∷ [];
+      };
+      seen = record {
+        said = says (read 2) miss 1 0 ∷ [];
+        returned = 2 ∷ [];
+        lists = lists (2 ∷ []) (4 ∷ []) ([]) (1 ∷ 3 ∷ []) ([]) 0;
+        box = record {
+          rows = clean 1 1 ∷ clean 3 3 ∷ clean 4 4 ∷ clean 2 2 ∷ [];
+          free = [];
+          used = blockRow 4 1 ∷ blockRow 2 0 ∷ [];
+          flash = 2 ∷ 4 ∷ [];
+          disk = 0 ∷ 1 ∷ 2 ∷ 3 ∷ 4 ∷ [];
+        };
+      };
+    }
+    -- two dirty addresses of B1 lose their one block together
+    ∷ record {
+      C = 2;
+      X = 2;
+      t = 6;
+      from = lists (3 ∷ []) ([]) (0 ∷ 1 ∷ []) ([]) ([]) 0;
+      over = record {
+        rows = dirty 0 5 ∷ dirty 1 5 ∷ clean 3 3 ∷ [];
+        free = [];
+        used = blockRow 5 0 ∷ blockRow 3 1 ∷ [];
+        flash = 5 ∷ 3 ∷ [];
+        disk = 0 ∷ 1 ∷ 2 ∷ 3 ∷ [];
+      };
+      seen = record {
+        said = says (read 2) miss 1 2 ∷ [];
+        returned = 2 ∷ [];
+        lists = lists (3 ∷ 2 ∷ []) ([]) (0 ∷ 1 ∷ []) ([]) ([]) 0;
+        box = record {
+          rows = clean 0 5 ∷ clean 1 5 ∷ clean 3 3 ∷ clean 2 2 ∷ [];
+          free = [];
+          used = blockRow 3 1 ∷ blockRow 2 0 ∷ [];
+          flash = 2 ∷ 3 ∷ [];
+          disk = 5 ∷ 5 ∷ 2 ∷ 3 ∷ [];
+        };
+      };
+    }
+    -- the limit copies the block of the row that is the oldest by use, whichever list it is in
+    ∷ record {
+      C = 2;
+      X = 2;
+      t = 2;
+      from = lists (0 ∷ []) ([]) ([]) ([]) (1 ∷ []) 0;
+      over = record { rows = dirty 1 6 ∷ dirty 0 5 ∷ []; free = []; used = blockRow 6 0 ∷ blockRow 5 1 ∷ []; flash = 6 ∷ 5 ∷ []; disk = 0 ∷ 1 ∷ 2 ∷ [] };
+      seen = record {
+        said = says (back 2 5) sameBlock 0 1 ∷ [];
+        returned = [];
+        lists = lists (0 ∷ 2 ∷ []) ([]) ([]) ([]) (1 ∷ []) 0;
+        box = record {
+          rows = clean 1 6 ∷ dirty 0 5 ∷ dirty 2 5 ∷ [];
+          free = [];
+          used = blockRow 6 0 ∷ blockRow 5 1 ∷ [];
+          flash = 6 ∷ 5 ∷ [];
+          disk = 0 ∷ 6 ∷ 2 ∷ [];
+        };
+      };
+    }
+    -- write invalidate of an address of B3 keeps the block that one of T1 has; of the one of T1 then frees it
+    ∷ record {
+      C = 2;
+      X = 2;
+      t = 6;
+      from = lists (0 ∷ []) ([]) ([]) (2 ∷ []) (1 ∷ []) 1;
+      over = record {
+        rows = clean 1 5 ∷ clean 2 6 ∷ clean 0 5 ∷ [];
+        free = [];
+        used = blockRow 6 0 ∷ blockRow 5 1 ∷ [];
+        flash = 6 ∷ 5 ∷ [];
+        disk = 5 ∷ 5 ∷ 6 ∷ [];
+      };
+      seen = record {
+        said = says (invalidate 1 9) newBlock 0 1 ∷ says (invalidate 0 6) sameBlock 0 1 ∷ [];
+        returned = [];
+        lists = lists ([]) ([]) ([]) (2 ∷ []) ([]) 1;
+        box = record { rows = clean 2 6 ∷ []; free = 1 ∷ []; used = blockRow 6 0 ∷ []; flash = 6 ∷ 5 ∷ []; disk = 6 ∷ 9 ∷ 6 ∷ [] };
+      };
+    }
+    -- the first way where B3 is empty: B1's dirty oldest goes to B3 and reaches disk, T2's oldest goes to B2
+    ∷ record {
+      C = 2;
+      X = 0;
+      t = 4;
+      from = lists (3 ∷ []) (4 ∷ []) (0 ∷ []) ([]) ([]) 1;
+      over = record {
+        rows = dirty 0 3 ∷ clean 3 3 ∷ clean 4 4 ∷ [];
+        free = [];
+        used = blockRow 3 0 ∷ blockRow 4 1 ∷ [];
+        flash = 3 ∷ 4 ∷ [];
+        disk = 0 ∷ 1 ∷ 2 ∷ 3 ∷ 4 ∷ [];
+      };
+      seen = record {
+        said = says (through 1 4) sameBlock 0 2 ∷ [];
+        returned = [];
+        lists = lists (3 ∷ 1 ∷ []) ([]) ([]) (4 ∷ []) ([]) 1;
+        box = record {
+          rows = clean 3 3 ∷ clean 4 4 ∷ clean 1 4 ∷ [];
+          free = [];
+          used = blockRow 3 0 ∷ blockRow 4 1 ∷ [];
+          flash = 3 ∷ 4 ∷ [];
+          disk = 3 ∷ 4 ∷ 2 ∷ 3 ∷ 4 ∷ [];
+        };
+      };
+    }
+    -- the last way where B1 and B2 hold C and neither is empty: B2's oldest goes to B3 and is evicted
+    ∷ record {
+      C = 2;
+      X = 0;
+      t = 4;
+      from = lists ([]) (3 ∷ 4 ∷ []) (0 ∷ []) (1 ∷ []) ([]) 0;
+      over = record {
+        rows = clean 0 0 ∷ clean 1 1 ∷ clean 3 3 ∷ clean 4 4 ∷ [];
+        free = [];
+        used = blockRow 3 0 ∷ blockRow 4 1 ∷ [];
+        flash = 3 ∷ 4 ∷ [];
+        disk = 0 ∷ 1 ∷ 2 ∷ 3 ∷ 4 ∷ [];
+      };
+      seen = record {
+        said = says (through 2 4) sameBlock 0 1 ∷ [];
+        returned = [];
+        lists = lists (2 ∷ []) (4 ∷ []) (0 ∷ []) (3 ∷ []) ([]) 0;
+        box = record {
+          rows = clean 0 0 ∷ clean 3 3 ∷ clean 4 4 ∷ clean 2 4 ∷ [];
+          free = [];
+          used = blockRow 3 0 ∷ blockRow 4 1 ∷ [];
+          flash = 3 ∷ 4 ∷ [];
+          disk = 0 ∷ 1 ∷ 4 ∷ 3 ∷ 4 ∷ [];
+        };
+      };
+    }
+    -- of two blocks that no address of T1 or T2 has, the oldest is the victim
+    ∷ record {
+      C = 3;
+      X = 0;
+      t = 6;
+      from = lists (0 ∷ []) ([]) (1 ∷ 2 ∷ []) ([]) ([]) 0;
+      over = record {
+        rows = clean 1 1 ∷ clean 2 2 ∷ clean 0 0 ∷ [];
+        free = [];
+        used = blockRow 1 0 ∷ blockRow 2 1 ∷ blockRow 0 2 ∷ [];
+        flash = 1 ∷ 2 ∷ 0 ∷ [];
+        disk = 0 ∷ 1 ∷ 2 ∷ 3 ∷ [];
+      };
+      seen = record {
+        said = says (read 3) miss 1 0 ∷ [];
+        returned = 3 ∷ [];
+        lists = lists (0 ∷ 3 ∷ []) ([]) (1 ∷ 2 ∷ []) ([]) ([]) 0;
+        box = record {
+          rows = clean 1 1 ∷ clean 2 2 ∷ clean 0 0 ∷ clean 3 3 ∷ [];
+          free = [];
+          used = blockRow 2 1 ∷ blockRow 0 2 ∷ blockRow 3 0 ∷ [];
+          flash = 3 ∷ 2 ∷ 0 ∷ [];
+          disk = 0 ∷ 1 ∷ 2 ∷ 3 ∷ [];
+        };
+      };
+    }
     ∷ []
 
 pub worked-states : map play table ≡ map (λ e. e .seen) table

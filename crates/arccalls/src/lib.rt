@@ -19,7 +19,7 @@ pub struct ArcOutcome {
 }
 
 // A refusal: the number, and the rest as given.
-fn refused(number: u32, a: ArcRecord, c: Counters) -> ArcOutcome
+pub fn refused(number: u32, a: ArcRecord, c: Counters) -> ArcOutcome
     ensures { λ r. ⌜ r ≡ record { answer = Refused number; arc_record = a; counters = c } ⌝ }
 {
     ArcOutcome {

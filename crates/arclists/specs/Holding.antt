@@ -1,15 +1,17 @@
 -- When sizes and lent bytes are those of D-ARC's lists. Assumes nothing.
 use mathlib.Core.Path.{_≡_}
-use mathlib.Core.Bool.{Bool, cond, _&&_}
+use mathlib.Core.Bool.{cond}
 use mathlib.Core.List.{List, []}
 use Prim.Native.Nat.{ℕ, _+_, _-_, _^_, _≤_, _<_}
-use lib.Dec.{ltb, leb}
+use lib.Dec.{ltb}
 use lib.ListN.{length}
 use Rattle.arc.specs.Arc as Arc
 use Rattle.arc.specs.Arc.{Lists}
 use Rattle.paper.specs.KeyedLaws.{All}
 use Rattle.arc.specs.ArcLent.{listBytes, endToEnd, ListRecord}
 use Rattle.arclists.specs.declared.ListSizes.{ListSizes}
+use Rattle.arclists.specs.declared.Ghost.{Ghost}
+use Rattle.arclists.specs.declared.Ghost.the-variants.{OfB1, OfB2, OfB3}
 use Rattle.arclists.specs.declared.Was.{Was}
 use Rattle.arclists.specs.declared.Was.the-variants.{InT1, InT2, InB1, InB2, InB3, Unheld}
 
@@ -81,21 +83,29 @@ Limits Z s = (Z .C ≡ s .cached) × (Z .X ≡ s .extra)
 abbrev pub limitsOf : ListSizes → Arc.Sizes
 limitsOf s = record { B = 0; P = 0; C = s .cached; X = s .extra; label = []; t = 0 }
 
--- What the paper's subroutines do to the lists (`KeptLaws`). roomInB: "Where B1 and B2 would pass C, B1's oldest, or B2's if B1 is empty, is evicted first."
-unfoldable pub roomed : ℕ → Lists → Lists
-roomed C l = cond (leb C (length (l .B1) + length (l .B2))) (cond (Arc.isNil (l .B1)) (Arc.b2Out l) (Arc.b1Out l)) l
+-- "B1's oldest, or B2's if B1 is empty, is evicted first", "B3's oldest is evicted": the lists from which addresses leave the box, and what is left then
+abbrev pub ghosts : Ghost → Lists → List ℕ
+ghosts OfB1 l = l .B1
+ghosts OfB2 l = l .B2
+ghosts OfB3 l = l .B3
 
--- replace: "where both are empty it does nothing"
-unfoldable pub replaced : ℕ → Bool → Lists → Lists
-replaced C b2 l =
-    cond (Arc.isNil (l .T1) && Arc.isNil (l .T2)) l
-    (cond (Arc.takesT1 b2 l) (Arc.t1b1 (roomed C l)) (Arc.t2b2 (roomed C l)))
+abbrev pub outOf : Ghost → Lists → Lists
+outOf OfB1 l = Arc.b1Out l
+outOf OfB2 l = Arc.b2Out l
+outOf OfB3 l = Arc.b3Out l
 
--- manage: "Of the metadata subroutine's four ways, the two that name the replacement always run it."
-unfoldable pub managed : ℕ → Bool → Lists → Lists
-managed C b2 l =
-    cond (leb C (length (l .T1) + length (l .B1)))
-    (cond (ltb (length (l .T1)) C)
-    (replaced C b2 (Arc.b1b3 l))
-    (cond (Arc.isNil (l .B1)) (Arc.t1b3 l) (Arc.t1b1 (Arc.b1b3 l))))
-    (cond (leb C (length (l .B1) + length (l .B2))) (replaced C b2 (Arc.b2b3 l)) (replaced C b2 l))
+-- their sizes and the places of their first addresses
+abbrev pub sizeOf : Ghost → ListSizes → ℕ
+sizeOf OfB1 s = s .b1
+sizeOf OfB2 s = s .b2
+sizeOf OfB3 s = s .b3
+
+abbrev pub startOf : Ghost → ListSizes → ℕ
+startOf OfB1 s = s .t1 + s .t2
+startOf OfB2 s = s .t1 + s .t2 + s .b1
+startOf OfB3 s = s .t1 + s .t2 + s .b1 + s .b2
+
+abbrev pub lessOf : Ghost → ListSizes → ListSizes
+lessOf OfB1 s = resized s (s .t1) (s .t2) (s .b1 - 1) (s .b2) (s .b3)
+lessOf OfB2 s = resized s (s .t1) (s .t2) (s .b1) (s .b2 - 1) (s .b3)
+lessOf OfB3 s = resized s (s .t1) (s .t2) (s .b1) (s .b2) (s .b3 - 1)

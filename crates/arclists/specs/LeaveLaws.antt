@@ -2,7 +2,7 @@
 use mathlib.Core.Path.{_≡_, refl, sym, ap, ap₂, _∙_, subst}
 use mathlib.Core.Bool.{cond}
 use mathlib.Core.List.{List, [], _∷_, _++_}
-use Prim.Native.Nat.{ℕ, _+_, _≤_, _<_}
+use Prim.Native.Nat.{ℕ, _-_, _+_, _≤_, _<_}
 use native.Mathlib.Omega.{arith}
 use lib.Dec.{eqb, ltb}
 use lib.ListN.{length, length-append}
@@ -18,7 +18,7 @@ use Rattle.arclists.specs.declared.ListSizes.{ListSizes}
 use Rattle.arclists.specs.Listed.{listed, placeOf, TakesOut, Inserts}
 use Rattle.arclists.specs.ListedLaws.{lists-listed}
 use Rattle.arclists.specs.PlaceLaws.{place-in, place-out, place-first, place-second, out-at}
-use Rattle.arclists.specs.Holding.{total, resized, Sized, Holds, wasOf, whichAt, lessAt, Low}
+use Rattle.arclists.specs.Holding.{total, resized, Sized, Holds, Kept, wasOf, whichAt, lessAt, Low}
 use Rattle.arclists.specs.MoveLaws.{total-is}
 
 -- a chain of tests, one at a time
@@ -154,14 +154,25 @@ stays-out m ws t i n h e = rw (le-ltb i n h) e
 pub goes-out : (m : ℕ) (ws t : List ℕ) (i n : ℕ) → i < n → t ≡ listed m (removeAt ws i) → t ≡ listed m (cond (ltb i n) (removeAt ws i) ws)
 goes-out m ws t i n h e = rw (lt-ltb i n h) e
 
-less-room : (s : ListSizes) (i m : ℕ) → total s ≤ m → total (lessAt s i) ≤ m
+-- the sizes without the address at place i: one list has one address less, or none has
+by-less : (s : ListSizes) (i : ℕ) (Q : ListSizes → Type 0) → Q (resized s (s .t1 - 1) (s .t2) (s .b1) (s .b2) (s .b3))
+    → Q (resized s (s .t1) (s .t2 - 1) (s .b1) (s .b2) (s .b3)) → Q (resized s (s .t1) (s .t2) (s .b1 - 1) (s .b2) (s .b3))
+    → Q (resized s (s .t1) (s .t2) (s .b1) (s .b2 - 1) (s .b3)) → Q (resized s (s .t1) (s .t2) (s .b1) (s .b2) (s .b3 - 1)) → Q s → Q (lessAt s i)
 unfolding lessAt
-less-room s i m h =
-    by-test (ltb i (s .t1)) (λ e. rw e (omega (arith, h)))
-    (λ e. rw e (by-test (ltb i (s .t1 + s .t2)) (λ e. rw e (omega (arith, h)))
-    (λ e. rw e (by-test (ltb i (s .t1 + s .t2 + s .b1)) (λ e. rw e (omega (arith, h)))
-    (λ e. rw e (by-test (ltb i (s .t1 + s .t2 + s .b1 + s .b2)) (λ e. rw e (omega (arith, h)))
-    (λ e. rw e (by-test (ltb i (s .t1 + s .t2 + s .b1 + s .b2 + s .b3)) (λ e. rw e (omega (arith, h))) (λ e. rw e h)))))))))
+by-less s i Q q1 q2 q3 q4 q5 q =
+    by-test (ltb i (s .t1)) (λ e. rw e q1)
+    (λ e. rw e (by-test (ltb i (s .t1 + s .t2)) (λ e. rw e q2)
+    (λ e. rw e (by-test (ltb i (s .t1 + s .t2 + s .b1)) (λ e. rw e q3)
+    (λ e. rw e (by-test (ltb i (s .t1 + s .t2 + s .b1 + s .b2)) (λ e. rw e q4)
+    (λ e. rw e (by-test (ltb i (s .t1 + s .t2 + s .b1 + s .b2 + s .b3)) (λ e. rw e q5) (λ e. rw e q)))))))))
+
+pub less-kept : (s : ListSizes) (i : ℕ) → (total (lessAt s i) ≤ total s) × Kept (lessAt s i) s
+less-kept s i =
+    by-less s i (λ r. (total r ≤ total s) × Kept r s) (omega arith, (refl, refl)) (omega arith, (refl, refl)) (omega arith, (refl, refl))
+    (omega arith, (refl, refl)) (omega arith, (refl, refl)) (omega arith, (refl, refl))
+
+less-room : (s : ListSizes) (i m : ℕ) → total s ≤ m → total (lessAt s i) ≤ m
+less-room s i m h = let k = less-kept s i in omega (arith, k .0, h)
 
 module _ {m : ℕ} {s : ListSizes} {t : List ℕ} {l : Lists} (h : Holds m s t l) (low : Low l) (a : ℕ) where
   at-place : (i n : ℕ) → i ≡ placeOf a (words n t) → n ≡ total s → i ≡ placeOf a (endToEnd l)

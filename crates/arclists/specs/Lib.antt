@@ -2,8 +2,6 @@
 pub mod Listed
 pub mod Holding
 pub mod Names
--- what the paper's subroutines keep of the lists
-pub mod KeptLaws
 -- lemmas
 pub mod ListedLaws
 pub mod PlaceLaws

@@ -286,13 +286,6 @@ module _ {m : ℕ} {s : ListSizes} {t : List ℕ} {l : Lists} (h : Holds m s t l
         room = omega (arith, g, h .room);
       }
 
-  pub holds-b1Out-none : s .b1 ≡ 0 → Holds m s t (b1Out l)
-  holds-b1Out-none e =
-      let z : length (l .B1) ≡ 0 = sym (n3 h) ∙ e in
-      let q : b1Out l ≡ l
-      = ap (λ x. record { T1 = l .T1; T2 = l .T2; B1 = x; B2 = l .B2; B3 = l .B3; p = l .p }) (none-goes (l .B1) z) in
-      subst (λ x. Holds m s t x) (sym q) h
-
   -- B2's oldest leaves
   pub holds-b2Out : {t′ : List ℕ} (i n : ℕ) → i ≡ s .t1 + s .t2 + s .b1 → n ≡ total s → 1 ≤ s .b2 → Removes i n t t′
       → Holds m (resized s (s .t1) (s .t2) (s .b1) (s .b2 - 1) (s .b3)) t′ (b2Out l)
@@ -312,13 +305,6 @@ module _ {m : ℕ} {s : ListSizes} {t : List ℕ} {l : Lists} (h : Holds m s t l
             (end-b2Out l (o .first) (o .more) (o .is));
         room = omega (arith, g, h .room);
       }
-
-  pub holds-b2Out-none : s .b2 ≡ 0 → Holds m s t (b2Out l)
-  holds-b2Out-none e =
-      let z : length (l .B2) ≡ 0 = sym (n4 h) ∙ e in
-      let q : b2Out l ≡ l
-      = ap (λ x. record { T1 = l .T1; T2 = l .T2; B1 = l .B1; B2 = x; B3 = l .B3; p = l .p }) (none-goes (l .B2) z) in
-      subst (λ x. Holds m s t x) (sym q) h
 
   -- B3's oldest leaves
   pub holds-b3Out : {t′ : List ℕ} (i n : ℕ) → i ≡ s .t1 + s .t2 + s .b1 + s .b2 → n ≡ total s → 1 ≤ s .b3 → Removes i n t t′
@@ -347,10 +333,3 @@ module _ {m : ℕ} {s : ListSizes} {t : List ℕ} {l : Lists} (h : Holds m s t l
             ) ∙ sym ei) (end-b3Out l (o .first) (o .more) (o .is));
         room = omega (arith, g, h .room);
       }
-
-  pub holds-b3Out-none : s .b3 ≡ 0 → Holds m s t (b3Out l)
-  holds-b3Out-none e =
-      let z : length (l .B3) ≡ 0 = sym (n5 h) ∙ e in
-      let q : b3Out l ≡ l
-      = ap (λ x. record { T1 = l .T1; T2 = l .T2; B1 = l .B1; B2 = l .B2; B3 = x; p = l .p }) (none-goes (l .B3) z) in
-      subst (λ x. Holds m s t x) (sym q) h

@@ -63,6 +63,7 @@ pub fn leave(s: ListSizes, lists: &mut [u8], a: u32) -> Left
     ensures { λ r. ⌜ ((m : ℕ) (l : Lists) → Holds m s (now (lists .entry)) l → Low l → count a (endToEnd l) ≤ 1
         → Holds m (r .sizes) (now (lists .exit)) (left a l)) ⌝ }
     ensures { λ r. ⌜ ((m : ℕ) (l : Lists) → Holds m s (now (lists .entry)) l → Low l → wasOf (r .was) ≡ listOf a l) ⌝ }
+    ensures { λ r. ⌜ (total (r .sizes) ≤ total s) × Kept (r .sizes) s ⌝ }
 {
     let n = moves::total_of(s);
     let i = words::find_word(lists, n, a);

@@ -1,6 +1,7 @@
 // "its lists T1, T2, B1, B2, B3, oldest first, end to end in m × 4 bytes, little-endian, zeros after": the moves of Algorithm 3 on them, and their part of
 // refusal 6.
 pub mod adapt;
+pub mod ghosts;
 pub mod leave;
 pub mod moves;
 pub mod names;
@@ -28,6 +29,13 @@ pub enum Was {
     InB2,
     InB3,
     Unheld,
+}
+
+// The lists from which addresses leave the box: B1, B2 and B3.
+pub enum Ghost {
+    OfB1,
+    OfB2,
+    OfB3,
 }
 
 // What is left when an address leaves, and the list that it was in.

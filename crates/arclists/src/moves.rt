@@ -1,4 +1,4 @@
-// The moves of Algorithm 3, each under its line: the oldest address of a list becomes the newest of a later one, or leaves. Where the list is empty nothing
+// The moves of Algorithm 3, each under its line: the oldest address of a list becomes the newest of a later one. Where the list is empty nothing
 // moves.
 use crate::ListSizes;
 use crate::Was;
@@ -6,7 +6,7 @@ use crate::words;
 ghost use mathlib.Core.Path.{_≡_};
 ghost use Prim.Native.Nat.{ℕ, _+_, _*_, _^_, _≤_, _<_};
 ghost use lib.ListN.{length};
-ghost use Rattle.arc.specs.Arc.{Lists, t1b1, t2b2, t1b3, b1b3, b2b3, b1Out, b2Out, b3Out};
+ghost use Rattle.arc.specs.Arc.{Lists, t1b1, t2b2, t1b3, b1b3, b2b3};
 ghost use Rattle.arclists.specs.Holding.{total, Holds, Kept, whichAt};
 
 // "move LRU from T1 to B1"
@@ -86,51 +86,6 @@ pub fn b2_to_b3(s: ListSizes, lists: &mut [u8]) -> ListSizes
     let mut r = s;
     r.b2 -= 1;
     r.b3 += 1;
-    r
-}
-
-// B1's oldest address leaves.
-pub fn b1_out(s: ListSizes, lists: &mut [u8]) -> ListSizes
-    requires { ⌜ total s * 4 ≤ length (now lists) ⌝ }
-    ensures { λ r. ⌜ ((m : ℕ) (l : Lists) → Holds m s (now (lists .entry)) l → Holds m r (now (lists .exit)) (b1Out l)) ⌝ }
-    ensures { λ r. ⌜ (total r ≤ total s) × Kept r s ⌝ }
-{
-    if s.b1 == 0 {
-        return s;
-    }
-    words::remove_word(lists, total_of(s), start_b1(s));
-    let mut r = s;
-    r.b1 -= 1;
-    r
-}
-
-// B2's oldest address leaves.
-pub fn b2_out(s: ListSizes, lists: &mut [u8]) -> ListSizes
-    requires { ⌜ total s * 4 ≤ length (now lists) ⌝ }
-    ensures { λ r. ⌜ ((m : ℕ) (l : Lists) → Holds m s (now (lists .entry)) l → Holds m r (now (lists .exit)) (b2Out l)) ⌝ }
-    ensures { λ r. ⌜ (total r ≤ total s) × Kept r s ⌝ }
-{
-    if s.b2 == 0 {
-        return s;
-    }
-    words::remove_word(lists, total_of(s), start_b2(s));
-    let mut r = s;
-    r.b2 -= 1;
-    r
-}
-
-// B3's oldest address leaves.
-pub fn b3_out(s: ListSizes, lists: &mut [u8]) -> ListSizes
-    requires { ⌜ total s * 4 ≤ length (now lists) ⌝ }
-    ensures { λ r. ⌜ ((m : ℕ) (l : Lists) → Holds m s (now (lists .entry)) l → Holds m r (now (lists .exit)) (b3Out l)) ⌝ }
-    ensures { λ r. ⌜ (total r ≤ total s) × Kept r s ⌝ }
-{
-    if s.b3 == 0 {
-        return s;
-    }
-    words::remove_word(lists, total_of(s), start_b3(s));
-    let mut r = s;
-    r.b3 -= 1;
     r
 }
 

@@ -1,18 +1,18 @@
 -- The number of a call from its parts. Assumes nothing.
 use mathlib.Core.Path.{_≡_, refl}
-use mathlib.Core.Bool.{true, false, cond}
+use mathlib.Core.Bool.{Bool, true, false, _||_, cond}
 use mathlib.Core.List.{List, [], _∷_, _++_}
 use Prim.Native.Nat.{ℕ, _*_, _≤_}
 use native.Mathlib.Omega.{arith}
 use lib.Dec.{eqb, leb}
-use lib.ListN.{length}
+use lib.ListN.{length, drop}
 use borrow.Author.Tests.{eq-eqb, ne-eqb, eqb-true, not-false}
 use Rattle.paper.specs.KeyedLaws.{All, by-test, or-false-left, or-false-right}
 use Rattle.paper.specs.Cache.{Counters}
-use Rattle.paper.specs.Lent.{Ask, opening, calling, limitOutside, otherLength, wrongBuffers, over, Test, test, first}
+use Rattle.paper.specs.Lent.{Ask, opening, calling, limitOutside, otherLength, wrongBuffers, wrongBlock, lentBlock, over, Test, test, first}
 use Rattle.paper.specs.LentLaws.{right-lengths}
 use Rattle.arc.specs.Arc.{Sizes, mOf, baseNumbers}
-use Rattle.arc.specs.ArcLent.{ArcLent, unfitArc, wrongArcBuffers, arcTableTests, arcRefusal}
+use Rattle.arc.specs.ArcLent.{ArcLent, unfitArc, wrongArcBuffers, arcTableTests, arcTests, arcRefusal}
 use Rattle.arc.specs.ArcDemandLaws.{arc-fits}
 use Rattle.arc.specs.ArcExactly.{arc-exactly-opening}
 use Rattle.arcrefusals.specs.declared.ArcRecord.{ArcRecord}
@@ -20,11 +20,11 @@ use Rattle.arcrefusals.specs.Given.{sizesOf, arcLent}
 use Rattle.arcrefusals.specs.Checks.{Fits}
 
 -- a number that some tests give, they give before others too; where they give none, the others follow
-first-more : (l rest : List Test) → (first l ≡ 0 → ⊥) → first l ≡ first (l ++ rest)
+pub first-more : (l rest : List Test) → (first l ≡ 0 → ⊥) → first l ≡ first (l ++ rest)
 first-more [] rest = λ n. absurd (n refl)
 first-more (x ∷ xs) rest = by-test (x .holds) (λ e. rw e (λ n. refl)) (λ e. rw e (λ n. first-more xs rest n))
 
-first-rest : (l rest : List Test) → All (λ x. 1 ≤ x .number) l → first l ≡ 0 → first rest ≡ first (l ++ rest)
+pub first-rest : (l rest : List Test) → All (λ x. 1 ≤ x .number) l → first l ≡ 0 → first rest ≡ first (l ++ rest)
 first-rest [] rest a = λ z. refl
 first-rest (x ∷ xs) rest a =
     by-test (x .holds) (λ e. rw e (λ z. let h = a .0 in absurd (omega (arith, h, z)))) (λ e. rw e (λ z. first-rest xs rest (a .1) z))
@@ -44,15 +44,20 @@ module _ (a : ArcRecord) (disk flash addresses blocks lists : List ℕ) (k : Cou
   abbrev t : ArcLent
   t = arcLent a disk flash addresses blocks lists k
 
-  -- a number that an opening gets, each call gets too
-  pub refused-first : (q : Ask) → (arcRefusal Z t opening ≡ 0 → ⊥) → arcRefusal Z t opening ≡ arcRefusal Z t (calling q)
+  -- a number that an opening gets, whatever makes its tests first gets too
+  pub opening-first : (more : Bool) (rest : List Test) → (arcRefusal Z t opening ≡ 0 → ⊥)
+      → arcRefusal Z t opening ≡ first (test (unfitArc Z) 11 ∷ test (limitOutside (baseNumbers Z)) 12 ∷ test (wrongArcBuffers Z t || more) 2 ∷ rest)
   unfolding arcRefusal
-  refused-first q n =
+  opening-first more rest n =
       by-test (unfitArc Z)
       (λ e. rw e refl)
       (λ e. by-test (limitOutside (baseNumbers Z))
       (λ l. rw (e, l) refl)
       (λ l. by-test (wrongArcBuffers Z t) (λ f. rw (e, l, f) refl) (λ f. absurd (n (rw (e, l, f) refl)))))
+
+  pub refused-first : (q : Ask) → (arcRefusal Z t opening ≡ 0 → ⊥) → arcRefusal Z t opening ≡ arcRefusal Z t (calling q)
+  unfolding arcRefusal
+  refused-first q n = opening-first (wrongBlock (Z .B) (lentBlock q)) (drop 3 (arcTests Z t (calling q))) n
 
   -- what memory that an opening is not refused on is known to be
   pub record Opens : Type 0 where

@@ -6,3 +6,4 @@ pub mod OpeningLaws
 pub mod TopLaws
 pub mod StateLaws
 pub mod CallLaws
+pub mod FolderLaws

@@ -1,5 +1,7 @@
 // The refusals of a D-ARC box, in the documents' order: 11, 12, 2, 3, 6, 7, 8, 13, 9.
 pub mod calls;
+pub mod many;
+pub mod report;
 pub mod state;
 pub mod tops;
 

@@ -4,7 +4,7 @@ use tables::Found;
 use tables::row;
 ghost use mathlib.Core.Path.{_≡_};
 ghost use mathlib.Core.Bool.{true, _&&_};
-ghost use mathlib.Core.List.{map};
+ghost use mathlib.Core.List.{List, map};
 ghost use Prim.Native.Nat.{ℕ, _+_, _<_, _≤_};
 ghost use lib.Dec.{eqb};
 ghost use lib.ListN.{length, getD};
@@ -12,6 +12,7 @@ ghost use Rattle.tables.specs.Rows.{HasRow, HasRows, rows, rowAt};
 ghost use Rattle.tables.specs.Find.{all, every, findFrom, isUsed};
 ghost use Rattle.tables.specs.Unsound.{elem};
 ghost use Rattle.tables.specs.Sound.{mark};
+ghost use Rattle.table_laws.specs.Knowns.{Tells};
 ghost use Rattle.tables.specs.Index.{BlockTable, Indexed, unique, placeIn, cachedIn, dirtyOk, cachedOk, unknownIn};
 
 // The index of the block row of held row `k` of `a`, or 256.
@@ -131,11 +132,10 @@ pub(crate) fn unmarked(t: &[u8], k: usize, b: u8) -> bool
     false
 }
 
-// The index of the first used row of `d` whose fingerprint no address row of the first `n` has, as the bytes of `known` tell.
-pub(crate) fn first_unknown(a: &[u8], n: usize, t: &[u8], d: usize, known: &[u8]) -> Found
+// The index of the first used row of `d` whose byte of `known` is 0: where the bytes tell it, that whose fingerprint none of some address rows has.
+pub fn first_unknown(t: &[u8], d: usize, known: &[u8]) -> Found
     requires { ⌜ HasRows (now t) d × (d ≤ length (now known)) ⌝ }
-    requires { ⌜ ((k : ℕ) → k < d → isUsed (rowAt (now t) k) && eqb (getD (now known) k 0) 0 ≡ unknownIn (rows n (now a)) (rowAt (now t) k)) ⌝ }
-    ensures { λ r. ⌜ r ≡ findFrom (unknownIn (rows n (now (a .entry)))) 0 (rows d (now (t .entry))) ⌝ }
+    ensures { λ r. ⌜ ((hs : List (List ℕ)) → Tells d (now (t .entry)) (now (known .entry)) hs → r ≡ findFrom (unknownIn hs) 0 (rows d (now (t .entry)))) ⌝ }
 {
     let mut k = 0;
     while k < d {
@@ -156,5 +156,5 @@ pub fn oldest_unknown(a: &[u8], n: usize, t: &[u8], d: usize, heads: &[u16]) -> 
 {
     let mut known = [0u8; 257];
     mark_known(a, n, t, d, heads, &mut known);
-    first_unknown(a, n, t, d, &known)
+    first_unknown(t, d, &known)
 }

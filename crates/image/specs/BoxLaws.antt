@@ -1,22 +1,21 @@
 -- Boxes of both kinds: what a served save wrote, a restore gives back as the flush left it, and the calls go on.
-use mathlib.Core.Path.{_≡_, refl, sym, ap, ap₂, _∙_, subst}
-use mathlib.Core.Bool.{Bool, true, false, not, _||_, cond}
+use mathlib.Core.Path.{_≡_, refl, sym, ap, _∙_, subst}
+use mathlib.Core.Bool.{Bool, false, _||_, cond}
 use mathlib.Core.List.{List, [], _∷_, map}
-use mathlib.Core.Logic.{_⊎_, inl, inr}
+use mathlib.Core.Logic.{inl, inr}
 use mathlib.Core.Option.{Option, some}
-use Prim.Native.Nat.{ℕ, _+_, _*_, _^_, _≤_, _<_}
+use Prim.Native.Nat.{ℕ, _+_, _*_, _≤_}
 use native.Mathlib.Omega.{arith}
 use lib.Dec.{eqb, ltb}
 use lib.ListN.{length, drop}
 use borrow.Author.Tests.{eqb-true, eqb-false, ltb-false, le-ltb, not-false}
 use Rattle.hash.specs.LastChunk.{Size}
-use Rattle.tables.specs.Rows.{tableBytes}
 use Rattle.tables.specs.Find.{any}
 use Rattle.tables.specs.Unsound.{nonzero}
-use Rattle.paper.specs.KeyedLaws.{All, by-test, or-false-left, or-false-right}
+use Rattle.paper.specs.KeyedLaws.{by-test, or-false-left, or-false-right}
 use Rattle.paper.specs.Cache.{Numbers, Counters, dirtyRows}
 use Rattle.paper.specs.Engine.{labelled}
-use Rattle.paper.specs.Lent.{Lent, Ask, calling, unfit, limitOutside, wrongBuffers, otherLength, overLimit, FewDirty, refusal, call, boxIn}
+use Rattle.paper.specs.Lent.{Lent, Ask, calling, unfit, limitOutside, wrongBuffers, otherLength, overLimit, FewDirty, refusal, boxIn}
 use Rattle.paper.specs.BatchLent.{one, recount}
 use Rattle.paper.specs.Demand3.{next}
 use Rattle.paper.specs.SoundTests.{addresses-good}
@@ -29,8 +28,7 @@ use Rattle.arc.specs.ArcDemand.{boxOf, arcNext}
 use Rattle.arc.specs.ArcExactly.{arc-exactly}
 use Rattle.arc.specs.ArcDemandLaws as Arc
 use Rattle.arc.specs.ArcDemandLaws.{ArcPasses, arc-fits, no-6, no-8, no-13}
-use Rattle.image.specs.Body.{total, Fields, bodyOf, Form, bodyLength}
-use Rattle.image.specs.Area.{applied, saveWrites}
+use Rattle.image.specs.Body.{total, bodyOf, Form, bodyLength}
 use Rattle.image.specs.Image.{tooShort}
 use Rattle.image.specs.Kinds.{lruFields, arcFields, lruNumbers, arcSizes, lruForm, arcForm, kinds}
 use Rattle.image.specs.Saved.{Saver, lruSaver, arcSaver, saveRefusal, save, restore, goesOn, arcGoesOn}
@@ -216,6 +214,34 @@ module _ (Z : Sizes) (u : unfitArc Z ≡ false) (w : limitOutside (baseNumbers Z
         room = rw (length-body arcForm (arcFields Z t) (arc-fields-fit t p)) at room;
       }
 
+-- what a served flush finds
+pub record ArcFound (Z : Sizes) (t : ArcLent) : Type 0 where
+  pub fit : unfitArc Z ≡ false
+  pub limit : limitOutside (baseNumbers Z) ≡ false
+  pub label : length (Z .label) ≡ 64
+  pub passes : ArcPasses Z t
+
+pub arc-found : (Z : Sizes) (t : ArcLent) → arcRefusal Z t (calling (Ask.flush (mOf Z))) ≡ 0 → ArcFound Z t
+arc-found Z t z =
+    let q = Ask.flush (mOf Z) in
+    let x = arc-exactly Z t q .gives-0 .0 z in
+    let w = or-false-left (wrongArcBuffers Z t) false (x .1 .1 .0) in
+    record {
+      fit = x .0;
+      limit = x .1 .0;
+      label = label-right (baseNumbers Z) (t .base) (or-false-left (wrongBuffers (baseNumbers Z) (t .base)) (otherLength (t .lists) (mOf Z * 4)) w);
+      passes = Arc.found Z t q z .passes;
+    }
+
+-- how long the body is
+pub arc-body-length : (Z : Sizes) (t : ArcLent) → Fits arcForm (arcFields Z t)
+    → length (bodyOf (arcFields Z t)) ≡ 116 + mOf Z * 40 + Z .C * 40 + mOf Z * 4
+unfolding arcForm bodyLength total
+arc-body-length Z t f = length-body arcForm (arcFields Z t) f ∙ omega arith
+
+pub arc-length : (Z : Sizes) (t : ArcLent) → ArcFound Z t → length (bodyOf (arcFields Z t)) ≡ 116 + mOf Z * 40 + Z .C * 40 + mOf Z * 4
+arc-length Z t f = arc-body-length Z t (arc-fields-fit Z (f .fit) (f .limit) (f .label) t (f .passes))
+
 module _ (Z : Sizes) (t : ArcLent) (area : List ℕ) (e : saveRefusal (arcSaver Z) t area ≡ 0) where
   pub arc-flush-0 : (arcRefusal Z t (calling (Ask.flush (mOf Z))) ≡ 0) × (tooShort area (length (bodyOf (arcFields Z t))) ≡ false)
   unfolding arcRefusal
@@ -225,12 +251,10 @@ module _ (Z : Sizes) (t : ArcLent) (area : List ℕ) (e : saveRefusal (arcSaver 
 
   pub arc-saved : (forms : ℕ → Option Form) → forms 1 ≡ some arcForm → Savable forms arcForm (arcFields Z (arcSaver Z .flushed t)) area
   arc-saved forms k =
-      let q = Ask.flush (mOf Z) in
       let z = arc-flush-0 .0 in
-      let x = arc-exactly Z t q .gives-0 .0 z in
-      let w = or-false-left (wrongArcBuffers Z t) false (x .1 .1 .0) in
-      let l = label-right (baseNumbers Z) (t .base) (or-false-left (wrongBuffers (baseNumbers Z) (t .base)) (otherLength (t .lists) (mOf Z * 4)) w) in
-      arc-savable Z (x .0) (x .1 .0) l forms k t (arcSaver Z .flushed t) (Arc.found Z t q z .passes) (Arc.served-passes Z t q z) area (arc-flush-0 .1)
+      let x = arc-found Z t z in
+      arc-savable Z (x .fit) (x .limit) (x .label) forms k t (arcSaver Z .flushed t) (x .passes) (Arc.served-passes Z t (Ask.flush (mOf Z)) z) area
+      (arc-flush-0 .1)
 
 -- ---- a restore after a save, of either kind
 

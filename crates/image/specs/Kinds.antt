@@ -9,7 +9,7 @@ use lib.ListN.{getD}
 use Rattle.tables.specs.Rows.{tableBytes}
 use Rattle.paper.specs.Cache.{Numbers, noCounts}
 use Rattle.paper.specs.Lent.{Lent, unfit, limitOutside, Test, test, first, tableTests}
-use Rattle.arc.specs.Arc.{Sizes, baseNumbers, mOf}
+use Rattle.arc.specs.Arc.{Sizes, baseNumbers}
 use Rattle.arc.specs.ArcLent.{ListRecord, ArcLent, unfitArc, arcTableTests}
 use Rattle.image.specs.Body.{Fields, Form}
 
@@ -86,7 +86,3 @@ arcForm =
 -- "a body that starts above 1" has no form
 unfoldable pub kinds : ℕ → Option Form
 kinds k = cond (eqb k 0) (some lruForm) (cond (eqb k 1) (some arcForm) none)
-
--- nor has one that starts above 0, where boxes run D-LRU alone
-unfoldable pub lruKinds : ℕ → Option Form
-lruKinds k = cond (eqb k 0) (some lruForm) none

@@ -13,9 +13,9 @@ use Rattle.tables.specs.declared.Found.{Found}
 use Rattle.paper.specs.KeyedLaws.{by-test}
 use Rattle.paper.specs.Cache.{Numbers, AddressRow, BlockRow, known, cached, someUncached}
 use Rattle.paper.specs.Engine.{Fixed, labelled, comparing}
-use Rattle.paper.specs.Index.{indexWhere, index-map}
+use Rattle.paper.specs.Index.{indexWhere}
 use Rattle.paper.specs.Layout.{Addrs, Blocks}
-use Rattle.parts.specs.TableLaws.{addrBytes, usedBytes, rows-addrs, rows-blocks, length-blocks, fp-of, fp-used, flag-used, placed, placed-first, isAt, absent-is, fp-known, fp-cached, all-any}
+use Rattle.parts.specs.TableLaws.{addrBytes, usedBytes, rows-addrs, fp-of, placed, isAt, absent-is, fp-cached, unknown-first}
 use Rattle.tables.specs.Records.{readAddress, readBlock}
 
 map-take : {A B : Type 0} (f : A → B) (k : ℕ) (xs : List A) → take k (map f xs) ≡ map f (take k xs)
@@ -46,18 +46,9 @@ module _ (d : ℕ) (bt : List ℕ) (free : List ℕ) (used : List (BlockRow (Fix
       ap (λ (x : List (List ℕ)). not (all (cachedIn (rows d bt)) x)) (sym (take-rows k n t kn) ∙ ap (take k) (rows-addrs P m n t l h) ∙ map-take addrBytes k l)
       ∙ all-cached N (take k l)
 
--- a used block row's fingerprint is that of no held row
-row-unknown : (P m n : ℕ) (t : List ℕ) (l : List (AddressRow (Fixed 32))) → Addrs P m n t l → (u : BlockRow (Fixed 32)) → unknownIn (rows n t) (usedBytes u) ≡ not (known comparing (u .fingerprint) l)
-row-unknown P m n t l h u =
-    ap (λ (k : ℕ). eqb k 1 && absent (findFrom (hasFingerprint (readBlock (usedBytes u) .fingerprint)) 0 (rows n t))) (flag-used u)
-    ∙ absent-is (findFrom (hasFingerprint (readBlock (usedBytes u) .fingerprint)) 0 (rows n t))
-    ∙ ap not (fp-known P m n t l h (readBlock (usedBytes u) .fingerprint) (u .fingerprint) (sym (fp-used u)) (findFrom (hasFingerprint (readBlock (usedBytes u) .fingerprint)) 0 (rows n t)) refl)
-
--- the first such row
+-- the first block row whose fingerprint is that of no held row
 pub unknown-is : (P m n d : ℕ) (t bt : List ℕ) (l : List (AddressRow (Fixed 32))) (used : List (BlockRow (Fixed 32))) → Addrs P m n t l → Blocks d bt [] used → (f : Found) → findFrom (unknownIn (rows n t)) 0 (rows d bt) ≡ f
     → placed f d ≡ indexWhere (λ u. not (known comparing (u .fingerprint) l)) used
 unknown-is P m n d t bt l used h hb f e =
-    ap (λ (y : Found). placed y d) (sym e ∙ ap (findFrom (unknownIn (rows n t)) 0) (rows-blocks d bt [] used hb))
-    ∙ ap (placed (findFrom (unknownIn (rows n t)) 0 (map usedBytes used))) (sym (length-blocks [] used ∙ hb .count))
-    ∙ placed-first (unknownIn (rows n t)) (map usedBytes used)
-    ∙ index-map usedBytes (unknownIn (rows n t)) (λ u. not (known comparing (u .fingerprint) l)) (λ u. Unit {0}) (λ u y. row-unknown P m n t l h u) used (all-any used)
+    ap (λ (y : Found). placed y d) (sym e ∙ ap (λ (r : List (List ℕ)). findFrom (unknownIn r) 0 (rows d bt)) (rows-addrs P m n t l h))
+    ∙ unknown-first l d bt used hb

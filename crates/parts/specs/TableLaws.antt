@@ -9,6 +9,7 @@ use lib.Dec.{eqb}
 use lib.ListN.{length, length-append, length-map}
 use Rattle.tables.specs.Rows.{rows}
 use Rattle.tables.specs.Find.{absent, findFrom, hasAddress, hasFingerprint, caches, same}
+use Rattle.tables.specs.Index.{unknownIn}
 use Rattle.tables.specs.declared.Found.{Found}
 use Rattle.tables.specs.declared.Found.the-variants.{At, Nothing}
 use Rattle.tables.specs.Records.{addressBytes, blockBytes, freeRow, readAddress, readBlock}
@@ -155,6 +156,25 @@ pub fp-known : (P m n : ℕ) (t : List ℕ) (l : List (AddressRow (Fixed 32))) �
 fp-known P m n t l h g q eq f e =
     ap isAt (sym e ∙ ap (findFrom (hasFingerprint g) 0) (rows-addrs P m n t l h))
     ∙ found-has (comparing .same) (λ r. r .fingerprint) q (hasFingerprint g) addrBytes (has-fp g q eq) 0 l
+
+-- a used block row's fingerprint is that of none of the rows l
+row-unknown : (l : List (AddressRow (Fixed 32))) (u : BlockRow (Fixed 32))
+    → unknownIn (map addrBytes l) (usedBytes u) ≡ not (known comparing (u .fingerprint) l)
+row-unknown l u =
+    let g = readBlock (usedBytes u) .fingerprint in
+    ap (λ (k : ℕ). eqb k 1 && absent (findFrom (hasFingerprint g) 0 (map addrBytes l))) (flag-used u)
+    ∙ absent-is (findFrom (hasFingerprint g) 0 (map addrBytes l))
+    ∙ ap not (found-has (comparing .same) (λ r. r .fingerprint) (u .fingerprint) (hasFingerprint g) addrBytes (has-fp g (u .fingerprint) (sym (fp-used u))) 0 l)
+
+-- the first such row
+pub unknown-first : (l : List (AddressRow (Fixed 32))) (d : ℕ) (bt : List ℕ) (used : List (BlockRow (Fixed 32))) → Blocks d bt [] used
+    → placed (findFrom (unknownIn (map addrBytes l)) 0 (rows d bt)) d ≡ indexWhere (λ u. not (known comparing (u .fingerprint) l)) used
+unknown-first l d bt used hb =
+    let p = unknownIn (map addrBytes l) in
+    ap (λ (r : List (List ℕ)). placed (findFrom p 0 r) d) (rows-blocks d bt [] used hb)
+    ∙ ap (placed (findFrom p 0 (map usedBytes used))) (sym (length-blocks [] used ∙ hb .count))
+    ∙ placed-first p (map usedBytes used)
+    ∙ index-map usedBytes p (λ u. not (known comparing (u .fingerprint) l)) (λ u. Unit {0}) (λ u y. row-unknown l u) used (all-any used)
 
 -- the rows xs in front do not pass
 found-past : {A : Type 0} (p : A → Bool) (xs ys : List A) (b : Bool) → All (λ x. p x ≡ false) xs → ((i : ℕ) → isAt (findFrom p i ys) ≡ b) → (j : ℕ)

@@ -138,6 +138,25 @@ pub fn flush_rows(
     count
 }
 
+// The same of row `i` alone: its slot is searched for, and no index is asked.
+pub fn copy_one(
+    b: BoxRecord,
+    i: usize,
+    disk: &mut [u8],
+    flash: &[u8],
+    addrs: &mut [u8],
+    blocks: &[u8],
+) -> usize
+    requires { ⌜ (i < b .held) × (0 < b .slots) × Sized b (now addrs) (now blocks) ⌝ }
+    requires { ⌜ LentBox b (now disk) (now flash) (now addrs) (now blocks) ⌝ }
+    ensures { λ r. ⌜ r ≤ 1 ⌝ }
+    ensures { λ r. ⌜ ((s : Box (Fixed 32) (Fixed (b .size))) → Rep b (now (disk .entry)) (now (flash .entry)) (now (addrs .entry)) (now (blocks .entry)) s
+        → record { count = r; disk = now (disk .exit); addrs = now (addrs .exit) } ≡ copiedRow b (λ f. true) s i) ⌝ }
+{
+    let slot = slot_in(blocks, b.slots, rows::place_of_row(b, i, addrs, blocks));
+    copy_row(b, i, disk, flash, addrs, blocks, slot)
+}
+
 // U8: the same of the oldest dirty row, if more rows are dirty than the limit.
 pub fn limit_rows(
     b: BoxRecord,
@@ -157,8 +176,7 @@ pub fn limit_rows(
     if b.held <= i {
         return 0;
     }
-    let slot = slot_in(blocks, b.slots, rows::place_of_row(b, i, addrs, blocks));
-    copy_row(b, i, disk, flash, addrs, blocks, slot)
+    copy_one(b, i, disk, flash, addrs, blocks)
 }
 
 // The same of every held row that has the fingerprint `g`, whose block is in `slot`.

@@ -57,7 +57,7 @@ fn answered(b: BoxRecord, w: Word, s: Served, c: Counters, reads: u64, hits: u64
 }
 
 // The word of a read.
-fn read_word(yes: bool) -> Word
+pub fn read_word(yes: bool) -> Word
     ensures { λ r. ⌜ wordOf r ≡ cond yes hit miss ⌝ }
 {
     if yes {
@@ -67,7 +67,7 @@ fn read_word(yes: bool) -> Word
 }
 
 // The word of a write.
-fn write_word(yes: bool) -> Word
+pub fn write_word(yes: bool) -> Word
     ensures { λ r. ⌜ wordOf r ≡ cond yes sameBlock newBlock ⌝ }
 {
     if yes {
@@ -77,7 +77,7 @@ fn write_word(yes: bool) -> Word
 }
 
 // 1 for a hit.
-fn one_if(yes: bool) -> u64
+pub fn one_if(yes: bool) -> u64
     ensures { λ r. ⌜ r ≡ cond yes 1 0 ⌝ }
 {
     if yes {

@@ -7,14 +7,13 @@ use parts::BoxRecord;
 ghost use mathlib.Core.Path.{_≡_};
 ghost use Prim.Native.Nat.{_*_};
 ghost use lib.Dec.{eqb};
-ghost use lib.ListN.{length};
 ghost use Rattle.paper.specs.BatchLent.{anyOutside, batchRefusal};
 ghost use Rattle.parts.specs.Rep.{numbersOf};
 ghost use Rattle.refusals.specs.Given.{countersOf, lent};
 ghost use Rattle.refusals.specs.Checks.{listRefusal};
 
 // Whether `n` times `s` is `len`, of any numbers.
-pub(crate) fn product_is(n: usize, s: usize, len: usize) -> bool
+pub fn product_is(n: usize, s: usize, len: usize) -> bool
     ensures { λ r. ⌜ r ≡ eqb len (n * s) ⌝ }
 {
     if s == 0 {
@@ -41,7 +40,7 @@ pub(crate) fn any_outside(asked: &[u32], p: usize) -> bool
 }
 
 // What the list and a buffer of `len` bytes are refused with.
-pub(crate) fn of_list(b: BoxRecord, asked: &[u32], len: usize) -> u32
+pub fn of_list(b: BoxRecord, asked: &[u32], len: usize) -> u32
     ensures { λ r. ⌜ r ≡ listRefusal b (now (asked .entry)) len ⌝ }
 {
     if !product_is(asked.len(), b.size, len) {

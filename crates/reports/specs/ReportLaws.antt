@@ -1,6 +1,6 @@
 -- A report, from its number and from what is filled. Assumes nothing.
-use mathlib.Core.Path.{_≡_, refl, sym, ap, _∙_}
-use mathlib.Core.Bool.{not, _||_}
+use mathlib.Core.Path.{_≡_, refl, _∙_}
+use mathlib.Core.Bool.{not}
 use mathlib.Core.List.{List}
 use Prim.Native.Nat.{ℕ, _*_}
 use lib.Dec.{eqb}
@@ -8,7 +8,7 @@ use lib.ListN.{length}
 use borrow.Author.Tests.{eqb-true, ne-eqb, not-false}
 use Rattle.paper.specs.KeyedLaws.{or-false-left, or-false-right}
 use Rattle.paper.specs.Cache.{Numbers}
-use Rattle.paper.specs.Lent.{Lent, wrongBuffers, otherLength, boxIn}
+use Rattle.paper.specs.Lent.{Lent, wrongBuffers, boxIn}
 use Rattle.paper.specs.LentLaws.{Passes, right-lengths}
 use Rattle.paper.specs.RefusalLaws.{Apart, gives-none}
 use Rattle.paper.specs.CallLaws.{Fits, fits}
@@ -51,12 +51,17 @@ module _ (w : Reader) (N : Numbers) (t : Lent) (report : List ℕ) where
   unfolding reported
   report-keeps number e n = rw (ne-eqb (reportRefusal N t w report) 0 (λ z. n (e ∙ z))) (λ i. record { number = e i; report = report })
 
+  -- what is filled is the paper's report of the held rows
+  pub rows-given : reportRefusal N t w report ≡ 0 → Bytes (t .addresses) → Bytes (t .blocks) → (filled : List ℕ)
+      → filled ≡ rowsIn (width w) (t .n) (t .addresses) (N .m) → filled ≡ reportOf w (N .m) ((boxIn N t) .rows)
+  rows-given e bytesA bytesB filled f =
+      let x = report-finds e in
+      f ∙ rows-are w (N .P) (N .m) (t .n) (t .addresses) ((boxIn N t) .rows) (passes-addrs N t (x .passes) bytesA bytesB (x .fits .P-most))
+
   -- a report that is given has the held rows
   pub report-given : reportRefusal N t w report ≡ 0 → Bytes (t .addresses) → Bytes (t .blocks) → (filled : List ℕ)
       → filled ≡ rowsIn (width w) (t .n) (t .addresses) (N .m) → _≡_ {A = Reported} (record { number = 0; report = filled }) (reports w N t report)
   unfolding reported
   report-given e bytesA bytesB filled f =
-      let x = report-finds e in
-      let r : filled ≡ reportOf w (N .m) ((boxIn N t) .rows)
-      = f ∙ rows-are w (N .P) (N .m) (t .n) (t .addresses) ((boxIn N t) .rows) (passes-addrs N t (x .passes) bytesA bytesB (x .fits .P-most)) in
+      let r = rows-given e bytesA bytesB filled f in
       rw e (λ i. record { number = 0; report = r i })

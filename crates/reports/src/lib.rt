@@ -3,11 +3,9 @@ use parts::BoxRecord;
 use parts::rows;
 use tables::row;
 ghost use mathlib.Core.Path.{_≡_};
-ghost use mathlib.Core.Bool.{cond};
 ghost use Prim.Native.Nat.{_*_, _≤_};
-ghost use lib.Dec.{ltb};
 ghost use lib.ListN.{length};
-ghost use Rattle.tables.specs.Rows.{rowAt, tableBytes, zeros, HasRow};
+ghost use Rattle.tables.specs.Rows.{tableBytes, HasRow};
 ghost use Rattle.paper.specs.Cache.{Counters};
 ghost use Rattle.paper.specs.Reports.{width};
 ghost use Rattle.parts.specs.Rep.{numbersOf};
@@ -22,7 +20,7 @@ pub enum Reader {
 }
 
 // The bytes of a row of a report.
-pub(crate) fn width_of(reader: Reader) -> usize
+pub fn width_of(reader: Reader) -> usize
     ensures { λ r. ⌜ r ≡ width (readerOf reader) ⌝ }
     ensures { λ r. ⌜ r ≤ 7 ⌝ }
 {
@@ -56,7 +54,7 @@ pub(crate) fn row_bytes(addresses: &[u8], n: usize, k: usize) -> [u8; 7]
 }
 
 // Fills the report of `m` rows, of which `n` are held, with the first `bytes` bytes of each.
-pub(crate) fn fill(addresses: &[u8], m: usize, n: usize, bytes: usize, report: &mut [u8])
+pub fn fill(addresses: &[u8], m: usize, n: usize, bytes: usize, report: &mut [u8])
     requires { ⌜ (m ≤ 1024) × (bytes ≤ 7) × (length (now addresses) ≡ tableBytes m) × (length (now report) ≡ m * bytes) ⌝ }
     ensures { λ _. ⌜ now (report .exit) ≡ rowsIn bytes n (now (addresses .entry)) m ⌝ }
 {

@@ -14,13 +14,11 @@ use Rattle.image.specs.Body.{bodyOf}
 use Rattle.image.specs.Area.{writesFor}
 use Rattle.image.specs.Kinds.{lruFields}
 use Rattle.image.specs.Saved.{Saved, lruSaver, save}
+use Rattle.restoring.specs.Given.{longOf}
 
--- the body of a box with these tables, and how long it is: 28 bytes of numbers, 64 of label, the tables
+-- the body of a box with these tables
 abbrev pub boxBody : BoxRecord → (addresses blocks : List ℕ) → List ℕ
 boxBody b addresses blocks = bodyOf (lruFields (numbersOf b) (lent b [] [] addresses blocks noCounts))
-
-abbrev pub longOf : BoxRecord → ℕ
-longOf b = 92 + b .rows * 40 + b .slots * 40
 
 -- a box whose numbers have 4 bytes and whose label and tables have their lengths, and an area with room for it
 pub record Writable (b : BoxRecord) (addresses blocks area : List ℕ) : Type 0 where

@@ -31,7 +31,8 @@ use Rattle.image.specs.Kinds.{lruFields}
 use Rattle.image.specs.Saved.{lruSaver, saveRefusal, save}
 use Rattle.image.specs.SavedLaws.{save-number, save-is, save-keeps}
 use Rattle.image.specs.BoxLaws.{lru-found, lru-length, lru-flush-0}
-use Rattle.saving.specs.Given.{boxBody, longOf, Writable, told, savedBy}
+use Rattle.restoring.specs.Given.{longOf}
+use Rattle.saving.specs.Given.{boxBody, Writable, told, savedBy}
 
 -- ---- the refusals
 

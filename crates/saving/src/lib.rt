@@ -12,7 +12,8 @@ ghost use Rattle.parts.specs.Rep.{numbersOf};
 ghost use Rattle.refusals.specs.Given.{countersOf, lent};
 ghost use Rattle.image.specs.Area.{applied, saveWrites};
 ghost use Rattle.image.specs.Saved.{lruSaver, saveRefusal};
-ghost use Rattle.saving.specs.Given.{longOf, boxBody, Writable, told, savedBy};
+ghost use Rattle.restoring.specs.Given.{longOf};
+ghost use Rattle.saving.specs.Given.{boxBody, Writable, told, savedBy};
 
 // The bytes of the body of a box.
 pub(crate) fn body_length(b: BoxRecord) -> u32

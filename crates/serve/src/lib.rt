@@ -41,7 +41,7 @@ pub enum Write {
 }
 
 // The fingerprint of a block of the box, under its label.
-fn fingerprint_of(b: BoxRecord, block: &[u8]) -> [u8; 32]
+pub fn fingerprint_of(b: BoxRecord, block: &[u8]) -> [u8; 32]
     requires { ⌜ Size (length (now block)) ⌝ }
     ensures { λ r. ⌜ ((x : Fixed (b .size)) → x .0 ≡ now (block .entry) → engine b .hash x .0 ≡ r) ⌝ }
 {
@@ -50,7 +50,7 @@ fn fingerprint_of(b: BoxRecord, block: &[u8]) -> [u8; 32]
 }
 
 // The dirty value of a write back of the fingerprint `g` to `a`: 0 where `a` is held, clean, with `g`.
-fn dirty_value(b: BoxRecord, a: SourceAddress, addrs: &[u8], g: &[u8]) -> u8
+pub fn dirty_value(b: BoxRecord, a: SourceAddress, addrs: &[u8], g: &[u8]) -> u8
     requires { ⌜ (b .held ≤ b .rows) × (length (now addrs) ≡ tableBytes (b .rows)) × (length (now g) ≡ 32) ⌝ }
     ensures { λ r. ⌜ ((N : Numbers) (l : List (AddressRow (Fixed 32))) (f : Fixed 32)
         → Addrs (b .blocks) (b .rows) (b .held) (now (addrs .entry)) l → f .0 ≡ now (g .entry) → r ≡ bit (dirtied (labelled N) f (rowOf (a .0) l))) ⌝ }
@@ -69,7 +69,7 @@ fn dirty_value(b: BoxRecord, a: SourceAddress, addrs: &[u8], g: &[u8]) -> u8
 }
 
 // The seat that a read of `a` leaves where it misses: that of the row of `a`, 0 where `a` is not held.
-fn seat_of(b: BoxRecord, a: SourceAddress, addrs: &[u8]) -> u16
+pub fn seat_of(b: BoxRecord, a: SourceAddress, addrs: &[u8]) -> u16
     requires { ⌜ (b .held ≤ b .rows) × (length (now addrs) ≡ tableBytes (b .rows)) ⌝ }
     ensures { λ r. ⌜ ((l : List (AddressRow (Fixed 32))) → Addrs (b .blocks) (b .rows) (b .held) (now (addrs .entry)) l
         → bytes2 r ≡ seatIn (rowOf (a .0) l)) ⌝ }

@@ -10,9 +10,10 @@ use Rattle.parts.specs.declared.BoxRecord.{BoxRecord}
 use Rattle.policy.specs.declared.calls.Outcome.{Outcome}
 use Rattle.policy.specs.Contract.{answerOf}
 use Rattle.refusals.specs.Given.{countersOf, lent}
-use Rattle.image.specs.Kinds.{lruKinds}
+use Rattle.image.specs.Kinds.{kinds}
 use Rattle.image.specs.Saved.{restore}
 use Rattle.saving.specs.Given.{Told, told, savedBy}
+use Rattle.arcrefusals.specs.declared.ArcRecord.{ArcRecord}
 use Rattle.restoring.specs.Given.{Left, left}
 use Rattle.fields.specs.Fields.{recordIn, countersIn, putRecord, fitting, stateBytes}
 use Rattle.fields.specs.Noted.{Noted, noted}
@@ -61,14 +62,14 @@ module _ (s area addresses blocks lists : List ℕ) where
   unfolding leavesRestore
   not-restored h = rw (ne-eqb (length s) stateBytes h) refl
 
-  pub restored : length s ≡ stateBytes → (number : ℕ) (b : BoxRecord) (s′ area′ addresses′ blocks′ lists′ : List ℕ)
-      → _≡_ {A = Left} (record { number = number; given = b; area = area′; addresses = addresses′; blocks = blocks′; lists = lists′ })
-      (left (restore lruKinds area addresses blocks lists))
+  pub restored : length s ≡ stateBytes → (number : ℕ) (b : BoxRecord) (c : ArcRecord) (s′ area′ addresses′ blocks′ lists′ : List ℕ)
+      → _≡_ {A = Left} (record { number = number; given = b; arc = c; area = area′; addresses = addresses′; blocks = blocks′; lists = lists′ })
+      (left (restore kinds area addresses blocks lists))
       → s′ ≡ putRecord b s
       → _≡_ {A = LeftRestore} (record { number = number; state = s′; area = area′; addresses = addresses′; blocks = blocks′; lists = lists′ })
       (leavesRestore s area addresses blocks lists)
   unfolding leavesRestore restoredIn
-  restored h number b s′ area′ addresses′ blocks′ lists′ e es =
+  restored h number b c s′ area′ addresses′ blocks′ lists′ e es =
       rw (eq-eqb (length s) stateBytes h)
       (_∙_ {A = LeftRestore}
       (λ i. record { number = number; state = es i; area = area′; addresses = addresses′; blocks = blocks′; lists = lists′ })

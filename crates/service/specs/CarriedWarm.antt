@@ -2,7 +2,7 @@
 -- Assumes nothing.
 use mathlib.Core.Path.{_≡_, refl, sym, ap, _∙_, subst}
 use mathlib.Core.Bool.{true}
-use mathlib.Core.List.{List, []}
+use mathlib.Core.List.{List}
 use Prim.Native.Nat.{ℕ, _^_, _<_}
 use native.Mathlib.Omega.{arith}
 use lib.Dec.{eqb}
@@ -16,7 +16,7 @@ use Rattle.paper.specs.CallLaws.{In64, counters-stay, served-passes, outcome}
 use Rattle.parts.specs.Rep.{numbersOf}
 use Rattle.refusals.specs.Given.{countersOf}
 use Rattle.image.specs.Area.{put, clearing}
-use Rattle.image.specs.Kinds.{lruFields, lruKinds}
+use Rattle.image.specs.Kinds.{lruFields, kinds}
 use Rattle.image.specs.Saved.{Saved, lruSaver, saveRefusal, save, Restored, recordOf}
 use Rattle.image.specs.SavedLaws.{save-is, save-keeps, givenBack, restore-once}
 use Rattle.image.specs.BoxLaws.{lru-flush-0, lru-found, lru-saved, lru-back}
@@ -91,21 +91,21 @@ module _ (N : Numbers) (t : Lent) (area : List ℕ) (e : saveRefusal (lruSaver N
 
   -- it gives that box back and clears the image's header
   pub restore-leaves : (a b l : List ℕ) → length a ≡ tableBytes (N .m) → length b ≡ tableBytes (N .d) → length l ≡ 0
-      → leavesRestore s image a b l ≡ restoredIn s (givenBack lruKinds (lruFields N flushed) image)
-  unfolding leavesRestore lruKinds
+      → leavesRestore s image a b l ≡ restoredIn s (givenBack kinds (lruFields N flushed) image)
+  unfolding leavesRestore kinds
   restore-leaves a b l ea eb el =
       let p = served-passes N t (Ask.flush (N .m)) (lru-flush-0 N t area e .0) .lengths in
       rw (eq-eqb (length s) stateBytes h)
-      (ap (restoredIn s) (lru-back lruKinds refl N t area e a b l (ea ∙ sym (p .addresses), eb ∙ sym (p .blocks), el)))
+      (ap (restoredIn s) (lru-back kinds refl N t area e a b l (ea ∙ sym (p .addresses), eb ∙ sym (p .blocks), el)))
 
   -- the bytes carry it, with the counters of the state
   pub carried-warm : Carries (putRecord (boxOf (recordOf (lruFields N flushed))) s) (flushed .disk) (flushed .flash) (flushed .addresses) (flushed .blocks) N
       (withCounters flushed (countersOf (countersIn s)))
-  unfolding lruKinds
+  unfolding kinds
   carried-warm =
       let b = boxOf (recordOf (lruFields N flushed)) in
       let l = lru-found N t (lru-flush-0 N t area e .0) .label in
-      let v = lru-saved N t area e lruKinds refl .fits .small in
+      let v = lru-saved N t area e kinds refl .fits .small in
       let v₁ = v .1 .0 in
       let v₂ = v .1 .1 .0 in
       let v₃ = v .1 .1 .1 .0 in
@@ -131,4 +131,4 @@ module _ (N : Numbers) (t : Lent) (area : List ℕ) (e : saveRefusal (lruSaver N
 pub second-restore : (area s a b l : List ℕ) → length s ≡ stateBytes → (leavesRestore s (put area clearing) a b l) .number ≡ 15
 unfolding leavesRestore restoredIn
 second-restore area s a b l h =
-    rw (eq-eqb (length s) stateBytes h) (ap (λ (x : Restored). x .number) (restore-once lruKinds area a b l))
+    rw (eq-eqb (length s) stateBytes h) (ap (λ (x : Restored). x .number) (restore-once kinds area a b l))

@@ -7,7 +7,7 @@ use lib.Dec.{eqb}
 use lib.ListN.{length}
 use Rattle.paper.specs.Lent.{Lent}
 use Rattle.parts.specs.Rep.{numbersOf}
-use Rattle.image.specs.Kinds.{lruKinds}
+use Rattle.image.specs.Kinds.{kinds}
 use Rattle.image.specs.Saved.{Saved, lruSaver, save, Restored, restore}
 use Rattle.restoring.specs.Given.{boxOf}
 use Rattle.fields.specs.Fields.{recordIn, putRecord, fitting, stateBytes}
@@ -73,5 +73,5 @@ restoredIn s x =
 unfoldable pub leavesRestore : (state area addresses blocks lists : List ℕ) → LeftRestore
 leavesRestore s area addresses blocks lists =
     cond (eqb (length s) stateBytes)
-    (restoredIn s (restore lruKinds area addresses blocks lists))
+    (restoredIn s (restore kinds area addresses blocks lists))
     (record { number = 2; state = s; area = area; addresses = addresses; blocks = blocks; lists = lists })

@@ -22,7 +22,7 @@ use Rattle.paper.specs.Demand3Laws.{demand-3, Written, opened-written, next-wri
 use Rattle.parts.specs.Rep.{numbersOf}
 use Rattle.refusals.specs.Given.{countersOf, lent}
 use Rattle.image.specs.Area.{put, clearing}
-use Rattle.image.specs.Kinds.{lruFields, lruKinds}
+use Rattle.image.specs.Kinds.{lruFields, kinds}
 use Rattle.image.specs.Saved.{lruSaver, saveRefusal, save}
 use Rattle.image.specs.SavedLaws.{save-is, givenBack}
 use Rattle.fields.specs.Fields.{recordIn, countersIn, fitting, stateBytes}
@@ -224,7 +224,7 @@ keptWarm x z = record { state = z .state; disk = x .disk; flash = x .flash; addr
 -- It returns 0 and gives back the box as the paper's full flush left it. "Restore reads the header, clears it": a second one gets 15.
 abbrev pub ReturnsWarm : Numbers → Lent → Kept → (area answer state addresses blocks lists : List ℕ) → Type 0
 ReturnsWarm N t y area l s a b k =
-    (leftWarm y area l s a b k ≡ restoredIn s (givenBack lruKinds (lruFields N (next N t (one (Ask.flush (N .m))))) ((leftSave y area l) .area)))
+    (leftWarm y area l s a b k ≡ restoredIn s (givenBack kinds (lruFields N (next N t (one (Ask.flush (N .m))))) ((leftSave y area l) .area)))
     × ((s₂ a₂ b₂ k₂ : List ℕ) → length s₂ ≡ stateBytes → (leavesRestore s₂ ((leftWarm y area l s a b k) .area) a₂ b₂ k₂) .number ≡ 15)
 
 -- ---- a call of any kind
@@ -416,9 +416,9 @@ module _ (N : Numbers) where
         eqb-true (length s) stateBytes
         (and-left (eqb (length s) stateBytes) (eqb (length a) (tableBytes (N .m)) && (eqb (length b) (tableBytes (N .d)) && eqb (length j) 0)) lent-is)
 
-    warm-is : leftWarm y area l s a b j ≡ restoredIn s (givenBack lruKinds (lruFields N (next N t (one (Ask.flush (N .m))))) ((leftSave y area l) .area))
+    warm-is : leftWarm y area l s a b j ≡ restoredIn s (givenBack kinds (lruFields N (next N t (one (Ask.flush (N .m))))) ((leftSave y area l) .area))
     warm-is =
-        subst (λ (x : List ℕ). leavesRestore s x a b j ≡ restoredIn s (givenBack lruKinds (lruFields N (next N t (one (Ask.flush (N .m))))) x)) (sym area-is)
+        subst (λ (x : List ℕ). leavesRestore s x a b j ≡ restoredIn s (givenBack kinds (lruFields N (next N t (one (Ask.flush (N .m))))) x)) (sym area-is)
         (restore-leaves N t area save-0 s long-s a b j
         (eqb-true (length a) (tableBytes (N .m))
         (and-left (eqb (length a) (tableBytes (N .m))) (eqb (length b) (tableBytes (N .d)) && eqb (length j) 0) tables-are))

@@ -22,9 +22,9 @@ use Rattle.parts.specs.Rep.{numbersOf, Rep, Copied, copiedRow, copiedRows, part
 use Rattle.parts.specs.Asked.{noBlock}
 use Rattle.step.specs.Steps.{placeOf, Out1, out1, blockBytes, Picked, pickedTaken}
 use Rattle.parts.specs.MoveLaws.{used-flag, first-flag, used-fp, refilled, first-filled}
-use Rattle.step.proofs.Taking.{own-slot}
+use Rattle.step.specs.Taking.{own-slot}
 use Rattle.parts.specs.CopyLaws.{right-no}
-use Rattle.step.proofs.Dropping.{not-there, there, known-as, freed-at, without-row, row-is, one-less}
+use Rattle.step.specs.Dropping.{not-there, there, known-as, freed-at, without-row, row-is, one-less}
 use Rattle.tables.specs.Records.{readBlock}
 use Rattle.tables.specs.Find.{isUsed}
 

@@ -8,18 +8,18 @@ use native.Mathlib.Omega.{arith}
 use lib.ListN.{length, getD, set, take, drop, drop-of-length-le}
 use lib.Seq.{take-all}
 use Rattle.parts.specs.declared.BoxRecord.{BoxRecord}
-use Rattle.tables.specs.Rows.{rowAt, removeAt}
+use Rattle.tables.specs.Rows.{rowAt}
 use Rattle.paper.specs.KeyedLaws.{Distinct}
-use Rattle.paper.specs.Cache.{AddressRow, BlockRow, Box, Taken, blockRow, withoutBlock, cached, slotOf, copied, copies, cleaned, isLost, taken, stored, step4}
+use Rattle.paper.specs.Cache.{AddressRow, BlockRow, Box, Taken, blockRow, cached, copied, copies, cleaned, isLost, taken, stored, step4}
 use Rattle.paper.specs.Engine.{Fixed, comparing}
 use Rattle.paper.specs.Lent.{join}
-use Rattle.paper.specs.Index.{indexWhere, index-holds, has-yes, has-no, without-yes, slotOf-yes}
+use Rattle.paper.specs.Index.{indexWhere, has-yes, has-no}
 use Rattle.paper.specs.Layout.{Blocks, addressesOf, blocksOf}
 use Rattle.parts.specs.Rep.{numbersOf, Rep, Copied, copiedRows, partBox, engine}
 use Rattle.parts.specs.Asked.{noBlock, victimPlace}
 use Rattle.step.specs.Steps.{Picked, pickedTaken, Out4, out4}
-use Rattle.parts.specs.MoveLaws.{slot-is, slot-below, first-slot, renewed}
-use Rattle.step.proofs.Taking.{victim-picked, taken-is}
+use Rattle.parts.specs.MoveLaws.{slot-is, slot-below, first-slot}
+use Rattle.step.specs.Taking.{victim-picked, taken-is, renewed-at}
 use Rattle.tables.specs.Records.{readBlock}
 use Rattle.tables.specs.Operations.{rowNewest}
 
@@ -33,25 +33,30 @@ unfolding pickedTaken
 picked-below d bt (k ∷ free) used t h p = h .free-below .0
 picked-below d bt [] used t h p = slot-below d bt [] used h t p noBlock
 
-module _ (b : BoxRecord) (disk flash addrs blocks : List ℕ) (s : Box (Fixed 32) (Fixed (b .size))) (h : Rep b disk flash addrs blocks s) (ds : Distinct (comparing .same) (λ u. u .fingerprint) (s .used)) (d0 : 0 < b .slots) (t k : ℕ) (et : t ≡ victimPlace (s .rows) (s .free) (s .used)) (ek : k ≡ readBlock (rowAt blocks t) .slot) where
+-- the place that the victim gives
+module _ (b : BoxRecord) (disk flash addrs blocks : List ℕ) (s : Box (Fixed 32) (Fixed (b .size))) (h : Rep b disk flash addrs blocks s) (d0 : 0 < b .slots)
+    (t : ℕ) (et : t ≡ victimPlace (s .rows) (s .free) (s .used)) where
   pub at-picked : Picked (s .free) (s .used) t
   at-picked = subst (Picked (s .free) (s .used)) (sym et) (victim-picked (b .slots) blocks (s .rows) (s .used) (s .free) (h .blocks-are) d0)
 
-  pub at-slot : k ≡ pickedTaken (s .free) (s .used) t .slot
-  at-slot = ek ∙ picked-slot (b .slots) blocks (s .free) (s .used) t (h .blocks-are) at-picked
-
-  pub at-below : k < b .slots
-  at-below = subst (λ (x : ℕ). x < b .slots) (sym at-slot) (picked-below (b .slots) blocks (s .free) (s .used) t (h .blocks-are) at-picked)
-
-  at-taken : taken (engine b) (s .rows) (s .free) (s .used) ≡ pickedTaken (s .free) (s .used) t
-  at-taken =
+  pub at-taken : Distinct (comparing .same) (λ u. u .fingerprint) (s .used) → taken (engine b) (s .rows) (s .free) (s .used) ≡ pickedTaken (s .free) (s .used) t
+  at-taken ds =
       taken-is (numbersOf b) (s .rows) (s .free) (s .used) ds (victim-picked (b .slots) blocks (s .rows) (s .used) (s .free) (h .blocks-are) d0)
       ∙ ap (pickedTaken (s .free) (s .used)) (sym et)
+
+-- a place that can be taken
+module _ (b : BoxRecord) (disk flash addrs blocks : List ℕ) (s : Box (Fixed 32) (Fixed (b .size))) (h : Rep b disk flash addrs blocks s) (t k : ℕ)
+    (p : Picked (s .free) (s .used) t) (ek : k ≡ readBlock (rowAt blocks t) .slot) where
+  pub at-slot : k ≡ pickedTaken (s .free) (s .used) t .slot
+  at-slot = ek ∙ picked-slot (b .slots) blocks (s .free) (s .used) t (h .blocks-are) p
+
+  pub at-below : k < b .slots
+  at-below = subst (λ (x : ℕ). x < b .slots) (sym at-slot) (picked-below (b .slots) blocks (s .free) (s .used) t (h .blocks-are) p)
 
   pub store-is : (f : Fixed 32) (x : Fixed (b .size)) (count : ℕ) (disk′ addrs′ flash′ blocks′ : List ℕ) → _≡_ {A = Copied} (record { count = count; disk = disk′; addrs = addrs′ }) (copiedRows b (isLost (engine b) (pickedTaken (s .free) (s .used) t .lost)) s (b .held))
       → (flash′ ≡ join (set (s .flash) k x)) × (blocks′ ≡ blocksOf (pickedTaken (s .free) (s .used) t .free) (pickedTaken (s .free) (s .used) t .used ++ (blockRow f k ∷ [])))
       → _≡_ {A = Out4} (record { flashed = 1; primary = count; disk = disk′; flash = flash′; addrs = addrs′; blocks = blocks′ })
-      (out4 b (stored (engine b) (s .rows) (s .used) (s .flash) (s .disk) f x 0 (taken (engine b) (s .rows) (s .free) (s .used))))
+      (out4 b (stored (engine b) (s .rows) (s .used) (s .flash) (s .disk) f x 0 (pickedTaken (s .free) (s .used) t)))
   unfolding out4 stored copiedRows partBox
   store-is f x count disk′ addrs′ flash′ blocks′ e q =
       let T : Taken (Fixed 32) = pickedTaken (s .free) (s .used) t in
@@ -70,7 +75,7 @@ module _ (b : BoxRecord) (disk flash addrs blocks : List ℕ) (s : Box (Fixed 32
       let e4 : flash′ ≡ join (set (s .flash) (pickedTaken (s .free) (s .used) t .slot) x) = q .0 ∙ ap (λ (y : ℕ). join (set (s .flash) y x)) kt in
       let e5 : blocks′ ≡ blocksOf (pickedTaken (s .free) (s .used) t .free) (pickedTaken (s .free) (s .used) t .used ++ (blockRow f (pickedTaken (s .free) (s .used) t .slot) ∷ []))
       = q .1 ∙ ap (λ (y : ℕ). blocksOf (pickedTaken (s .free) (s .used) t .free) (pickedTaken (s .free) (s .used) t .used ++ (blockRow f y ∷ []))) kt in
-      rw at-taken (λ j. record { flashed = 1; primary = e1 j; disk = e2 j; flash = e4 j; addrs = e3 j; blocks = e5 j })
+      (λ j. record { flashed = 1; primary = e1 j; disk = e2 j; flash = e4 j; addrs = e3 j; blocks = e5 j })
 
 -- step 4
 module _ (b : BoxRecord) (disk flash addrs blocks : List ℕ) (s : Box (Fixed 32) (Fixed (b .size))) (h : Rep b disk flash addrs blocks s) (f : Fixed 32) (x : Fixed (b .size)) (j : ℕ) (ej : j ≡ length (s .free) + indexWhere (λ u. comparing .same f (u .fingerprint)) (s .used)) where
@@ -78,16 +83,9 @@ module _ (b : BoxRecord) (disk flash addrs blocks : List ℕ) (s : Box (Fixed 32
       → _≡_ {A = Out4} (record { flashed = 0; primary = 0; disk = disk; flash = flash; addrs = addrs; blocks = blocks′ }) (out4 b (step4 (engine b) (s .rows) (record { free = s .free; used = s .used }) (s .flash) (s .disk) f x 0))
   unfolding out4 step4
   step4-hit ds l blocks′ eb =
-      let i : ℕ = indexWhere (λ (u : BlockRow (Fixed 32)). comparing .same f (u .fingerprint)) (s .used) in
-      let ib : i < length (s .used) = omega (arith, ej, h .blocks-are .count) in
-      let y : cached (engine b) f (s .used) ≡ true = has-yes (comparing .same) (λ (u : BlockRow (Fixed 32)). u .fingerprint) f (s .used) ib in
-      let fe : getD (s .used) i noBlock .fingerprint ≡ f = sym (comparing .same→≡ f (getD (s .used) i noBlock .fingerprint) (index-holds (λ (u : BlockRow (Fixed 32)). comparing .same f (u .fingerprint)) (s .used) noBlock ib)) in
-      let se : getD (s .used) i noBlock .slot ≡ slotOf (engine b) f (s .used) = sym (slotOf-yes (engine b) f (s .used) noBlock ib) in
-      let ue : getD (s .used) i noBlock ≡ blockRow f (slotOf (engine b) f (s .used)) = λ n. record { fingerprint = fe n; slot = se n } in
-      let wo : withoutBlock (engine b) f (s .used) ≡ removeAt (s .used) i = without-yes (comparing .same) (λ (u : BlockRow (Fixed 32)). u .fingerprint) f (comparing .same→≡) (s .used) ds ib in
-      let e5 : blocks′ ≡ blocksOf (s .free) (withoutBlock (engine b) f (s .used) ++ (blockRow f (slotOf (engine b) f (s .used)) ∷ []))
-      = eb ∙ ap (λ (n : ℕ). rowNewest (b .slots) n blocks) ej ∙ renewed (b .slots) blocks (s .free) (s .used) (h .blocks-are) i ib noBlock
-      ∙ ap₂ {C = List ℕ} (λ u v. blocksOf (s .free) (u ++ (v ∷ []))) (sym wo) ue in
+      let y : cached (engine b) f (s .used) ≡ true
+      = has-yes (comparing .same) (λ (u : BlockRow (Fixed 32)). u .fingerprint) f (s .used) (omega (arith, ej, l, h .blocks-are .count)) in
+      let e5 = eb ∙ renewed-at (numbersOf b) (b .slots) blocks (s .free) (s .used) (h .blocks-are) ds f j ej l in
       rw y (λ n. record { flashed = 0; primary = 0; disk = h .disk-is .is n; flash = h .flash-is .is n; addrs = h .rows-are .is n; blocks = e5 n })
 
   pub step4-miss : b .slots ≤ j → (o : Out4) → o ≡ out4 b (stored (engine b) (s .rows) (s .used) (s .flash) (s .disk) f x 0 (taken (engine b) (s .rows) (s .free) (s .used)))

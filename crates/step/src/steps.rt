@@ -37,7 +37,7 @@ pub struct Out {
 }
 
 // Takes row `i` out. The place of its fingerprint's block row.
-pub(crate) fn take_row(b: BoxRecord, i: usize, addrs: &mut [u8], blocks: &[u8]) -> usize
+pub fn take_row(b: BoxRecord, i: usize, addrs: &mut [u8], blocks: &[u8]) -> usize
     requires { ⌜ (i < b .held) × Sized b (now addrs) (now blocks) ⌝ }
     ensures { λ r. ⌜ ((rows : List (AddressRow (Fixed 32))) (free : List ℕ) (used : List (BlockRow (Fixed 32)))
         → Addrs (b .blocks) (b .rows) (b .held) (now (addrs .entry)) rows → Blocks (b .slots) (now (blocks .entry)) free used
@@ -163,6 +163,33 @@ pub(crate) fn fill(
     put::put_block(blocks, b.slots, t, g);
 }
 
+// Stores `block` with the fingerprint `g` in the block row at `t`, after the block that was there is copied for its dirty rows. How many times it was copied.
+pub fn store_at(
+    b: BoxRecord,
+    t: usize,
+    disk: &mut [u8],
+    flash: &mut [u8],
+    addrs: &mut [u8],
+    blocks: &mut [u8],
+    g: &[u8],
+    block: &[u8],
+) -> usize
+    requires { ⌜ (t < b .slots) × (length (now g) ≡ 32) × (length (now block) ≡ b .size) × Sized b (now addrs) (now blocks) ⌝ }
+    requires { ⌜ ((s : Box (Fixed 32) (Fixed (b .size))) × Rep b (now disk) (now flash) (now addrs) (now blocks) s
+        × OnceEach (s .used) × Picked (s .free) (s .used) t) ⌝ }
+    ensures { λ r. ⌜ r ≤ b .held ⌝ }
+    ensures { λ r. ⌜ ((s : Box (Fixed 32) (Fixed (b .size))) (f : Fixed 32) (x : Fixed (b .size))
+        → Rep b (now (disk .entry)) (now (flash .entry)) (now (addrs .entry)) (now (blocks .entry)) s
+        → OnceEach (s .used) → Picked (s .free) (s .used) t → f .0 ≡ now (g .entry) → x .0 ≡ now (block .entry)
+        → record { flashed = 1; primary = r; disk = now (disk .exit); flash = now (flash .exit); addrs = now (addrs .exit); blocks = now (blocks .exit) }
+        ≡ out4 b (stored (engine b) (s .rows) (s .used) (s .flash) (s .disk) f x 0 (pickedTaken (s .free) (s .used) t))) ⌝ }
+{
+    let slot = row::slot_at(blocks, t);
+    let count = lose(b, t, slot, disk, flash, addrs, blocks);
+    fill(b, t, slot, flash, blocks, g, block);
+    count
+}
+
 // Step 4 where `g` is not cached. How many blocks were copied to the disk.
 pub(crate) fn store(
     b: BoxRecord,
@@ -186,10 +213,7 @@ pub(crate) fn store(
         ≡ out4 b (stored (engine b) (s .rows) (s .used) (s .flash) (s .disk) f x 0 (taken (engine b) (s .rows) (s .free) (s .used)))) ⌝ }
 {
     let t = rows::victim(addrs, b.held, blocks, b.slots, heads);
-    let slot = row::slot_at(blocks, t);
-    let count = lose(b, t, slot, disk, flash, addrs, blocks);
-    fill(b, t, slot, flash, blocks, g, block);
-    count
+    store_at(b, t, disk, flash, addrs, blocks, g, block)
 }
 
 // What step 4 tells: the blocks stored in the flash, and those copied to the disk.

@@ -10,3 +10,5 @@ pub mod KeptBlocks
 pub mod Promises
 pub mod Written
 pub mod ReadBack
+-- the block rows of address rows
+pub mod Knowns

@@ -1,4 +1,5 @@
 //! The cache: which addresses are held is a map with a queue beside it, and so are the cached blocks.
+use crate::arc::Lists;
 use crate::*;
 use std::collections::{BTreeMap, HashMap, HashSet, VecDeque};
 
@@ -93,9 +94,9 @@ impl Held {
 }
 
 #[derive(Clone, Copy, Default)]
-struct Writes {
-    flash: u64,
-    primary: u64,
+pub(crate) struct Writes {
+    pub(crate) flash: u64,
+    pub(crate) primary: u64,
 }
 
 #[derive(Clone)]
@@ -118,6 +119,8 @@ pub struct Cache {
     pub(crate) disk: Store,
     pub(crate) flash: Store,
     pub counters: Counters,
+    /// The lists of a D-ARC box; none in a D-LRU box.
+    pub lists: Option<Lists>,
 }
 
 impl Cache {
@@ -140,6 +143,7 @@ impl Cache {
             disk: Store::new(b, disk),
             flash: Store::new(b, flash),
             counters: Counters::default(),
+            lists: None,
         }
     }
 
@@ -265,6 +269,9 @@ impl Cache {
         self.disk.put(a as usize, block);
         if self.held.contains_key(&a) {
             let q = self.take_out(a);
+            if let Some(lists) = &mut self.lists {
+                lists.leave(a);
+            }
             if !self.has_address(&q) && self.slots.contains_key(&q) {
                 self.set_free(&q);
             }
@@ -292,6 +299,9 @@ impl Cache {
 
     /// The step of one request, under the document's numbers: the row that address a is to have, and its block.
     fn step(&mut self, a: u32, new: Held, b: &[u8]) -> Writes {
+        if self.lists.is_some() {
+            return self.arc_step(a, new, b);
+        }
         let g = new.fingerprint;
         let mut writes = Writes::default();
         // 1
@@ -361,13 +371,13 @@ impl Cache {
     }
 
     /// Takes the row of a held address out and gives its fingerprint.
-    fn take_out(&mut self, a: u32) -> Fingerprint {
+    pub(crate) fn take_out(&mut self, a: u32) -> Fingerprint {
         self.addresses.retain(|other| *other != a);
         self.held.remove(&a).unwrap().fingerprint
     }
 
     /// Copies the block of a dirty row to the disk; the row is clean then.
-    fn clean(&mut self, a: u32) {
+    pub(crate) fn clean(&mut self, a: u32) {
         let row = self.held.get_mut(&a).unwrap();
         row.dirty = false;
         let block = self.flash.block(self.slots[&row.fingerprint] as usize).to_vec();

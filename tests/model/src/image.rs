@@ -7,6 +7,8 @@ pub const HEADER: usize = 64;
 pub const WRITE: usize = 64;
 /// "0, B, P, m, d, n, t [..] 4 bytes each", before the label.
 pub const BODY_NUMBERS: usize = 28;
+/// "1, B, P, C, X, n, t, p and the five list sizes": those of a D-ARC box.
+const ARC_NUMBERS: usize = 52;
 /// The refusals that a save checks, in the order of the documents: those of a flush, and 14 "in a save after all else".
 pub const SAVE_CHECKS: [u32; 9] = [1, 12, 2, 6, 7, 8, 13, 9, 14];
 /// Those that a restore checks. A state that is not 144 bytes comes before them.
@@ -57,7 +59,11 @@ pub fn room(m: usize, d: usize) -> usize {
 /// The writes of a save of this box, in their order: "The first write clears the header, the next ones fill the body in rising order, the last one writes the
 /// header", with "zeros filling the last" of the body.
 pub fn writes(lent: &Lent) -> Vec<Write> {
-    let body = body(lent);
+    writes_of(&body(lent))
+}
+
+/// The same for a body of either kind of box.
+pub(crate) fn writes_of(body: &[u8]) -> Vec<Write> {
     let part = |k: usize| std::array::from_fn(|i| body.get(k * WRITE + i).copied().unwrap_or(0));
     let parts = (0..body.len().div_ceil(WRITE)).map(|k| (HEADER + k * WRITE, part(k)));
     [(0, [0; HEADER])].into_iter().chain(parts).chain([(0, header(body.len() as u32))]).collect()
@@ -103,14 +109,25 @@ pub fn carry_out_save(lent: &mut Lent, area: &mut [u8]) -> u32 {
     number
 }
 
-/// The box in a body, without counters, disk and flash. 16 where "it starts above" what this library runs, "isn't as long as its record says or fails 1
-/// [..], 12, 6, 7, 8 or 13". Bodies that start with 1 are of D-ARC boxes, which this library doesn't run.
-fn read_body(body: &[u8]) -> Result<Lent, u32> {
-    if body.len() < BODY_NUMBERS {
-        return Err(16);
+/// The first numbers of a body, 16 where it is too short for them.
+fn numbers_in<const K: usize>(body: &[u8]) -> Result<[u64; K], u32> {
+    let numbers = body.get(..K * 4).ok_or(16u32)?;
+    Ok(std::array::from_fn(|k| u32::from_le_bytes(numbers[k * 4..k * 4 + 4].try_into().unwrap()) as u64))
+}
+
+/// The box in a body, without counters, disk and flash, and the bytes of its lists. 16 for "a body that starts above 1, isn't as long as its record says or
+/// fails 1, 11, 12, 6, 7, 8 or 13".
+fn read_body(body: &[u8]) -> Result<(Lent, Vec<u8>), u32> {
+    match numbers_in::<1>(body)? {
+        [0] => Ok((read_lru(body)?, vec![])),
+        [1] => read_arc(body),
+        _ => Err(16),
     }
-    let [kind, b, p, m, d, n, t] = std::array::from_fn(|k| u32::from_le_bytes(body[k * 4..k * 4 + 4].try_into().unwrap()) as u64);
-    if kind > 0 || body.len() as u128 != body_length(m, d) {
+}
+
+fn read_lru(body: &[u8]) -> Result<Lent, u32> {
+    let [_, b, p, m, d, n, t] = numbers_in(body)?;
+    if body.len() as u128 != body_length(m, d) {
         return Err(16);
     }
     let (label, tables) = body[BODY_NUMBERS..].split_at(LABEL);
@@ -127,17 +144,56 @@ fn read_body(body: &[u8]) -> Result<Lent, u32> {
     }
 }
 
+/// The same of a D-ARC box, whose "m is 2 × C + X". This library runs none: in its state C and X stand where m and d do.
+fn read_arc(body: &[u8]) -> Result<(Lent, Vec<u8>), u32> {
+    let [_, b, p, c, x, n, t, last_p, t1, t2, b1, b2, b3] = numbers_in(body)?;
+    let m = 2 * c + x;
+    if body.len() as u128 != (ARC_NUMBERS + LABEL) as u128 + (m as u128 + c as u128) * ROW as u128 + m as u128 * 4 {
+        return Err(16);
+    }
+    let (label, rest) = body[ARC_NUMBERS..].split_at(LABEL);
+    let (addresses, rest) = rest.split_at(m as usize * ROW);
+    let (blocks, lists) = rest.split_at(c as usize * ROW);
+    let with = |m: u64, d: u64| Lent {
+        state: Numbers { b, p, m, d, n, counters: [0; 4], label: label.try_into().unwrap(), t }.to_bytes(),
+        addresses: addresses.to_vec(),
+        blocks: blocks.to_vec(),
+        ..Lent::default()
+    };
+    // "T1, T2 and B3 hold at most C + X together, B1 and B2 together at most C", and p is at most C; 11 is 1 of m and C.
+    let oversized = t1 + t2 + b3 > c + x || b1 + b2 > c || last_p > c;
+    let base = with(m, c);
+    if first_of(&BOX_CHECKS, &base, |_| false) != 0 || oversized || misnamed(&base, lists, (t1 + t2) as usize, (t1 + t2 + b1 + b2 + b3) as usize) {
+        return Err(16);
+    }
+    Ok((with(c, x), lists.to_vec()))
+}
+
+/// "lists that don't name each held address once and no other", "a nonzero byte after them", or "an address of T1 or T2 without its block".
+fn misnamed(base: &Lent, lists: &[u8], tops: usize, total: usize) -> bool {
+    let (rows, blocks) = read_tables(base);
+    let held = &rows[..base.numbers().n as usize];
+    let (named, after) = lists.split_at(total * 4);
+    let names: Vec<u32> = named.chunks_exact(4).map(|name| u32::from_le_bytes(name.try_into().unwrap())).collect();
+    let cached = |row: &AddressRow| blocks.iter().any(|block| block.used == 1 && block.fingerprint == row.fingerprint);
+    after.iter().any(|byte| *byte != 0)
+        || held.iter().any(|row| names.iter().filter(|name| **name == row.address).count() != 1)
+        || names.iter().any(|name| held.iter().all(|row| row.address != *name))
+        || held.iter().any(|row| names[..tops].contains(&row.address) && !cached(row))
+}
+
 /// The box that a restore of this area gives back, by a caller whose buffers for tables and lists have these lengths; or the number of its refusal.
 pub fn found(area: &[u8], addresses: usize, blocks: usize, lists: usize) -> Result<Lent, u32> {
     let length = header_length(area).ok_or(15u32)?;
     if (area.len() as u128) < area_length(length as u128) {
         return Err(14);
     }
-    let saved = read_body(&area[HEADER..][..length as usize])?;
+    let (saved, saved_lists) = read_body(&area[HEADER..][..length as usize])?;
     // "for a D-LRU image the lists' buffer has length 0"
-    if saved.addresses.len() != addresses || saved.blocks.len() != blocks || lists != 0 {
+    if saved.addresses.len() != addresses || saved.blocks.len() != blocks || saved_lists.len() != lists {
         return Err(2);
     }
+    assert!(lists == 0, "no test lends a D-ARC image its own lengths");
     Ok(saved)
 }
 

@@ -1,4 +1,5 @@
 //! A box as it is lent: bytes. Which of them are refused, and the way into maps and queues and back.
+use crate::arc::ArcNumbers;
 use crate::cache::{Held, Store};
 use crate::*;
 use std::collections::{BTreeSet, HashMap, HashSet};
@@ -157,12 +158,12 @@ fn one(numbers: &Numbers) -> bool {
 }
 
 /// "a limit outside its range", which is "from 1 to m" (document 02, U8)
-fn twelve(numbers: &Numbers) -> bool {
+pub(crate) fn twelve(numbers: &Numbers) -> bool {
     !(1..=numbers.m).contains(&numbers.t)
 }
 
 /// Asked after 1, so that no product is too large.
-fn two(numbers: &Numbers, lent: &Lent) -> bool {
+pub(crate) fn two(numbers: &Numbers, lent: &Lent) -> bool {
     let wrong = |bytes: &Vec<u8>, length: u64| bytes.len() as u64 != length;
     wrong(&lent.disk, numbers.p * numbers.b)
         || wrong(&lent.flash, numbers.d * numbers.b)
@@ -170,7 +171,7 @@ fn two(numbers: &Numbers, lent: &Lent) -> bool {
         || wrong(&lent.blocks, numbers.d * ROW as u64)
 }
 
-fn six(numbers: &Numbers, rows: &[AddressRow], bytes: &[u8]) -> bool {
+pub(crate) fn six(numbers: &Numbers, rows: &[AddressRow], bytes: &[u8]) -> bool {
     if numbers.n > numbers.m {
         return true;
     }
@@ -184,7 +185,7 @@ fn six(numbers: &Numbers, rows: &[AddressRow], bytes: &[u8]) -> bool {
         || bytes[n * ROW..].iter().any(|byte| *byte != 0)
 }
 
-fn seven(numbers: &Numbers, rows: &[BlockRow]) -> bool {
+pub(crate) fn seven(numbers: &Numbers, rows: &[BlockRow]) -> bool {
     let free: Vec<&BlockRow> = rows.iter().take_while(|row| row.used == 0).collect();
     let used = &rows[free.len()..];
     let slots: BTreeSet<u32> = rows.iter().map(|row| row.slot).collect();
@@ -196,13 +197,13 @@ fn seven(numbers: &Numbers, rows: &[BlockRow]) -> bool {
         || fingerprints.len() < used.len()
 }
 
-fn eight(numbers: &Numbers, rows: &[AddressRow], blocks: &[BlockRow]) -> bool {
+pub(crate) fn eight(numbers: &Numbers, rows: &[AddressRow], blocks: &[BlockRow]) -> bool {
     let cached: HashSet<Fingerprint> = blocks.iter().filter(|row| row.used == 1).map(|row| row.fingerprint).collect();
     rows[..numbers.n as usize].iter().any(|row| row.dirty == 1 && !cached.contains(&row.fingerprint))
 }
 
 /// "a state with more than t dirty rows" (document 02, U8)
-fn thirteen(numbers: &Numbers, rows: &[AddressRow]) -> bool {
+pub(crate) fn thirteen(numbers: &Numbers, rows: &[AddressRow]) -> bool {
     rows[..numbers.n as usize].iter().filter(|row| row.dirty == 1).count() as u64 > numbers.t
 }
 
@@ -336,7 +337,11 @@ impl Answer {
 impl Cache {
     /// A box out of bytes that no check refuses. Takes disk and flash away from the bytes; `store` gives them back.
     pub fn load(lent: &mut Lent) -> Cache {
-        let numbers = lent.numbers();
+        Cache::load_as(lent.numbers(), lent)
+    }
+
+    /// The same where the numbers of the box are known already, and the bytes of the state are not looked at.
+    pub(crate) fn load_as(numbers: Numbers, lent: &mut Lent) -> Cache {
         let (rows, blocks) = read_tables(lent);
         let held = &rows[..numbers.n as usize];
         let (free, used): (Vec<BlockRow>, Vec<BlockRow>) = blocks.into_iter().partition(|row| row.used == 0);
@@ -357,13 +362,21 @@ impl Cache {
             disk: Store::new(b, std::mem::take(&mut lent.disk)),
             flash: Store::new(b, std::mem::take(&mut lent.flash)),
             counters: Counters { reads, hits, flash, primary },
+            lists: None,
         }
     }
 
-    fn state_bytes(&self) -> Vec<u8> {
+    pub(crate) fn numbers(&self) -> Numbers {
         let Counters { reads, hits, flash, primary } = self.counters;
         let [b, p, m, d, n, t] = [self.b, self.p, self.m, self.d, self.addresses.len(), self.t].map(|number| number as u64);
-        Numbers { b, p, m, d, n, counters: [reads, hits, flash, primary], label: self.label, t }.to_bytes()
+        Numbers { b, p, m, d, n, counters: [reads, hits, flash, primary], label: self.label, t }
+    }
+
+    fn state_bytes(&self) -> Vec<u8> {
+        match &self.lists {
+            Some(lists) => ArcNumbers::of(self.numbers(), lists).to_bytes(),
+            None => self.numbers().to_bytes(),
+        }
     }
 
     fn address_bytes(&self) -> Vec<u8> {

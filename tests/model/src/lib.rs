@@ -3,7 +3,9 @@
 //! `Cache` runs calls from a fresh box. `Lent` is a box in bytes, any bytes: `carry_out` gives what a call must answer and what every buffer
 //! must hold after it. The call that reads a folder of addresses is lent a `Folder` beside the box: `Cache::read_many`, `carry_out_many`.
 //! The two reports are lent their bytes: `Cache::report`, `carry_out_report`. `image` has the images that a save makes and a restore takes.
+//! `arc` has D-ARC boxes: a `Cache` with lists, and `ArcLent`, a box in bytes.
 //! `machines` has the two machines that the document compares a list of calls with, `exam` what is counted of all lists of a few reads.
+pub mod arc;
 mod cache;
 pub mod exam;
 pub mod image;

@@ -100,7 +100,7 @@ const WRONG: [Wrong; 26] = [
     ("an area without the fill's last byte", 14, |area, _, _| area.truncate(ROOM - 1)),
     ("a header alone", 14, |area, _, _| area.truncate(64)),
     ("a length above the area", 14, |area, _, _| area[5..9].fill(255)),
-    ("a D-ARC image", 16, |area, _, _| area[64] = 1),
+    ("a D-LRU body that starts as a D-ARC one", 16, |area, _, _| area[64] = 1),
     ("a kind that is none", 16, |area, _, _| area[67] = 1),
     ("B of 65", 16, |area, _, _| area[68] = 65),
     ("P of 0", 16, |area, _, _| area[72] = 0),

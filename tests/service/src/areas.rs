@@ -47,7 +47,7 @@ pub fn with_counters(lent: &Lent, counters: [u64; 4]) -> Lent {
     Lent { state: Numbers { counters, ..lent.numbers() }.to_bytes(), ..lent.clone() }
 }
 
-/// A D-ARC image that is sound by document 02: a fresh box of these numbers (C is d, X is m), which this library doesn't run.
+/// A D-ARC image that is sound by document 02: a fresh box of these numbers (C is d, X is m). A restore that lends no lists gets 2.
 pub fn arc_image(random: &mut Random, shape: Shape) -> Vec<u8> {
     let (c, x) = (shape.d, shape.m);
     let m = 2 * c + x;

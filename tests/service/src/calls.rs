@@ -144,13 +144,13 @@ pub fn call_question(q: &mut Question) -> u32 {
 const GUARD: usize = 32;
 
 /// Buffers copied to places `shift` bytes (below 32) off, between bytes that must keep their values.
-struct Lifted {
+pub(crate) struct Lifted {
     wide: Vec<Vec<u8>>,
     inside: Vec<std::ops::Range<usize>>,
 }
 
 impl Lifted {
-    fn new<const COUNT: usize>(buffers: &Buffers<COUNT>, shift: usize) -> Lifted {
+    pub(crate) fn new<const COUNT: usize>(buffers: &Buffers<COUNT>, shift: usize) -> Lifted {
         let mut lifted = Lifted { wide: Vec::new(), inside: Vec::new() };
         for (k, bytes) in buffers.iter().enumerate() {
             let start = GUARD + (shift + 3 * k) % GUARD;
@@ -162,13 +162,13 @@ impl Lifted {
         lifted
     }
 
-    fn slices<const COUNT: usize>(&mut self) -> Buffers<'_, COUNT> {
+    pub(crate) fn slices<const COUNT: usize>(&mut self) -> Buffers<'_, COUNT> {
         let mut slices = self.wide.iter_mut().zip(&self.inside).map(|(wide, inside)| &mut wide[inside.clone()]);
         std::array::from_fn(|_| slices.next().unwrap())
     }
 
     /// Copies the bytes back, and looks at those around them.
-    fn put_back<const COUNT: usize>(self, buffers: Buffers<COUNT>, name: &str) {
+    pub(crate) fn put_back<const COUNT: usize>(self, buffers: Buffers<COUNT>, name: &str) {
         for (k, bytes) in buffers.into_iter().enumerate() {
             let (wide, inside) = (&self.wide[k], self.inside[k].clone());
             let outside = wide[..inside.start].iter().chain(&wide[inside.end..]);

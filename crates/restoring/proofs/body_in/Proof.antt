@@ -1,12 +1,10 @@
 -- The body follows the header, as long as that says. Assumes nothing.
 use native.Mathlib.Omega.{arith}
-use Rattle.restoring.specs.FoundLaws.{found-header, found-room, taken-body}
+use Rattle.restoring.specs.RestoreLaws.{found-header, found-room}
+use Rattle.restoring.specs.FoundLaws.{taken-body}
 use borrow.Author.Needs.{needs}
 use Rattle.restoring.proofs.body_in.Statement.{statement}
 use Rattle.restoring.proofs.body_in.Tie as tie
-use Rattle.restoring.proofs.body_in.Reads as reads
-use Rattle.restoring.proofs.body_in.Lts as lts
-use Rattle.tables.proofs.row.word_at.Reads as word-at-reads
 
 word-at-requires : tie.Need-word-at-requires
 word-at-requires c κs = omega (arith, found-header (c .before .args .area .now) (c .before .pre))

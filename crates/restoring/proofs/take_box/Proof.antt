@@ -1,71 +1,49 @@
--- The record and the tables are those of the body found. Assumes nothing.
-use mathlib.Core.Path.{_≡_, sym, ap, _∙_, subst}
-use Prim.Native.Nat.{_*_, _≤_}
-use native.Mathlib.Omega.{arith}
-use lib.ListN.{length}
-use Rattle.image.specs.Body.{fieldsIn}
-use Rattle.image.specs.Image.{bodyIn, imageRefusal}
-use Rattle.image.specs.Kinds.{stringAt, lruForm, lruKinds}
-use Rattle.restoring.specs.Given.{boxOf, boxIn, longOf}
-use Rattle.restoring.specs.FoundLaws.{image-passes, lengths-taken, found-long, found-small, found-fields}
+-- The record, the tables and the lists are those of the body found. Assumes nothing.
+use mathlib.Core.Path.{_≡_, sym, ap, _∙_}
+use Rattle.image.specs.Image.{imageRefusal}
+use Rattle.image.specs.Kinds.{stringAt, kinds}
+use Rattle.restoring.specs.Given.{arcOf}
+use Rattle.restoring.specs.RestoreLaws.{image-passes, lengths-taken, found-body, found-fields}
 use borrow.Author.Needs.{needs}
 use Rattle.restoring.proofs.take_box.Statement.{statement}
 use Rattle.restoring.proofs.take_box.Tie as tie
-use Rattle.restoring.proofs.take_box.Reads as reads
-use Rattle.restoring.proofs.take_box.Lts as lts
-use Rattle.restoring.proofs.body_in.Reads as body-in-reads
-use Rattle.restoring.proofs.record_in.Reads as record-in-reads
-use Rattle.restoring.proofs.take_tables.Reads as take-tables-reads
 
-abbrev start : tie.After-shared-slice-known2 → tie.Start
+abbrev start : tie.After-slice-known3 → tie.Start
 start c = c .before .before .before .before
 
 -- the image is not refused
-zero : (c : tie.After-shared-slice-known2) → imageRefusal lruKinds (start c .args .area .now) ≡ 0
+zero : (c : tie.After-slice-known3) → imageRefusal kinds (start c .args .area .now) ≡ 0
 zero c = let a = start c .args in image-passes (a .area .now) (a .addresses .now) (a .blocks .now) (a .lists .now) (start c .pre)
-
--- the record is the body's
-found : (c : tie.After-record-in) → c .record-in .result ≡ boxIn (bodyIn (start (c .before .before) .args .area .now))
-found c = c .record-in .ensures ∙ ap boxIn (c .before .body-in .ensures)
 
 body-in-requires : tie.Need-body-in-requires
 body-in-requires c κs = zero c
 
-record-in-requires : tie.Need-record-in-requires
-record-in-requires c κs =
-    let l = found-long (start (c .before) .args .area .now) (zero (c .before)) in
-    let e = ap length (c .body-in .ensures) in
-    omega arith
+found-in-requires : tie.Need-found-in-requires
+found-in-requires c κs = found-body (start (c .before) .args .area .now) (zero (c .before)) _ (c .body-in .ensures)
 
 take-tables-requires : tie.Need-take-tables-requires
 take-tables-requires c κs =
-    let r = c .before .before in
-    let k = r .before .before in
-    let a = start k .args in
-    let z = zero k in
-    let s = found-small (a .area .now) z in
-    let l = lengths-taken (a .area .now) (a .addresses .now) (a .blocks .now) (a .lists .now) (start k .pre) in
-    subst (λ b. (b .rows ≤ 1024) × (b .slots ≤ 256) × (length (r .before .body-in .result .now) ≡ longOf b) × (length (a .addresses .now) ≡ b .rows * 40)
-    × (length (a .blocks .now) ≡ b .slots * 40)) (sym (found r))
-    (s .0, s .1, ap length (r .before .body-in .ensures) ∙ found-long (a .area .now) z, l .0, l .1)
-
-same-length : tie.Need-same-length
-same-length c = search needs
-
-same-length-2 : tie.Need-same-length-2
-same-length-2 c = search needs
+    let f = c .before .before .before in
+    let b = f .before in
+    let s = start (b .before) in
+    let a = s .args in
+    let d = f .found-in .ensures .1 in
+    let l = lengths-taken (a .area .now) (a .addresses .now) (a .blocks .now) (a .lists .now) _ (b .body-in .ensures) (f .found-in .result) d (zero (b .before))
+    (s .pre) in
+    (d .whole, l .0, l .1, l .2)
 
 returns : tie.Need-returns
 returns c =
-    let t = c .before .before .before .before in
-    let r = t .before .before .before in
-    let k = r .before .before in
-    let f = sym (found-fields (start k .args .area .now) (zero k)) in
-    let b = r .before .body-in .ensures in (
-      found r ∙ ap boxOf f,
+    let t = c .before .before .before .before .before .before .before in
+    let f = t .before .before .before .before in
+    let b = f .before in
+    let x = found-fields (start (b .before) .args .area .now) _ (b .body-in .ensures) in
+    let d = f .found-in .ensures .1 in
+    let e = t .take-tables .ensures in (
+      f .found-in .ensures .0 ∙ ap arcOf x,
       (
-        t .take-tables .ensures .0 (r .record-in .ensures) ∙ ap (λ y. stringAt (fieldsIn lruForm y) 1) b ∙ ap (λ x. stringAt x 1) f,
-        t .take-tables .ensures .1 (r .record-in .ensures) ∙ ap (λ y. stringAt (fieldsIn lruForm y) 2) b ∙ ap (λ x. stringAt x 2) f,
+        e .0 ∙ sym (d .addresses) ∙ ap (λ y. stringAt y 1) x,
+        (e .1 .0 ∙ sym (d .blocks) ∙ ap (λ y. stringAt y 2) x, e .1 .1 ∙ sym (d .lists) ∙ ap (λ y. stringAt y 3) x),
       ),
     )
 
@@ -74,8 +52,9 @@ take-box-spec =
     tie.close
     (tie.spec
     body-in-requires
-    record-in-requires
+    found-in-requires
     take-tables-requires
-    same-length
-    same-length-2
+    (λ c. search needs)
+    (λ c. search needs)
+    (λ c. search needs)
     returns)

@@ -7,7 +7,7 @@ use native.Mathlib.Omega.{arith}
 use Rattle.tables.specs.Index.{placeIn}
 use Rattle.tables.specs.Rows.{rows, rowAt}
 use Rattle.tables.specs.SoundLaws.{Read, Marks, marked-none, marks-set, values-at, values-length}
-use Rattle.checks.proofs.Knowns.{place-below}
+use Rattle.table_laws.specs.Knowns.{place-below}
 use borrow.Author.Needs.{needs}
 use Rattle.checks.proofs.known.mark_known.Statement.{statement}
 use Rattle.checks.proofs.known.mark_known.Tie as tie

@@ -18,7 +18,7 @@ returns-2 c =
     let r = w .before .before .before .before .before .before .before .before .before .before .before in
     let e = r .before .before .before .before .before in
     let a = start (e .before) .args in
-    restored (a .state .now) (a .area .now) (a .addresses .now) (a .blocks .now) (a .lists .now) (e .if1 .left) _ _ _ _ _ _ _ (r .restore .ensures)
+    restored (a .state .now) (a .area .now) (a .addresses .now) (a .blocks .now) (a .lists .now) (e .if1 .left) _ _ _ _ _ _ _ _ (r .restore .ensures)
     (w .put-record .ensures)
 
 pub mindavehu-restore-spec : {M : Type 1} → statement M

@@ -10,7 +10,7 @@ use Rattle.paper.specs.Engine.{Fixed, labelled}
 use Rattle.paper.specs.Layout.{addressesOf}
 use Rattle.parts.specs.Rep.{noRow}
 use Rattle.step.specs.Steps.{blockBytes}
-use Rattle.step.proofs.Dropping.{without-row, row-is, one-less, addrs-without, stays, drop-none}
+use Rattle.step.specs.Dropping.{without-row, row-is, one-less, addrs-without, stays, drop-none}
 use Rattle.step.proofs.steps.drop_row.Statement.{statement}
 use Rattle.step.proofs.steps.drop_row.Tie as tie
 

@@ -2,7 +2,7 @@
 use mathlib.Core.Path.{_∙_}
 use Prim.Native.Nat.{_<_}
 use native.Mathlib.Omega.{arith}
-use Rattle.step.proofs.Dropping.{drop-out, drop-known, drop-freed, not-there, there, known-as, freed-at}
+use Rattle.step.specs.Dropping.{drop-out, drop-known, drop-freed, not-there, there, known-as, freed-at}
 use borrow.Author.Needs.{needs}
 use Rattle.step.proofs.steps.free_unknown.Statement.{statement}
 use Rattle.step.proofs.steps.free_unknown.Tie as tie

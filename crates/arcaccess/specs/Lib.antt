@@ -1,0 +1,2 @@
+-- promises: a read or a write, from what its step leaves
+pub mod AccessLaws

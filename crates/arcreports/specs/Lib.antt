@@ -1,0 +1,4 @@
+-- what a report promises
+pub mod Contract
+-- lemmas
+pub mod ReportLaws

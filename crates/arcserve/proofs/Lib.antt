@@ -1,0 +1,2 @@
+-- the calls, from their steps
+pub mod Serving
