@@ -1,8 +1,7 @@
 /* Mindavehu: a deduplicating flash cache with D-LRU replacement, in memory that the caller lends.
  *
- * Link with libmindavehu.a (`./library` puts it into target/staticlib/). The library keeps nothing between calls, allocates nothing and reads no clock:
- * whatever a call needs and leaves is in the buffers below. Each call is proved to do what documents 01 and 02 say, on any bytes. Boxes that run D-ARC, the
- * scan-resistant policy, are in mindavehu_arc.h.
+ * Link with libservice.a (`rt staticlib service`), which an installed tree has as libmindavehu.a. The library keeps nothing between calls, allocates
+ * nothing and reads no clock: whatever a call needs and leaves is in the buffers below. Each call is proved to do what documents 01 and 02 say, on any bytes.
  *
  * The box: B bytes a block (64, 128, 256, 512, 1024, 2048 or 4096), P disk blocks (1 to 65536), at most m addresses held (1 to 1024),
  * d cached blocks (1 to 256), at most t addresses dirty after a call (1 to m): the limit. n is the number of addresses held now. An address is dirty while
@@ -20,7 +19,7 @@
  *                             (a look: the word, the byte where the part starts, the part's length)
  *   report     m x 7 or m x 5 the manager's report or the desk's: a part of 7 or 5 bytes for each held address, then zeros
  *   area       see below      where a save puts the image of a box, and a restore takes it from: MINDAVEHU_AREA_LENGTH(m, d) or more
- *   lists      0              a restore's alone: those of a D-ARC box, and of no other
+ *   lists      0              a restore's alone; no box of this library has lists
  * for an opening, beside the state, the disk, the flash and the tables:
  *   label      64             the office's label, any bytes: a served opening puts it into the state, from which all other calls take it
  * and for the one call that reads a list of addresses, in place of the block and of that answer:
@@ -33,7 +32,7 @@
  * The result of each function is the number of a refusal, or MINDAVEHU_SERVED. A refused call changes no buffer, but for a refused
  * opening, which writes n = 0 and a label of zeros into the state, a refused restore, which writes zeros into all of the state but its counters, and a
  * refused exam question, which writes nine counts of 0. A state that is not 144 bytes, or an answer that is not 24 (of the call for a list: not 32), gives
- * MINDAVEHU_WRONG_LENGTH before anything else is looked at, and nothing at all is changed. (A restore that is lent lists wants a state of 192 bytes.)
+ * MINDAVEHU_WRONG_LENGTH before anything else is looked at, and nothing at all is changed.
  * Where several refusals apply, the first of 1, 12, 2, 10, 3, 6, 7, 8, 13, 9, 14 is told. Only the call for a list has 10, only a save has 14 here. Flush
  * and save have no 3, look no 9, a report neither, opening only 1, 12 and 2, an exam question only 1, 12, 2 and 17. Of a restore the first of 15, 14, 16, 2
  * is told.
@@ -210,11 +209,10 @@ extern "C" {
  * three writes takes a seat behind its address, the address table keeps the seats in two bytes of a row that were zero before, and there are two reports.
  * Boxes of version 2 are boxes of version 3 in which every seat is 0. In version 4 the state has the limit behind the label, and mindavehu_box_open and
  * mindavehu_scores take it behind d. A box of version 3, with m behind its 136 bytes, is one of version 4. Version 4.1 has mindavehu_save and
- * mindavehu_restore besides, and changes nothing of the calls that were there. Version 4.2 has the D-ARC boxes of mindavehu_arc.h besides, and the image of
- * such a box is given back into its own state: a restore that is lent lists wants a state of 192 bytes. */
-#define MINDAVEHU_VERSION "4.2.0"
+ * mindavehu_restore besides, and changes nothing of the calls that were there. */
+#define MINDAVEHU_VERSION "4.1.0"
 #define MINDAVEHU_VERSION_MAJOR 4
-#define MINDAVEHU_VERSION_MINOR 2
+#define MINDAVEHU_VERSION_MINOR 1
 #define MINDAVEHU_VERSION_PATCH 0
 
 /* The most bytes of stack that a call needs. */
@@ -261,12 +259,11 @@ extern "C" {
 #define MINDAVEHU_OUTSIDE 1          /* B, P, m or d outside its set */
 #define MINDAVEHU_WRONG_LENGTH 2     /* a length is not the one above */
 #define MINDAVEHU_NO_ADDRESS 3       /* the address is P or more; of a list: an address is */
-#define MINDAVEHU_BAD_ADDRESSES 6    /* the address table is unsound; of a D-ARC box: or its lists are */
+#define MINDAVEHU_BAD_ADDRESSES 6    /* the address table is unsound */
 #define MINDAVEHU_BAD_BLOCKS 7       /* the block table is unsound */
-#define MINDAVEHU_DIRTY_UNCACHED 8   /* a dirty address without its block; of a D-ARC box: or an address of T1 or T2 */
+#define MINDAVEHU_DIRTY_UNCACHED 8   /* a dirty address without its block */
 #define MINDAVEHU_COUNTER_FULL 9     /* a counter above 2 to the power 63 */
 #define MINDAVEHU_BAD_COUNT 10       /* a list of no address, or of more than 64 */
-#define MINDAVEHU_ARC_OUTSIDE 11     /* a D-ARC box: B, P or C outside its set, or 2 x C + X above 1024 */
 #define MINDAVEHU_BAD_LIMIT 12       /* the limit t is not 1 to m */
 #define MINDAVEHU_TOO_DIRTY 13       /* more than t addresses are dirty */
 #define MINDAVEHU_NO_ROOM 14         /* the area is too short for header, body and fill */
@@ -354,7 +351,6 @@ static inline const char *mindavehu_refusal_text(uint32_t refusal)
     case MINDAVEHU_DIRTY_UNCACHED: return "a dirty address is without its block";
     case MINDAVEHU_COUNTER_FULL: return "a counter is above 2 to the power 63";
     case MINDAVEHU_BAD_COUNT: return "the list has no address, or more than 64";
-    case MINDAVEHU_ARC_OUTSIDE: return "B, P or C is outside its set, or 2 x C + X is above 1024";
     case MINDAVEHU_BAD_LIMIT: return "the limit t is not 1 to m";
     case MINDAVEHU_TOO_DIRTY: return "more than t addresses are dirty";
     case MINDAVEHU_NO_ROOM: return "the area is too short for the image";
@@ -502,19 +498,17 @@ uint32_t mindavehu_save(uint8_t *state, size_t state_length,
                         uint8_t *area, size_t area_length,
                         uint8_t *answer, size_t answer_length);
 
-/* Gives back the box that is saved in the area, of either kind: B, P, m, d, n, the label and t in the state, and both tables, which may hold any bytes before;
- * of a D-ARC box also p, the sizes and the lists. The counters in the state stay as they are. The area's first 64 bytes become zeros, so that an image is
- * found once; nothing else is touched.
+/* Gives back the box that is saved in the area: B, P, m, d, n, the label and t in the state, and both tables, which may hold any bytes before. The counters in
+ * the state stay as they are. The area's first 64 bytes become zeros, so that an image is found once; nothing else is touched.
  * Promised only where the save was the last call on its box, and disk and flash are as that save left them: neither is lent, so nothing of this can be
  * checked. On a disk and a flash of another time the box would give blocks of another time.
- * For a D-LRU box the state has 144 bytes and `lists` length 0, where its pointer is not NULL; for a D-ARC box the state has 192 bytes (mindavehu_arc.h) and
- * `lists` m x 4. A state of 144 bytes with lists, of 192 without, or of another length: 2 before all else, and nothing is changed.
+ * `lists` has length 0; its pointer is not NULL.
  * Refused with 15 if the area has fewer than 64 bytes or does not start with the header of an image of version 1; then with 14 if it is too short for the
- * length in that header; then with 16 if the body starts with a number above 1, has another length than its numbers say, or is of a box that would be
- * refused with 1, 11, 12, 6, 7, 8 or 13 (the bytes behind the body may be any); then with 2 if the tables are not m x 40 and d x 40 bytes, or the lists not 0,
- * of a D-ARC box m x 4. So a state of one kind never gets a box of the other.
- * These refusals write zeros for B, P, m, d, n, the label and t, of a state of 192 bytes also p and the sizes, and keep all else, the header too: after a 2
- * the caller may lend other tables. */
+ * length in that header; then with 16 if the body starts with a number above 1, has another length than its m and d say, or is of a box that would be
+ * refused with 1, 12, 6, 7, 8 or 13 (the bytes behind the body may be any); then with 2 if the tables are not m x 40 and d x 40 bytes, or the lists not 0.
+ * A body that starts with 1 is of a D-ARC box, which this library does not run: 16 if it is unsound, else 2, since such a box has lists. (Lend none: with
+ * lists of its length it is given back, and the numbers in the state, C and X for m and d, do not fit its tables.)
+ * A refused restore writes zeros for B, P, m, d, n, the label and t, and keeps all else, the header too: after a 2 the caller may lend other tables. */
 uint32_t mindavehu_restore(uint8_t *state, size_t state_length,
                            uint8_t *area, size_t area_length,
                            uint8_t *addresses, size_t addresses_length,

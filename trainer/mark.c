@@ -24,7 +24,7 @@
 /* The sums come after every call, and a line without a number where it stands. */
 #define SUMS UINT64_MAX
 
-/* The lines below a line of the key, without their four spaces: the reasons, and the state as the last of them, which of a D-ARC box is two lines. */
+/* The lines below a line of the key, without their four spaces: the reasons, and the state as the last of them. */
 static char **reasons;
 static size_t reason_count;
 
@@ -148,17 +148,9 @@ static void mark_rest(FILE *answers)
     }
 }
 
-/* Keeps a line below the key's, without its four spaces. The lists of a D-ARC box, which stand below its tables, are kept with them as one state. The first
- * line is no such line: it begins with the line of the list. */
+/* Keeps a line below the key's, without its four spaces. */
 static void keep(const char *text)
 {
-    static const char between[] = "\n                  ";
-    if (reason_count && strncmp(text, "T1 ", 3) == 0) {
-        char **tables = &reasons[reason_count - 1];
-        *tables = resized(*tables, strlen(*tables) + strlen(between) + strlen(text) + 1);
-        strcat(strcat(*tables, between), text);
-        return;
-    }
     reasons = resized(reasons, (reason_count + 1) * sizeof *reasons);
     reasons[reason_count] = resized(NULL, strlen(text) + 1);
     strcpy(reasons[reason_count++], text);

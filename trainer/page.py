@@ -1,7 +1,7 @@
 #!/usr/bin/env python3
-"""Makes one HTML page of a list: for each line what the cache did and why, and a picture of both tables, flash and disk, of a D-ARC box of its lists and p too.
-Reads the output of `states --full --explain` from standard input and writes the page to standard output. The page has no script and needs no other file. An
-argument gives the page's title.
+"""Makes one HTML page of a list: for each line what the cache did and why, and a picture of both tables, flash and disk. Reads the output of
+`states --full --explain` from standard input and writes the page to standard output. The page has no script and needs no other file. An argument gives
+the page's title.
 A page has at most 5,000,000 bytes: of a longer list it shows the first lines and the sums, and says so, on standard error too.
 The page is in UTF-8 whatever the locale is. The exit status is 1 where it cannot be written, and a message says why."""
 import html
@@ -41,14 +41,9 @@ h2 code {{ background: #eee; padding: 0 0.3em; border-radius: 4px; }}
 <body>
 <h1>{title}</h1>
 <p class="key">{box}<br>
-{lists}Equal contents have one colour. A red frame and <b>*</b>: a dirty address, flash is newer than disk there. A dashed cell: a free row or slot.
+Equal contents have one colour. A red frame and <b>*</b>: a dirty address, flash is newer than disk there. A dashed cell: a free row or slot.
 A hatched cell with a dotted frame: an address without its block, or a block without an address. A black label: changed by this line.</p>
 """
-
-LISTS = """T1 has the addresses that were used once, T2 those that were used again; each has its block. B1 and B2 have addresses that left T1 and T2, B3
-those that left B1 and B2; they may be without their blocks. p is the size that T1 is to have.<br>
-"""
-TITLES = {"T1": "used once", "T2": "used again", "B1": "left T1", "B2": "left T2", "B3": "left B1 or B2"}
 
 WORDS = {
     "hit": "the address is held and its block is in flash",
@@ -65,24 +60,15 @@ REFUSALS = {
     "3": "there is no such address",
     "4": "the line is not of the form",
     "5": "the box is more than a replay takes",
-    "11": "B, P, C or 2 × C + X is outside its set",
 }
-
-
-def has_lists(lines):
-    """Whether the last lines after an answer are of a D-ARC box, which has its lists behind its tables."""
-    return len(lines) > 4 and lines[-4].startswith("T1 ")
 
 
 class State:
     """A box as the last lines after an answer give it."""
 
     def __init__(self, lines=()):
-        self.held, self.rows, self.lists, self.p = [], [], {}, None
-        self.slots, self.flash, self.disk = (line.split()[1:] for line in lines[-3:]) if lines else ([], [], [])
-        if has_lists(lines):
-            *lists, p = (part.split(" ") for part in lines[1].split("; "))
-            self.lists, self.p = {name: [] if names == ["-"] else names for name, *names in lists}, p[1]
+        self.held, self.rows = [], []
+        self.slots, self.flash, self.disk = (line.split()[1:] for line in lines[1:]) if lines else ([], [], [])
         if lines:
             held, _, blocks = lines[0].partition("; blocks ")
             self.held = [] if held == "none" else [part.split(":") for part in held.split(" ")]
@@ -94,25 +80,22 @@ class State:
 
 class Step:
     """A line of the replay's output, the line of the list that it answers, and the lines after it: what was done and why, then, where there is
-    a box, four lines of its state, or five of a D-ARC box."""
+    a box, four lines of its state."""
 
     def __init__(self, asked, answer):
         self.asked, self.answer, self.lines = asked, answer, []
 
     def why(self):
         """The reasons; the first stands behind the line of the list, which the page has already."""
-        reasons = self.lines[:-self.state_lines()] if self.asked is not None else self.lines if self.answer and self.answer.startswith("0 ") else []
+        reasons = self.lines[:-4] if self.asked is not None else self.lines if self.answer and self.answer.startswith("0 ") else []
         return [line.removeprefix(f"{self.asked}: ") for line in reasons]
 
-    def state_lines(self):
-        return 4 + has_lists(self.lines)
-
     def state(self):
-        return State(self.lines[-self.state_lines():] if len(self.lines) >= 4 else ())
+        return State(self.lines[-4:] if len(self.lines) >= 4 else ())
 
 
 def read(lines):
-    """The words of line 1, and the steps: the first has the state before the first call."""
+    """The box's numbers, and the steps: the first has the state before the first call."""
     box, steps = None, []
     for line in lines:
         text = line.rstrip("\n")
@@ -122,8 +105,8 @@ def read(lines):
             steps.append(Step(steps[-1].lines.pop().removeprefix("asked ") if has_line else None, text))
         elif steps:
             steps[-1].lines.append(text[4:])
-        elif text.startswith(("    box ", "    arc ")):
-            box = text.split()
+        elif text.startswith("    box "):
+            box = text.split()[1:]
             steps.append(Step(None, None))
         else:
             sys.exit(f"page.py: this is not the output of `states --full --explain`: {text}")
@@ -145,34 +128,20 @@ def part(title, cells):
     return f'<div class="part"><h3>{title}</h3><div class="cells">{"".join(cells)}</div></div>'
 
 
-def held(now, address, content, changed):
-    """The cell of a held address."""
-    classes = ["dirty"] if content.endswith("*") else []
-    classes += ["without"] if content.rstrip("*") not in now.rows else []
-    classes += ["changed"] if changed else []
-    return cell(f"address {address}", content, classes)
-
-
 def addresses(now, before, m):
-    cells = [held(now, *row, row not in before.held) for row in now.held]
+    old = [tuple(row) for row in before.held]
+    cells = []
+    for row in now.held:
+        address, content = row
+        classes = ["dirty"] if content.endswith("*") else []
+        classes += ["without"] if content.rstrip("*") not in now.rows else []
+        classes += ["changed"] if tuple(row) not in old else []
+        cells.append(cell(f"address {address}", content, classes))
     free = m - len(now.held)
     shown = min(free, 8)
     cells += [cell("free", "–", ["free"], False)] * shown
     cells += [f"and {free - shown} more free"] if free > shown else []
     return part("Address table, oldest use first", cells)
-
-
-def lists(now, before):
-    """The lists of a D-ARC box and p; of a D-LRU box nothing."""
-    contents = dict(now.held)
-    parts = []
-    for name, names in now.lists.items():
-        cells = [held(now, a, contents[a], a not in before.lists[name]) for a in names] or [cell("empty", "–", ["free"], False)]
-        parts.append(part(f"{name}: {TITLES[name]}", cells))
-    if parts:
-        parts.append(part("p", [cell("T1 is to have", now.p, ["changed"] if now.p != before.p else [], False)]))
-        parts = [f'<div class="parts" style="margin-bottom: 0.6em">{"".join(parts)}</div>']
-    return "".join(parts)
 
 
 def blocks(now, before):
@@ -234,8 +203,7 @@ def why(step):
 
 def section(step, before, m):
     if step.answer is None:
-        more = " The lists are empty." if step.state().lists else ""
-        title, text = "At the start", f"The box is fresh: no address is held and every block row is free.{more}"
+        title, text = "At the start", "The box is fresh: no address is held and every block row is free."
     elif step.answer.startswith("reads"):
         return f'<section><h2>The sums</h2><p class="said sums">{said(step)}</p></section>\n'
     else:
@@ -246,20 +214,7 @@ def section(step, before, m):
     if not now.rows:
         return f"<section>{head}</section>\n"
     parts = [addresses(now, before, m), blocks(now, before), flash(now, before), disk(now, before)]
-    return f'<section>{head}{lists(now, before)}<div class="parts">{"".join(parts)}</div></section>\n'
-
-
-def told(box):
-    """Line 1 in words, and the most addresses held."""
-    if box is None:
-        return "The box line is refused.", 0
-    kind, size, places, *numbers = box
-    first, second = map(int, numbers)
-    text = f"Blocks of {size} bytes, {places} disk blocks, at most "
-    if kind == "box":
-        return f"{text}{first} addresses held, {second} cached blocks.", first
-    m = 2 * first + second
-    return f"A D-ARC box. {text}{m} addresses held, {first} cached blocks (C), {second} extra addresses (X).", m
+    return f'<section>{head}<div class="parts">{"".join(parts)}</div></section>\n'
 
 
 def put(text):
@@ -276,8 +231,9 @@ def main():
     if not steps:
         sys.exit("page.py: standard input is empty; it takes the output of `states --full --explain`")
     title = html.escape(sys.argv[1] if len(sys.argv) > 1 else "A list of requests, line by line")
-    numbers, m = told(box)
-    out = [HEAD.format(title=title, box=numbers, lists=LISTS if box and box[0] == "arc" else "")]
+    numbers = "The box line is refused." if box is None else "Blocks of {} bytes, {} disk blocks, at most {} addresses held, {} cached blocks.".format(*box)
+    m = int(box[2]) if box else 0
+    out = [HEAD.format(title=title, box=numbers)]
     # What comes after the last picture has room in any case: the sums, and how many lines are left out.
     last = steps[-1]
     room = MOST_BYTES - len(out[0].encode()) - len(section(last, last.state(), m).encode()) - 1_000

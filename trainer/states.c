@@ -9,14 +9,7 @@
  * as `-`, then the contents of the used ones, oldest use first. A content is the number of the byte that fills its block, in decimal.
  * The mark `*` after a content says that the address is dirty: its block is newer in flash than on disk.
  *
- * Line 1 may be `arc B P C X` in place of `box B P m d`: the box is a D-ARC box then, with C cached blocks, X extra addresses and the limit 2 x C + X. A line
- * is added behind each state, with its lists, oldest first (`-` where one is empty), and p. The proved replay refuses such a list with 4.
- *
- *     3 R 3 miss 1 0
- *         1:1 2:2 3:3; blocks 1 3
- *         T1 3; T2 1; B1 2; B2 -; B3 -; p 0
- *
- * With --full, lines for a picture are added: line 1 and the first state before the first call, `asked` with the text of each later line
+ * With --full, lines for a picture are added: `box B P m d` and the first state before the first call, `asked` with the text of each later line
  * of the list before its answer, and after each state
  *     slots   the flash slot of each row of the block table, in the order of the rows
  *     flash   the first byte of each slot
@@ -47,7 +40,7 @@
  *
  * With --warm LINE, the number of a request from 1 on, the box is shut down cleanly after that request and started again: it is saved into an area, all but
  * disk, flash, area and counters is forgotten, and it is restored. One line is added behind the state of the request: how many addresses were dirty before,
- * how many bytes the area has, and the restored state, of a D-ARC box with its lists. Where the list has no such request, that is said at the end.
+ * how many bytes the area has, and the restored state. Where the list has no such request, that is said at the end.
  *
  *     2 B 3 new 1 0
  *         1:1 3:10*; blocks - - 1 10
@@ -70,17 +63,16 @@
  *         other addresses 1, other contents 1: hit
  *
  * `-` stands where the address, or the content, was not read before. With --counts CONTENTS (decimals with commas between them) the first blocks of the
- * disk have these contents. The list must be one of reads, none refused, and of a D-LRU box.
+ * disk have these contents. The list must be one of reads, none refused.
  *
  * Exit status: 0 when the list was read to its end, refusals included; 1 when reading or writing failed, where the two ways differ, where what is counted
- * and the engine differ, where a list that is counted has a line that is not a served read, where the list ends before the request of --warm or the box
- * could not be shut down and started again, or where the option does not take a list of a D-ARC box; 2 for an unknown option, or words that are not of the
- * form. */
+ * and the engine differ, where a list that is counted has a line that is not a served read, or where the list ends before the request of --warm or the box
+ * could not be shut down and started again; 2 for an unknown option, or words that are not of the form. */
 #include <errno.h>
 #include <stdio.h>
 #include <stdlib.h>
 #include <string.h>
-#include "mindavehu_arc.h"
+#include "mindavehu.h"
 
 /* What document 01 allows in a replay: P at most 256, P x B and d x B at most 16,384, lines of at most 32 bytes. */
 #define MOST_BYTES 16384
@@ -96,22 +88,14 @@
 
 #define FINGERPRINT 32
 
-/* The lists of a D-ARC box, in the order of their bytes. */
-enum { T1, T2, B1, B2, B3, LISTS };
-static const char *const list_names[LISTS] = {"T1", "T2", "B1", "B2", "B3"};
-static const size_t list_sizes[LISTS] = {MINDAVEHU_ARC_T1, MINDAVEHU_ARC_T2, MINDAVEHU_ARC_B1, MINDAVEHU_ARC_B2, MINDAVEHU_ARC_B3};
-
 /* More addresses than the engine takes in one call, so that its refusal can be seen. */
 #define MOST_FOLDER 128
 
-static uint8_t state[MINDAVEHU_ARC_STATE], answer[MINDAVEHU_ANSWER];
+static uint8_t state[MINDAVEHU_STATE], answer[MINDAVEHU_ANSWER];
 static uint8_t disk[MOST_BYTES], flash[MOST_BYTES], block[MOST_B];
-static uint8_t addresses[MOST_M * MINDAVEHU_ROW], blocks[MOST_D * MINDAVEHU_ROW], lists[MINDAVEHU_ARC_LISTS_LENGTH(MOST_M)];
+static uint8_t addresses[MOST_M * MINDAVEHU_ROW], blocks[MOST_D * MINDAVEHU_ROW];
 static size_t B, P, m, d;
 static int full, parts, seats, explains, counting;
-
-/* Whether the box is a D-ARC box. */
-static int arc;
 
 /* The limit, where one is given. */
 static int has_limit;
@@ -119,7 +103,7 @@ static uint32_t limit;
 
 /* The request after which the box is shut down and started again, 0 where none is given; the area; whether the list ends before it, and its requests. */
 static uint32_t warm;
-static uint8_t area[MINDAVEHU_ARC_AREA_LENGTH(MOST_D, MOST_M - 2 * MOST_D)];
+static uint8_t area[MINDAVEHU_AREA_LENGTH(MOST_M, MOST_D)];
 static int too_short;
 static uint64_t requests;
 
@@ -142,8 +126,7 @@ static uint8_t buffer[MOST_FOLDER * MOST_B], many[MINDAVEHU_MANY_ANSWER];
 
 /* A box, and the blocks read of a folder. */
 struct left {
-    uint8_t state[sizeof state], disk[sizeof disk], flash[sizeof flash], addresses[sizeof addresses], blocks[sizeof blocks], lists[sizeof lists];
-    uint8_t buffer[sizeof buffer];
+    uint8_t state[sizeof state], disk[sizeof disk], flash[sizeof flash], addresses[sizeof addresses], blocks[sizeof blocks], buffer[sizeof buffer];
 };
 
 /* A line of the list: its bytes, as far as there is room for them, and its whole length. */
@@ -162,14 +145,9 @@ struct call {
 
 #define TABLES addresses, m *MINDAVEHU_ROW, blocks, d *MINDAVEHU_ROW
 #define MEMORY disk, P *B, flash, d *B, TABLES
-#define NAMES lists, MINDAVEHU_ARC_LISTS_LENGTH(m)
-#define STATE state, arc ? MINDAVEHU_ARC_STATE : MINDAVEHU_STATE
+#define STATE state, sizeof state
 #define LABEL label, sizeof label
 #define ANSWER answer, sizeof answer
-
-/* The call of this name on the box, of whichever kind it is: what stands before the memory and, after it, what stands behind it. */
-#define WITH(...) STATE, __VA_ARGS__
-#define ON_BOX(name, first, ...) (arc ? mindavehu_arc_##name(first, MEMORY, NAMES, __VA_ARGS__) : mindavehu_##name(first, MEMORY, __VA_ARGS__))
 
 /* ---- Counting, from the list alone. */
 
@@ -280,12 +258,11 @@ static int take_hexadecimal(const struct line *line, size_t *at, uint32_t *value
     return 1;
 }
 
-/* Whether the line is `box B P m d` or `arc B P C X`. */
+/* Whether the line is `box B P m d`. */
 static int is_box(const struct line *line, uint32_t numbers[4])
 {
     size_t at = 0;
-    arc = take_text(line, &at, "arc");
-    if (line->length > MOST_LINE || !(arc || take_text(line, &at, "box")))
+    if (line->length > MOST_LINE || !take_text(line, &at, "box"))
         return 0;
     for (int k = 0; k < 4; k++)
         if (!take_text(line, &at, " ") || !take_decimal(line, &at, &numbers[k]))
@@ -320,17 +297,16 @@ static uint32_t open_box(const uint32_t numbers[4])
     static const size_t fields[4] = {MINDAVEHU_B, MINDAVEHU_P, MINDAVEHU_M, MINDAVEHU_D};
     for (int k = 0; k < 4; k++)
         mindavehu_put(state, fields[k], numbers[k]);
-    B = numbers[0], P = numbers[1];
-    m = arc ? MINDAVEHU_ARC_M(numbers[2], numbers[3]) : numbers[2], d = numbers[arc ? 2 : 3];
+    B = numbers[0], P = numbers[1], m = numbers[2], d = numbers[3];
     mindavehu_put(state, MINDAVEHU_T, has_limit ? limit : m);
-    int fits = P <= MOST_P && P * B <= MOST_BYTES && d * B <= MOST_BYTES && m <= MOST_M && d <= MOST_D;
-    /* More than there is memory for: opened with no memory at all, the engine tells numbers outside their sets from a length that isn't right. */
-    if (!fits)
-        P = m = d = 0;
-    for (size_t k = 0; k < P; k++)
-        memset(disk + k * B, (int)first_content(k), B);
-    uint32_t refusal = arc ? mindavehu_arc_open(STATE, LABEL, MEMORY, NAMES) : mindavehu_open(STATE, LABEL, MEMORY);
-    return fits || refusal == (arc ? MINDAVEHU_ARC_OUTSIDE : MINDAVEHU_OUTSIDE) ? refusal : TOO_LARGE;
+    if (P <= MOST_P && P * B <= MOST_BYTES && d * B <= MOST_BYTES && m <= MOST_M && d <= MOST_D) {
+        for (size_t k = 0; k < P; k++)
+            memset(disk + k * B, (int)first_content(k), B);
+        return mindavehu_open(STATE, LABEL, MEMORY);
+    }
+    /* More than there is memory for. Opened with no memory at all, the engine tells numbers outside their sets from a length that isn't right. */
+    uint32_t refusal = mindavehu_open(STATE, LABEL, disk, 0, flash, 0, addresses, 0, blocks, 0);
+    return refusal == MINDAVEHU_OUTSIDE ? refusal : TOO_LARGE;
 }
 
 static uint32_t carry_out(const struct call *call)
@@ -340,17 +316,17 @@ static uint32_t carry_out(const struct call *call)
     memset(block, (int)call->content, B);
     switch (call->letter) {
     case 'R':
-        return ON_BOX(read, WITH(a), block, B, ANSWER);
+        return mindavehu_read(STATE, a, MEMORY, block, B, ANSWER);
     case 'T':
-        return ON_BOX(write_through, WITH(a, seat), block, B, ANSWER);
+        return mindavehu_write_through(STATE, a, seat, MEMORY, block, B, ANSWER);
     case 'B':
-        return ON_BOX(write_back, WITH(a, seat), block, B, ANSWER);
+        return mindavehu_write_back(STATE, a, seat, MEMORY, block, B, ANSWER);
     case 'I':
-        return ON_BOX(write_invalidate, WITH(a, seat), block, B, ANSWER);
+        return mindavehu_write_invalidate(STATE, a, seat, MEMORY, block, B, ANSWER);
     case 'L':
-        return ON_BOX(look, WITH(a), ANSWER);
+        return mindavehu_look(STATE, a, MEMORY, ANSWER);
     default:
-        return call->has_address ? ON_BOX(flush_some, WITH(a), ANSWER) : ON_BOX(flush, STATE, ANSWER);
+        return call->has_address ? mindavehu_flush_some(STATE, a, MEMORY, ANSWER) : mindavehu_flush(STATE, MEMORY, ANSWER);
     }
 }
 
@@ -381,8 +357,8 @@ static void print_reports(void)
 {
     static uint8_t manager[MINDAVEHU_MANAGER_REPORT_LENGTH(MOST_M)], desk[MINDAVEHU_DESK_REPORT_LENGTH(MOST_M)];
     size_t held = mindavehu_get(state, MINDAVEHU_N);
-    if (ON_BOX(manager_report, STATE, manager, MINDAVEHU_MANAGER_REPORT_LENGTH(m)) != MINDAVEHU_SERVED
-        || ON_BOX(desk_report, STATE, desk, MINDAVEHU_DESK_REPORT_LENGTH(m)) != MINDAVEHU_SERVED)
+    if (mindavehu_manager_report(STATE, MEMORY, manager, MINDAVEHU_MANAGER_REPORT_LENGTH(m)) != MINDAVEHU_SERVED
+        || mindavehu_desk_report(STATE, MEMORY, desk, MINDAVEHU_DESK_REPORT_LENGTH(m)) != MINDAVEHU_SERVED)
         abort();
     printf("    manager:%s", held ? "" : " none");
     for (const uint8_t *part = manager; part < manager + held * MINDAVEHU_MANAGER_PART; part += MINDAVEHU_MANAGER_PART)
@@ -412,22 +388,6 @@ static void print_tables(void)
     printf("\n");
 }
 
-static size_t size_of(int list) { return mindavehu_get(state, list_sizes[list]); }
-
-/* The lists of a D-ARC box, which lie end to end, and p. */
-static void print_lists(void)
-{
-    const uint8_t *name = lists;
-    printf("    ");
-    for (int k = 0; k < LISTS; k++) {
-        printf("%s%s", list_names[k], size_of(k) ? "" : " -");
-        for (size_t left = size_of(k); left > 0; left--, name += MINDAVEHU_ARC_NAME)
-            printf(" %u", number_at(name));
-        printf("; ");
-    }
-    printf("p %llu\n", (unsigned long long)mindavehu_get(state, MINDAVEHU_ARC_TARGET));
-}
-
 static void print_state(void)
 {
     if (seats) {
@@ -436,8 +396,6 @@ static void print_state(void)
     }
     printf("    ");
     print_tables();
-    if (arc)
-        print_lists();
     if (!full)
         return;
     printf("    slots");
@@ -484,28 +442,7 @@ struct seen {
     uint32_t address[MOST_M];
     unsigned content[MOST_M], cached[MOST_D];
     int dirty[MOST_M], in_flash[256];
-    /* Of a D-ARC box, the list that each address is in, and p. */
-    int list[MOST_M];
-    unsigned long long p;
 };
-
-/* The row of an address, or the number of rows where it is not held. */
-static size_t row_with(const struct seen *seen, uint32_t address)
-{
-    size_t k = 0;
-    while (k < seen->held && seen->address[k] != address)
-        k++;
-    return k;
-}
-
-static void see_lists(struct seen *seen)
-{
-    const uint8_t *name = lists;
-    for (int k = 0; k < LISTS; k++)
-        for (size_t left = size_of(k); left > 0; left--, name += MINDAVEHU_ARC_NAME)
-            seen->list[row_with(seen, number_at(name))] = k;
-    seen->p = mindavehu_get(state, MINDAVEHU_ARC_TARGET);
-}
 
 static void see(struct seen *seen)
 {
@@ -522,8 +459,15 @@ static void see(struct seen *seen)
             seen->cached[seen->used] = flash[slot_of(block_row(k)) * B];
             seen->in_flash[seen->cached[seen->used++]] = 1;
         }
-    if (arc)
-        see_lists(seen);
+}
+
+/* The row of an address, or the number of rows where it is not held. */
+static size_t row_with(const struct seen *seen, uint32_t address)
+{
+    size_t k = 0;
+    while (k < seen->held && seen->address[k] != address)
+        k++;
+    return k;
 }
 
 static int has_address(const struct seen *seen, unsigned content)
@@ -571,52 +515,7 @@ static void explain_request(const struct seen *before, const struct seen *after,
     }
 }
 
-/* The end of what is said of a block that leaves flash in a request of address `a`: one copy for each other dirty address that has it and stays. */
-static void explain_copies(const struct seen *before, const struct seen *after, uint32_t a, unsigned victim)
-{
-    for (size_t k = 0; k < before->held; k++)
-        if (before->content[k] == victim && before->dirty[k] && before->address[k] != a && row_with(after, before->address[k]) < after->held)
-            printf("; address %u is dirty, so content %u is copied to the disk first", before->address[k], victim);
-    printf("\n");
-}
-
-/* The list of the requested address in a D-ARC box, before and now, and p. */
-static void explain_own_list(const struct seen *before, const struct seen *after, uint32_t a)
-{
-    size_t row = row_with(before, a);
-    int from = row < before->held ? before->list[row] : LISTS;
-    printf("    address %u was in %s", a, from < LISTS ? list_names[from] : "no list");
-    if (after->p != before->p)
-        printf(", which %s p from %llu to %llu", from == B1 ? "raises" : "lowers", before->p, after->p);
-    else if (from == B1 || from == B2)
-        printf(", and p stays %llu, the %s that it can be", after->p, from == B1 ? "most" : "least");
-    printf(": it becomes the newest of %s\n", list_names[after->list[row_with(after, a)]]);
-}
-
-/* What a request of address `a` whose content is `content` did to the lists of a D-ARC box, and the block that left flash for it. */
-static void explain_lists(const struct seen *before, const struct seen *after, uint32_t a, unsigned content)
-{
-    explain_own_list(before, after, a);
-    for (size_t k = 0; k < before->held; k++) {
-        size_t row = row_with(after, before->address[k]);
-        if (before->address[k] == a || (row < after->held && after->list[row] == before->list[k]))
-            continue;
-        printf("    address %u, the oldest of %s, ", before->address[k], list_names[before->list[k]]);
-        if (row < after->held)
-            printf("goes to %s\n", list_names[after->list[row]]);
-        else
-            printf(before->dirty[k] ? "is no longer held; it is dirty, so content %u is copied to the disk\n" : "is no longer held\n", before->content[k]);
-    }
-    for (size_t k = 0; k < before->used; k++)
-        if (!after->in_flash[before->cached[k]]) {
-            printf("    flash is full: content %u, the oldest that no address of T1 and T2 has, leaves", before->cached[k]);
-            explain_copies(before, after, a, before->cached[k]);
-        }
-    if (!before->in_flash[content])
-        printf("    content %u is stored in flash\n", content);
-}
-
-/* Steps 1, 3 and 4 of a request of address `a` whose content is `content`, in a D-LRU box. */
+/* Steps 1, 3 and 4 of a request of address `a` whose content is `content`. */
 static void explain_steps(const struct seen *before, const struct seen *after, uint32_t a, unsigned content)
 {
     size_t row = row_with(before, a);
@@ -644,7 +543,10 @@ static void explain_steps(const struct seen *before, const struct seen *after, u
         printf(has_address(after, victim) ? "    flash is full and each of its blocks has an address: content %u, the oldest, leaves"
                                           : "    flash is full: content %u, the oldest that no address has, leaves",
                victim);
-        explain_copies(before, after, a, victim);
+        for (size_t i = 0; i < before->held; i++)
+            if (before->content[i] == victim && before->dirty[i] && before->address[i] != a && !(leaves && i == 0))
+                printf("; address %u is dirty, so content %u is copied to the disk first", before->address[i], victim);
+        printf("\n");
     }
     printf("    content %u is stored in flash\n", content);
 }
@@ -671,7 +573,7 @@ static void explain_call(const struct seen *before, const struct call *call)
     }
     explain_request(before, &after, call, content);
     if (strchr("RTB", call->letter))
-        (arc ? explain_lists : explain_steps)(before, &after, call->address, content);
+        explain_steps(before, &after, call->address, content);
     else if (call->letter == 'I' && row < before->held && before->in_flash[before->content[row]] && !has_address(&after, before->content[row]))
         printf("    no address has content %u now: its row becomes free\n", before->content[row]);
 }
@@ -721,7 +623,7 @@ static const char *bytes_rule(const struct line *line, int first)
     if (line->length > MOST_LINE)
         return "32 bytes at most";
     if (line->length == 0)
-        return first ? "line 1 is box B P m d, or arc B P C X, and this one is empty" : "an empty line is no request";
+        return first ? "line 1 is box B P m d, and this one is empty" : "an empty line is no request";
     if (memchr(line->bytes, '\t', known))
         return "a tab: words have single spaces between them";
     for (size_t k = 0; k < known; k++)
@@ -735,20 +637,6 @@ static const char *bytes_rule(const struct line *line, int first)
     return NULL;
 }
 
-/* The rule that the words of line 1 break. */
-static const char *box_rule(const struct word *words, size_t count)
-{
-    const char *rule = NULL;
-    int of_arc = is_word(&words[0], "arc");
-    if (!of_arc && !is_word(&words[0], "box"))
-        return "line 1 begins with the word box, or arc for a D-ARC box, in lower case";
-    if (count != 5)
-        return of_arc ? "line 1 has four numbers after the word arc: B, P, C and X" : "line 1 has four numbers after the word box: B, P, m and d";
-    for (size_t k = 1; k < 5 && !rule; k++)
-        rule = number_rule(&words[k]);
-    return rule;
-}
-
 /* The rule of the form that a line breaks, which is not of the form. */
 static const char *form_rule(const struct line *line, int first)
 {
@@ -757,9 +645,16 @@ static const char *form_rule(const struct line *line, int first)
     if (rule)
         return rule;
     size_t count = words_of(line, words);
-    if (first)
-        return box_rule(words, count);
-    if (is_word(&words[0], "box") || is_word(&words[0], "arc"))
+    if (first) {
+        if (!is_word(&words[0], "box"))
+            return "line 1 begins with the word box, in lower case";
+        if (count != 5)
+            return "line 1 has four numbers after the word box: B, P, m and d";
+        for (size_t k = 1; k < 5 && !rule; k++)
+            rule = number_rule(&words[k]);
+        return rule;
+    }
+    if (is_word(&words[0], "box"))
         return "a box line is line 1 only";
     if (words[0].length == 1 && strchr("rlftbi", words[0].text[0]))
         return "the letter of a request is in upper case";
@@ -776,35 +671,28 @@ static const char *form_rule(const struct line *line, int first)
     return rule ? rule : "a content is two upper-case hexadecimal digits";
 }
 
-/* Of numbers that are more than a replay takes: the first that is. */
-static void explain_size(const uint32_t numbers[4])
+/* Of numbers that are outside their sets, or more than a replay takes: the first that is. */
+static void explain_numbers(const uint32_t numbers[4], uint32_t refusal)
 {
-    uint32_t cached = numbers[arc ? 2 : 3];
-    if (numbers[1] > MOST_P)
-        printf("P is %u: a replay takes %d at most\n", numbers[1], MOST_P);
-    else if (numbers[1] * numbers[0] > MOST_BYTES)
-        printf("P x B is %u: a replay takes %d at most\n", numbers[1] * numbers[0], MOST_BYTES);
-    else
-        printf("%s x B is %u: a replay takes %d at most\n", arc ? "C" : "d", cached * numbers[0], MOST_BYTES);
-}
-
-/* Of numbers that are outside their sets: the first that is. Of a D-ARC box that may be 2 x C + X. */
-static void explain_numbers(const uint32_t numbers[4])
-{
-    const char *const names[4] = {"B", "P", arc ? "C" : "m", "d"};
-    const uint32_t most[4] = {MOST_B, 65536, arc ? MOST_D : MOST_M, MOST_D};
+    static const char *const names[4] = {"B", "P", "m", "d"};
+    static const uint32_t most[4] = {MOST_B, 65536, MOST_M, MOST_D};
     uint32_t b = numbers[0];
-    if (b < 64 || b > MOST_B || (b & (b - 1))) {
+    if (refusal == TOO_LARGE) {
+        if (numbers[1] > MOST_P)
+            printf("P is %u: a replay takes %d at most\n", numbers[1], MOST_P);
+        else if (numbers[1] * b > MOST_BYTES)
+            printf("P x B is %u: a replay takes %d at most\n", numbers[1] * b, MOST_BYTES);
+        else
+            printf("d x B is %u: a replay takes %d at most\n", numbers[3] * b, MOST_BYTES);
+    } else if (b < 64 || b > MOST_B || (b & (b - 1))) {
         printf("B is %u: it is 64, 128, 256, 512, 1024, 2048 or 4096\n", b);
-        return;
+    } else {
+        for (int k = 1; k < 4; k++)
+            if (numbers[k] < 1 || numbers[k] > most[k]) {
+                printf("%s is %u: it is 1 to %u\n", names[k], numbers[k], most[k]);
+                return;
+            }
     }
-    for (int k = 1; k < (arc ? 3 : 4); k++)
-        if (numbers[k] < 1 || numbers[k] > most[k]) {
-            printf("%s is %u: it is 1 to %u\n", names[k], numbers[k], most[k]);
-            return;
-        }
-    if (arc)
-        printf("2 x C + X is %u: it is %d at most\n", 2 * numbers[2] + numbers[3], MOST_M);
 }
 
 /* What is said of line 1, which was refused. */
@@ -814,7 +702,7 @@ static void explain_box(const struct line *line, const uint32_t numbers[4], uint
     if (refusal == NOT_THE_FORM)
         printf("%s\n", form_rule(line, 1));
     else
-        (refusal == TOO_LARGE ? explain_size : explain_numbers)(numbers);
+        explain_numbers(numbers, refusal);
 }
 
 static void explain_line(const struct seen *before, const struct line *line, const struct call *call, uint32_t refusal)
@@ -861,7 +749,6 @@ static void keep(struct left *left)
     memcpy(left->flash, flash, sizeof flash);
     memcpy(left->addresses, addresses, sizeof addresses);
     memcpy(left->blocks, blocks, sizeof blocks);
-    memcpy(left->lists, lists, sizeof lists);
     memcpy(left->buffer, buffer, sizeof buffer);
 }
 
@@ -872,7 +759,6 @@ static void put_back(const struct left *left)
     memcpy(flash, left->flash, sizeof flash);
     memcpy(addresses, left->addresses, sizeof addresses);
     memcpy(blocks, left->blocks, sizeof blocks);
-    memcpy(lists, left->lists, sizeof lists);
     memcpy(buffer, left->buffer, sizeof buffer);
 }
 
@@ -896,7 +782,7 @@ static void print_contents(void)
 /* Opens the folder with one call, which has this number. Gives the refusal. */
 static uint32_t with_one_call(uint64_t number)
 {
-    uint32_t refusal = ON_BOX(read_many, WITH(folder, folder_count), buffer, folder_count * B, many, sizeof many);
+    uint32_t refusal = mindavehu_read_many(STATE, folder, folder_count, MEMORY, buffer, folder_count * B, many, sizeof many);
     print_folder("one call");
     if (refusal) {
         printf("%llu refused %u\n", (unsigned long long)number, refusal);
@@ -946,13 +832,13 @@ static void open_folder(uint64_t number)
     print_counters();
     keep(&other);
     differs = memcmp(&one, &other, sizeof one) != 0;
-    printf("%s contents, tables,%s flash, disk and counters\n", differs ? "NOT the same" : "the same", arc ? " lists," : "");
+    printf("%s contents, tables, flash, disk and counters\n", differs ? "NOT the same" : "the same");
     printf("blocks fetched from disk: %llu by one call, %u read by read\n", (unsigned long long)mindavehu_get(many, MINDAVEHU_FETCHES), misses);
 }
 
 /* ---- The warm start. */
 
-/* Forgets what a service that ends forgets: the state, both tables and the lists, which get other bytes. The counters are no part of an image; the service keeps them. */
+/* Forgets what a service that ends forgets: the state and both tables, which get other bytes. The counters are no part of an image; the service keeps them. */
 static void forget(void)
 {
     static const size_t fields[4] = {MINDAVEHU_READS, MINDAVEHU_HITS, MINDAVEHU_FLASH_WRITES, MINDAVEHU_PRIMARY_WRITES};
@@ -962,7 +848,6 @@ static void forget(void)
     memset(state, 0xA5, sizeof state);
     memset(addresses, 0xA5, sizeof addresses);
     memset(blocks, 0xA5, sizeof blocks);
-    memset(lists, 0xA5, sizeof lists);
     for (int k = 0; k < 4; k++)
         mindavehu_put(state, fields[k], counters[k]);
 }
@@ -974,81 +859,27 @@ static void stop(const char *call, uint32_t refusal)
     why = "the box could not be shut down and started again";
 }
 
-/* Takes the box's numbers from the state that a restore has filled. */
-static void numbers_from_state(void)
-{
-    size_t first = mindavehu_get(state, MINDAVEHU_M), second = mindavehu_get(state, MINDAVEHU_D);
-    B = mindavehu_get(state, MINDAVEHU_B), P = mindavehu_get(state, MINDAVEHU_P);
-    m = arc ? MINDAVEHU_ARC_M(first, second) : first, d = arc ? first : second;
-}
-
 /* Shuts the box down cleanly and starts it again. */
 static void start_again(void)
 {
-    size_t length = arc ? MINDAVEHU_ARC_AREA_LENGTH(d, m - 2 * d) : MINDAVEHU_AREA_LENGTH(m, d);
-    uint32_t refusal = ON_BOX(save, STATE, area, length, ANSWER);
+    size_t length = MINDAVEHU_AREA_LENGTH(m, d);
+    uint8_t no_lists = 0;
+    uint32_t refusal = mindavehu_save(STATE, MEMORY, area, length, ANSWER);
     if (refusal) {
         stop("save", refusal);
         return;
     }
     unsigned long long dirty = mindavehu_get(answer, MINDAVEHU_ANSWER_PRIMARY);
     forget();
-    refusal = mindavehu_restore(STATE, area, length, TABLES, lists, arc ? MINDAVEHU_ARC_LISTS_LENGTH(m) : 0);
+    refusal = mindavehu_restore(STATE, area, length, TABLES, &no_lists, 0);
     if (refusal) {
         stop("restore", refusal);
         return;
     }
-    numbers_from_state();
+    B = mindavehu_get(state, MINDAVEHU_B), P = mindavehu_get(state, MINDAVEHU_P);
+    m = mindavehu_get(state, MINDAVEHU_M), d = mindavehu_get(state, MINDAVEHU_D);
     printf("    saved: %llu address%s dirty, %zu bytes; restored: ", dirty, dirty == 1 ? " was" : "es were", length);
     print_tables();
-    if (arc)
-        print_lists();
-}
-
-/* Reads line 1 and opens the box. Gives 0 where that ends the run. */
-static int open_list(void)
-{
-    struct line line;
-    uint32_t numbers[4];
-    if (!next_line(&line) && ferror(stdin))
-        return 0;
-    int is_first = is_box(&line, numbers);
-    if (is_first && arc && counting) {
-        why = "this list is of a D-ARC box; --counts and --disk are for D-LRU boxes, whose line 1 is box B P m d";
-        return 0;
-    }
-    uint32_t refusal = is_first ? open_box(numbers) : NOT_THE_FORM;
-    if (refusal) {
-        printf("0 refused %u\n", refusal);
-        if (explains)
-            explain_box(&line, numbers, refusal);
-        return 0;
-    }
-    if (full) {
-        printf("    %s %u %u %u %u\n", arc ? "arc" : "box", numbers[0], numbers[1], numbers[2], numbers[3]);
-        print_state();
-    }
-    return 1;
-}
-
-/* Ends the counting at a call that is not counted, in this line of the list. */
-static void stop_counting(uint64_t line, const struct call *call, uint32_t refusal)
-{
-    stopped = line;
-    why = call->letter == 'R' && refusal == MINDAVEHU_NO_ADDRESS ? "is a read of an address that the disk has not; counts are of reads that are served"
-                                                                 : "is no read; counts are of a list of reads alone";
-}
-
-/* What is printed behind the last of so many requests. */
-static void finish(uint64_t count)
-{
-    requests = count;
-    too_short = warm > count;
-    print_counters();
-    if (!counting)
-        print_state();
-    if (has_folder)
-        open_folder(count + 1);
 }
 
 static void replay(void)
@@ -1056,17 +887,31 @@ static void replay(void)
     static struct seen before;
     struct line line;
     struct call call;
+    uint32_t numbers[4];
     uint64_t number = 1;
-    if (!open_list())
+    if (!next_line(&line) && ferror(stdin))
         return;
+    uint32_t refusal = is_box(&line, numbers) ? open_box(numbers) : NOT_THE_FORM;
+    if (refusal) {
+        printf("0 refused %u\n", refusal);
+        if (explains)
+            explain_box(&line, numbers, refusal);
+        return;
+    }
+    if (full) {
+        printf("    box %zu %zu %zu %zu\n", B, P, m, d);
+        print_state();
+    }
     for (; next_line(&line); number++) {
         if (full)
             print_asked(&line);
         if (explains)
             see(&before);
-        uint32_t refusal = is_call(&line, &call) ? carry_out(&call) : NOT_THE_FORM;
+        refusal = is_call(&line, &call) ? carry_out(&call) : NOT_THE_FORM;
         if (counting && (refusal || call.letter != 'R')) {
-            stop_counting(number + 1, &call, refusal);
+            stopped = number + 1;
+            why = call.letter == 'R' && refusal == MINDAVEHU_NO_ADDRESS ? "is a read of an address that the disk has not; counts are of reads that are served"
+                                                                     : "is no read; counts are of a list of reads alone";
             return;
         }
         if (refusal)
@@ -1085,8 +930,15 @@ static void replay(void)
                 return;
         }
     }
-    if (!ferror(stdin))
-        finish(number - 1);
+    if (ferror(stdin))
+        return;
+    requests = number - 1;
+    too_short = warm > requests;
+    print_counters();
+    if (!counting)
+        print_state();
+    if (has_folder)
+        open_folder(number);
 }
 
 /* Takes numbers from a word of the command: decimals as in a list, with commas between them, each at most `most` and as many as there is room for. Gives 0

@@ -7,5 +7,5 @@ fn main() {
     println!("cargo:rerun-if-env-changed=BENCH_LIBS");
     println!("cargo:rerun-if-changed={libs}");
     println!("cargo:rustc-link-search=native={libs}");
-    println!("cargo:rustc-link-lib=static=mindavehu");
+    println!("cargo:rustc-link-lib=static=service");
 }

@@ -697,7 +697,7 @@ static void warm_start(void)
         free(kept_area);                                                                                                                    \
     } while (0)
 
-/* The refusals of a save, 14 after 9, and of a restore: 2, then 16, 14 and 15 before it; lists with a state of 144 bytes before all. */
+/* The refusals of a save, 14 after 9, and of a restore: 2, then 16, 14 and 15 before it. */
 static void image_refusals(void)
 {
     struct box b = make(64, 8, 3, 2), other = make(64, 8, 3, 3);
@@ -714,7 +714,7 @@ static void image_refusals(void)
     mindavehu_put(b.state, MINDAVEHU_T, 3), mindavehu_put(b.state, MINDAVEHU_READS, 0);
     EXPECT(save(&b, area) == MINDAVEHU_SERVED && filled(b.disk + 5 * 64, 64, 9));
     NO_RESTORE(&other, area, restore(&other, area), MINDAVEHU_WRONG_LENGTH);
-    KEPT(&b, restore_from(&b, area, AREA_LENGTH, 1), MINDAVEHU_WRONG_LENGTH);
+    NO_RESTORE(&b, area, restore_from(&b, area, AREA_LENGTH, 1), MINDAVEHU_WRONG_LENGTH);
     KEPT(&b, mindavehu_restore(b.state, 136, area, AREA_LENGTH, b.addresses, 120, b.blocks, 80, b.block, 0), MINDAVEHU_WRONG_LENGTH);
     area[64 + 24] = 0;
     NO_RESTORE(&other, area, restore(&other, area), MINDAVEHU_BAD_IMAGE);

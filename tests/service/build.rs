@@ -1,10 +1,10 @@
-//! Links the proved library, which `./library` puts into target/staticlib/ of the repository.
+//! Links the proved library, which `rt staticlib service` puts into target/staticlib/ of the repository.
 fn main() {
     if std::env::var_os("CARGO_FEATURE_DOUBLE").is_some() {
         return;
     }
     let archives = concat!(env!("CARGO_MANIFEST_DIR"), "/../../target/staticlib");
-    println!("cargo:rerun-if-changed={archives}/libmindavehu.a");
+    println!("cargo:rerun-if-changed={archives}/libservice.a");
     println!("cargo:rustc-link-search=native={archives}");
-    println!("cargo:rustc-link-lib=static=mindavehu");
+    println!("cargo:rustc-link-lib=static=service");
 }

@@ -2,7 +2,6 @@
 use crate::arc_checks::*;
 use crate::arc_lists::*;
 use crate::engine::*;
-use crate::image::{fits, put_image, ARC};
 use crate::layout::*;
 use crate::maps::Maps;
 use crate::number_of;
@@ -307,8 +306,14 @@ fn opened(state: &mut [u8], label: &[u8], lengths: [usize; 5], addresses: &mut [
     if label.len() != LABEL {
         return Err(2);
     }
-    fresh(state, label, addresses, blocks);
+    set_label(state, label);
+    state[FIRST_COUNTER * 8..LABEL_START].fill(0);
+    addresses.fill(0);
     lists.fill(0);
+    blocks.fill(0);
+    for (k, row) in blocks.chunks_exact_mut(ROW).enumerate() {
+        row[32..36].copy_from_slice(&(k as u32).to_le_bytes());
+    }
     Ok(())
 }
 
@@ -439,7 +444,16 @@ fn flushed(
     answer: &mut [u8],
 ) -> Result<(), u32> {
     let (sizes, index, _) = Given { state, disk, flash, addresses, blocks, lists }.checked(None, None, answer, true)?;
-    let primary_writes = clean(&sizes.tables, &index, most, disk, flash, addresses, blocks);
+    let mut primary_writes = 0;
+    for k in 0..sizes.tables.n {
+        let held = *row(addresses, k);
+        if is_dirty(&held) && primary_writes < most {
+            let place = index.find(blocks, held_fingerprint(&held)).unwrap();
+            copy(flash, slot(row(blocks, place)), disk, address(&held) as usize, sizes.tables.b);
+            addresses[k * ROW + 36] = 0;
+            primary_writes += 1;
+        }
+    }
     done(state, answer, DONE, 0, primary_writes as u64)
 }
 
@@ -453,30 +467,18 @@ pub fn flush_some(state: &mut [u8], most: usize, disk: &mut [u8], flash: &[u8], 
 }
 
 #[allow(clippy::too_many_arguments)]
-pub fn save(
-    state: &mut [u8],
-    disk: &mut [u8],
-    flash: &[u8],
-    addresses: &mut [u8],
-    blocks: &[u8],
-    lists: &[u8],
-    area: &mut [u8],
-    answer: &mut [u8],
-) -> u32 {
-    let mut saved = || {
-        let (sizes, ..) = Given { state, disk, flash, addresses, blocks, lists }.checked(None, None, answer, true)?;
-        fits(ARC, &sizes.tables, area)?;
-        flushed(state, usize::MAX, disk, flash, addresses, blocks, lists, answer)?;
-        put_image(ARC, state, [addresses, blocks, lists], area);
-        Ok(())
-    };
-    number_of(saved())
+fn looked(state: &[u8], a: u32, disk: &[u8], flash: &[u8], addresses: &[u8], blocks: &[u8], lists: &[u8], answer: &mut [u8]) -> Result<(), u32> {
+    let (sizes, index, _) = Given { state, disk, flash, addresses, blocks, lists }.checked(Some(a), None, answer, false)?;
+    let b = sizes.tables.b;
+    match held(&sizes.tables, addresses, a).and_then(|k| index.find(blocks, held_fingerprint(row(addresses, k)))) {
+        Some(place) => fill(answer, CACHE, (slot(row(blocks, place)) * b) as u64, b as u64),
+        None => fill(answer, DISK, a as u64 * b as u64, b as u64),
+    }
 }
 
 #[allow(clippy::too_many_arguments)]
 pub fn look(state: &[u8], a: u32, disk: &[u8], flash: &[u8], addresses: &[u8], blocks: &[u8], lists: &[u8], answer: &mut [u8]) -> u32 {
-    let checked = Given { state, disk, flash, addresses, blocks, lists }.checked(Some(a), None, answer, false);
-    number_of(checked.and_then(|(sizes, index, _)| answer_look(&sizes.tables, &index, a, addresses, blocks, answer)))
+    number_of(looked(state, a, disk, flash, addresses, blocks, lists, answer))
 }
 
 /// Address and dirty byte of each held row, oldest first, each with its seat where rows are of 7 bytes; zeros follow.
@@ -489,7 +491,11 @@ fn reported(given: Given, report: &mut [u8], length: usize) -> Result<(), u32> {
         return Err(2);
     }
     given.tables(&sizes, false)?;
-    fill_report(&sizes.tables, given.addresses, report, length);
+    report.fill(0);
+    for (into, row) in report.chunks_exact_mut(length).zip(rows(&given.addresses[..sizes.tables.n * ROW])) {
+        into[..4].copy_from_slice(&row[..4]);
+        into[4..].copy_from_slice(&row[36..32 + length]);
+    }
     Ok(())
 }
 

@@ -181,12 +181,6 @@ pub fn open(state: &mut [u8], label: &[u8], disk: &[u8], flash: &[u8], addresses
     if label.len() != LABEL {
         return Err(2);
     }
-    fresh(state, label, addresses, blocks);
-    Ok(())
-}
-
-/// Makes all but the numbers of a box of either kind as they are in a fresh one.
-pub(crate) fn fresh(state: &mut [u8], label: &[u8], addresses: &mut [u8], blocks: &mut [u8]) {
     set_label(state, label);
     state[FIRST_COUNTER * 8..LABEL_START].fill(0);
     addresses.fill(0);
@@ -194,6 +188,7 @@ pub(crate) fn fresh(state: &mut [u8], label: &[u8], addresses: &mut [u8], blocks
     for (k, row) in blocks.chunks_exact_mut(ROW).enumerate() {
         row[32..36].copy_from_slice(&(k as u32).to_le_bytes());
     }
+    Ok(())
 }
 
 /// The refusals of a call, in their order. Where there is none the index has the used block rows.
@@ -393,12 +388,6 @@ pub fn flush<I: Index>(
 ) -> Result<(), u32> {
     let mut index = I::default();
     let sizes = checked(&mut index, state, None, disk, flash, addresses, blocks, None, answer, true)?;
-    let primary_writes = clean(&sizes, &index, most, disk, flash, addresses, blocks);
-    done(state, answer, DONE, 0, primary_writes as u64)
-}
-
-/// Cleans at most `most` dirty rows of a box of either kind, oldest first, and says how many.
-pub(crate) fn clean<I: Index>(sizes: &Sizes, index: &I, most: usize, disk: &mut [u8], flash: &[u8], addresses: &mut [u8], blocks: &[u8]) -> usize {
     let mut primary_writes = 0;
     for k in 0..sizes.n {
         let held = *row(addresses, k);
@@ -409,18 +398,13 @@ pub(crate) fn clean<I: Index>(sizes: &Sizes, index: &I, most: usize, disk: &mut 
             primary_writes += 1;
         }
     }
-    primary_writes
+    done(state, answer, DONE, 0, primary_writes as u64)
 }
 
 pub fn look<I: Index>(state: &[u8], a: u32, disk: &[u8], flash: &[u8], addresses: &[u8], blocks: &[u8], answer: &mut [u8]) -> Result<(), u32> {
     let mut index = I::default();
     let sizes = checked(&mut index, state, Some(a), disk, flash, addresses, blocks, None, answer, false)?;
-    answer_look(&sizes, &index, a, addresses, blocks, answer)
-}
-
-/// Where a look at a box of either kind finds the block of an address.
-pub(crate) fn answer_look<I: Index>(sizes: &Sizes, index: &I, a: u32, addresses: &[u8], blocks: &[u8], answer: &mut [u8]) -> Result<(), u32> {
-    let place = held(sizes, addresses, a).and_then(|k| index.find(blocks, held_fingerprint(row(addresses, k))));
+    let place = held(&sizes, addresses, a).and_then(|k| index.find(blocks, held_fingerprint(row(addresses, k))));
     match place {
         Some(place) => fill(answer, CACHE, (slot(row(blocks, place)) * sizes.b) as u64, sizes.b as u64),
         None => fill(answer, DISK, a as u64 * sizes.b as u64, sizes.b as u64),
@@ -438,16 +422,11 @@ pub fn report<I: Index>(state: &[u8], disk: &[u8], flash: &[u8], addresses: &[u8
         return Err(2);
     }
     check(&sizes, addresses, blocks, &mut I::default())?;
-    fill_report(&sizes, addresses, report, length);
-    Ok(())
-}
-
-/// The held rows of a box of either kind, each in so many bytes.
-pub(crate) fn fill_report(sizes: &Sizes, addresses: &[u8], report: &mut [u8], length: usize) {
     report.fill(0);
     for (into, row) in report.chunks_exact_mut(length).zip(rows(&addresses[..sizes.n * ROW])) {
         into[..4].copy_from_slice(&row[..4]);
         // The dirty byte, and the two of the seat behind it.
         into[4..].copy_from_slice(&row[36..32 + length]);
     }
+    Ok(())
 }

@@ -3,7 +3,7 @@
 //!
 //! `maps` and `array` make the service's refusals with an index of the block rows that they build in each call: a hash map of the standard library,
 //! and an array made by hand. `persistent` refuses nothing and keeps its maps from call to call: it shows what the refusals and the lent tables cost.
-//! `arc` has the calls on D-ARC boxes, with the map of `maps` as its index; a restore is of both kinds.
+//! `arc` has the calls on D-ARC boxes, with the map of `maps` as its index.
 //! `scores` counts the lists of an exam question.
 pub mod arc;
 mod arc_checks;
@@ -114,7 +114,7 @@ macro_rules! calls {
         pub fn save(state: &mut [u8], disk: &mut [u8], flash: &[u8], addresses: &mut [u8], blocks: &[u8], area: &mut [u8], answer: &mut [u8]) -> u32 {
             crate::number_of(crate::image::save::<$index>(state, disk, flash, addresses, blocks, area, answer))
         }
-        pub fn restore(state: &mut [u8], area: &mut [u8], addresses: &mut [u8], blocks: &mut [u8], lists: &mut [u8]) -> u32 {
+        pub fn restore(state: &mut [u8], area: &mut [u8], addresses: &mut [u8], blocks: &mut [u8], lists: &[u8]) -> u32 {
             crate::number_of(crate::image::restore::<$index>(state, area, addresses, blocks, lists))
         }
     };

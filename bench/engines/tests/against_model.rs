@@ -3,13 +3,13 @@ use common::Random;
 use engines::persistent::Persistent;
 use engines::{array, maps};
 use model::image::{body, carry_out_restore, carry_out_save, header, room, HEADER};
-use model::{carry_out, carry_out_many, carry_out_report, Call, Folder, Kind, Label, Lent, ManyAnswer, Numbers, Report};
+use model::{carry_out, carry_out_many, carry_out_report, Call, Folder, Label, Lent, ManyAnswer, Numbers, Report};
 use model::{CALLS, LABEL, REPORTS, ROW, STATE, STATE_LABEL, STATE_LIMIT};
 
 /// A call by the functions of an engine's module.
 macro_rules! by {
     ($engine:ident, $call:expr, $a:expr, $lent:expr) => {{
-        let Lent { state, disk, flash, addresses, blocks, block, answer, label, .. } = $lent;
+        let Lent { state, disk, flash, addresses, blocks, block, answer, label } = $lent;
         match $call {
             Call::Open => $engine::open(state, label, disk, flash, addresses, blocks),
             Call::Read => $engine::read(state, $a, disk, flash, addresses, blocks, block, answer),
@@ -94,7 +94,6 @@ fn unopened(random: &mut Random, b: usize, p: usize, m: usize, d: usize, content
         block: random.bytes(b),
         answer: random.bytes(24),
         label: label(random).to_vec(),
-        ..Lent::default()
     }
 }
 
@@ -106,7 +105,7 @@ fn is(given: u32, lent: &Lent, number: u32, expected: &Lent, context: &str) {
 /// A copy of a box with a byte changed, the label's among them, or a length, or another limit, which may be below the dirty rows.
 fn broken_copy(random: &mut Random, lent: &Lent) -> Lent {
     let mut bad = lent.clone();
-    let Lent { state, disk, flash, addresses, blocks, block, answer, label, .. } = &mut bad;
+    let Lent { state, disk, flash, addresses, blocks, block, answer, label } = &mut bad;
     let changed = match random.below(11) {
         0..=2 => &mut addresses[..],
         3..=5 => &mut blocks[..],
@@ -292,51 +291,7 @@ fn folders() {
     assert!([0, 1, 2, 3, 6, 7, 10, 12, 13].iter().all(|number| numbers[*number] > 50) && missed_repeats > 1_000, "hardly met: {numbers:?}, {missed_repeats}");
 }
 
-/// A save by both engines and by the model, into an area that may be short.
-fn save(random: &mut Random, mut expected: Lent, whole: usize, context: &str) -> u32 {
-    let (more, less) = (random.below(100), random.below(60));
-    let mut area = random.bytes(whole + more - less);
-    let [mut one, mut two] = [(expected.clone(), area.clone()), (expected.clone(), area.clone())];
-    let number = carry_out_save(&mut expected, &mut area);
-    for (name, save, (lent, into)) in [("maps", maps::save as Save, &mut one), ("array", array::save as Save, &mut two)] {
-        let Lent { state, disk, flash, addresses, blocks, answer, .. } = &mut *lent;
-        is(save(state, disk, flash, addresses, blocks, into, answer), lent, number, &expected, &format!("{name}, a save, {context}"));
-        assert!(*into == area, "{name}, the area of a save, {context}");
-    }
-    number
-}
-
-/// A restore by all three from an image of the box as it is, dirty rows and all, with a byte changed now and then, often in its header or its numbers.
-fn restore(random: &mut Random, right: Lent, whole: usize, context: &str) -> u32 {
-    let body = body(&right);
-    let mut area = [&header(body.len() as u32)[..], &body, &random.bytes(whole - HEADER - body.len())].concat();
-    if random.below(2) == 0 {
-        let end = [HEADER, HEADER + 28, area.len()][random.below(3)];
-        area[random.below(end)] ^= 1 << random.below(8);
-    }
-    area.truncate(area.len() - [0, 0, 0, 1, 64][random.below(5)]);
-    let [state, addresses, blocks] = [&right.state, &right.addresses, &right.blocks].map(|bytes| random.bytes(bytes.len()));
-    let mut expected = Lent { state, addresses, blocks, ..right };
-    // Lists, mostly with the state that goes with them.
-    if random.below(8) == 0 {
-        expected.lists = vec![9; 1 + random.below(9)];
-        let state = if random.below(3) == 0 { Kind::Lru } else { Kind::Arc }.state();
-        expected.state = random.bytes(state);
-    }
-    if random.below(8) == 0 {
-        [&mut expected.addresses, &mut expected.blocks, &mut expected.state][random.below(3)].pop();
-    }
-    let [mut one, mut two] = [(expected.clone(), area.clone()), (expected.clone(), area.clone())];
-    let number = carry_out_restore(&mut expected, &mut area);
-    for (name, restore, (lent, from)) in [("maps", maps::restore as Restore, &mut one), ("array", array::restore as Restore, &mut two)] {
-        let Lent { state, addresses, blocks, lists, .. } = &mut *lent;
-        is(restore(state, from, addresses, blocks, lists), lent, number, &expected, &format!("{name}, a restore, {context}"));
-        assert!(*from == area, "{name}, the area of a restore, {context}");
-    }
-    number
-}
-
-/// Saves of crafted boxes, some of them broken, and restores: numbers, boxes and areas are the model's.
+/// Saves of crafted boxes, and restores of them: numbers, boxes and areas are the model's. Some boxes are broken, some areas short or of other bytes.
 #[test]
 fn images() {
     let seed = 24;
@@ -345,10 +300,40 @@ fn images() {
     for round in 0..20_000 {
         let context = format!("round {round}, seed {seed}");
         let right = crafted(&mut random, [2, 4, 8, 31][round % 4]);
-        let whole = room(Kind::Lru, right.addresses.len() / ROW, right.blocks.len() / ROW);
-        let lent = if random.below(3) == 0 { broken_copy(&mut random, &right) } else { right.clone() };
-        saves[save(&mut random, lent, whole, &context) as usize] += 1;
-        restores[restore(&mut random, right, whole, &context) as usize] += 1;
+        let (m, d) = (right.addresses.len() / ROW, right.blocks.len() / ROW);
+        let mut expected = if random.below(3) == 0 { broken_copy(&mut random, &right) } else { right.clone() };
+        let (more, less) = (random.below(100), random.below(60));
+        let mut area = random.bytes(room(m, d) + more - less);
+        let [mut one, mut two] = [(expected.clone(), area.clone()), (expected.clone(), area.clone())];
+        let number = carry_out_save(&mut expected, &mut area);
+        for (name, save, (lent, into)) in [("maps", maps::save as Save, &mut one), ("array", array::save as Save, &mut two)] {
+            let Lent { state, disk, flash, addresses, blocks, answer, .. } = &mut *lent;
+            is(save(state, disk, flash, addresses, blocks, into, answer), lent, number, &expected, &format!("{name}, a save, {context}"));
+            assert!(*into == area, "{name}, the area of a save, {context}");
+        }
+        saves[number as usize] += 1;
+
+        // An image of the box as it is, dirty rows and all, with a byte changed now and then, often in its header or its numbers.
+        let body = body(&right);
+        let mut area = [&header(body.len() as u32)[..], &body, &random.bytes(room(m, d) - HEADER - body.len())].concat();
+        if random.below(2) == 0 {
+            let end = [HEADER, HEADER + 28, area.len()][random.below(3)];
+            area[random.below(end)] ^= 1 << random.below(8);
+        }
+        area.truncate(area.len() - [0, 0, 0, 1, 64][random.below(5)]);
+        let mut expected = Lent { state: random.bytes(STATE), addresses: random.bytes(m * ROW), blocks: random.bytes(d * ROW), ..right };
+        let lists = vec![9; (random.below(8) == 0) as usize];
+        if random.below(8) == 0 {
+            [&mut expected.addresses, &mut expected.blocks, &mut expected.state][random.below(3)].pop();
+        }
+        let [mut one, mut two] = [(expected.clone(), area.clone()), (expected.clone(), area.clone())];
+        let number = carry_out_restore(&mut expected, &mut area, lists.len());
+        for (name, restore, (lent, from)) in [("maps", maps::restore as Restore, &mut one), ("array", array::restore as Restore, &mut two)] {
+            let Lent { state, addresses, blocks, .. } = &mut *lent;
+            is(restore(state, from, addresses, blocks, &lists), lent, number, &expected, &format!("{name}, a restore, {context}"));
+            assert!(*from == area, "{name}, the area of a restore, {context}");
+        }
+        restores[number as usize] += 1;
     }
     println!("20000 saves and restores by two engines agree with the model (seed {seed}); numbers {saves:?} and {restores:?}");
     assert!([0, 2, 6, 7, 12, 13, 14].iter().all(|number| saves[*number] > 50), "a refusal of a save is hardly met: {saves:?}");
@@ -356,7 +341,7 @@ fn images() {
 }
 
 type Save = fn(&mut [u8], &mut [u8], &[u8], &mut [u8], &[u8], &mut [u8], &mut [u8]) -> u32;
-type Restore = fn(&mut [u8], &mut [u8], &mut [u8], &mut [u8], &mut [u8]) -> u32;
+type Restore = fn(&mut [u8], &mut [u8], &mut [u8], &mut [u8], &[u8]) -> u32;
 
 /// Exam questions, right and wrong: the number and the counts are the model's.
 #[test]

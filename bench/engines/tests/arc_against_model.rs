@@ -1,15 +1,13 @@
 //! The engine of D-ARC boxes is right before it is measured: its bytes and numbers are the model's, from fresh boxes, on sound ones made by hand and on
 //! broken ones.
 use common::Random;
-use engines::{arc, maps};
+use engines::arc;
 use model::arc::worked::play;
-use model::arc::{ArcNumbers, Lists, ARC_STATE, WORD};
-use model::image::{body, body_numbers, carry_out_restore, carry_out_save, header, room, HEADER};
-use model::{carry_out, carry_out_many, carry_out_report, AddressRow, BlockRow, Call, Folder, Kind, Lent, Report};
-use model::{CALLS, LABEL, REPORTS, ROW, STATE, STATE_LABEL, STATE_LIMIT};
+use model::arc::{carry_out, carry_out_many, carry_out_report, ArcLent, ArcNumbers, Lists, ARC_STATE, WORD};
+use model::{AddressRow, BlockRow, Call, Folder, Lent, Report, CALLS, LABEL, REPORTS, ROW, STATE_LABEL, STATE_LIMIT};
 
-fn by(call: Call, a: u32, lent: &mut Lent) -> u32 {
-    let Lent { state, disk, flash, addresses, blocks, lists, block, answer, label, .. } = lent;
+fn by(call: Call, a: u32, lent: &mut ArcLent) -> u32 {
+    let ArcLent { base: Lent { state, disk, flash, addresses, blocks, block, answer, label }, lists } = lent;
     match call {
         Call::Open => arc::open(state, label, disk, flash, addresses, blocks, lists),
         Call::Read => arc::read(state, a, disk, flash, addresses, blocks, lists, block, answer),
@@ -23,7 +21,7 @@ fn by(call: Call, a: u32, lent: &mut Lent) -> u32 {
 }
 
 /// A call by the engine and by the model: the same number, and the same bytes.
-fn one(call: Call, a: u32, lent: &mut Lent, context: &str) -> u32 {
+fn one(call: Call, a: u32, lent: &mut ArcLent, context: &str) -> u32 {
     let mut expected = lent.clone();
     let number = carry_out(call, a, &mut expected);
     assert_eq!(by(call, a, lent), number, "{call:?} {a}, {context}");
@@ -31,24 +29,24 @@ fn one(call: Call, a: u32, lent: &mut Lent, context: &str) -> u32 {
     number
 }
 
-fn many(lent: &mut Lent, folder: &mut Folder, context: &str) -> u32 {
+fn many(lent: &mut ArcLent, folder: &mut Folder, context: &str) -> u32 {
     let (mut expected, mut wanted) = (lent.clone(), folder.clone());
     let number = carry_out_many(&mut expected, &mut wanted);
-    let Lent { state, disk, flash, addresses, blocks, lists, .. } = &mut *lent;
+    let ArcLent { base: Lent { state, disk, flash, addresses, blocks, .. }, lists } = &mut *lent;
     let Folder { asked, buffer, answer } = &mut *folder;
     assert_eq!(arc::read_many(state, asked, disk, flash, addresses, blocks, lists, buffer, answer), number, "{context}");
     assert_eq!(lent.difference(&expected).or(folder.difference(&wanted)), None, "{context}");
     number
 }
 
-fn report(random: &mut Random, lent: &Lent, context: &str) {
-    let m = if lent.state.len() == ARC_STATE { lent.arc_numbers().m().min(1_024) as usize } else { 3 };
+fn report(random: &mut Random, lent: &ArcLent, context: &str) {
+    let m = if lent.base.state.len() == ARC_STATE { lent.numbers().m().min(1_024) as usize } else { 3 };
     for report in REPORTS {
         let (more, less) = (random.below(20) / 19, random.below(20) / 19);
         let mut bytes = random.bytes((m * report.row() + more).saturating_sub(less));
         let mut expected = bytes.clone();
         let number = carry_out_report(report, lent, &mut expected);
-        let Lent { state, disk, flash, addresses, blocks, lists, .. } = lent;
+        let ArcLent { base: Lent { state, disk, flash, addresses, blocks, .. }, lists } = lent;
         let given = match report {
             Report::Manager => arc::manager_report(state, disk, flash, addresses, blocks, lists, &mut bytes),
             Report::Desk => arc::desk_report(state, disk, flash, addresses, blocks, lists, &mut bytes),
@@ -64,7 +62,7 @@ fn worked_states() {
 }
 
 /// A box to be opened, with any limit, over any bytes.
-fn unopened(random: &mut Random, [b, p, c, x]: [usize; 4], contents: usize) -> Lent {
+fn unopened(random: &mut Random, [b, p, c, x]: [usize; 4], contents: usize) -> ArcLent {
     let m = 2 * c + x;
     let t = [m, 1 + random.below(m)][random.below(2)] as u64;
     let label = random.bytes(LABEL);
@@ -80,24 +78,23 @@ fn unopened(random: &mut Random, [b, p, c, x]: [usize; 4], contents: usize) -> L
         adaptive: random.number(),
         sizes: [random.number(); 5],
     };
-    Lent {
-        kind: Kind::Arc,
+    let base = Lent {
         state: numbers.to_bytes(),
         disk: (0..p).flat_map(|_| vec![random.below(contents) as u8; b]).collect(),
         flash: random.bytes(c * b),
         addresses: random.bytes(m * ROW),
         blocks: random.bytes(c * ROW),
-        lists: random.bytes(m * WORD),
         block: random.bytes(b),
         answer: random.bytes(24),
         label,
-    }
+    };
+    ArcLent { base, lists: random.bytes(m * WORD) }
 }
 
 /// A copy of a box with a byte changed, or a length, or another limit, which may be below the dirty rows.
-fn broken_copy(random: &mut Random, lent: &Lent) -> Lent {
+fn broken_copy(random: &mut Random, lent: &ArcLent) -> ArcLent {
     let mut bad = lent.clone();
-    let Lent { state, disk, flash, addresses, blocks, lists, block, answer, label, .. } = &mut bad;
+    let ArcLent { base: Lent { state, disk, flash, addresses, blocks, block, answer, label }, lists } = &mut bad;
     let changed = match random.below(13) {
         0..=2 => &mut addresses[..],
         3 | 4 => &mut blocks[..],
@@ -150,7 +147,7 @@ fn lists_and_broken_boxes() {
             let end = p + random.below(20) / 19;
             let a = random.below(end) as u32;
             let context = format!("turn {turn} of round {round}, seed {seed}");
-            lent.block = vec![random.below(contents) as u8; b];
+            lent.base.block = vec![random.below(contents) as u8; b];
             if random.below(2) == 0 {
                 let mut bad = broken_copy(&mut random, &lent);
                 report(&mut random, &bad, &format!("broken, {context}"));
@@ -174,16 +171,16 @@ fn lists_and_broken_boxes() {
 }
 
 /// A sound box of any fingerprints that agree in their first `same` bytes, with any sound lists; slots have other blocks than their rows say.
-fn crafted(random: &mut Random, same: usize) -> Lent {
+fn crafted(random: &mut Random, same: usize) -> ArcLent {
     let (c, x, p) = (1 + random.below(12), random.below(12), 1 + random.below(50));
     let m = 2 * c + x;
     let start = random.bytes(same);
     let prints: Vec<Vec<u8>> = (0..c + 4).map(|_| [&start[..], &random.bytes(32 - same)].concat()).collect();
     let mut lent = unopened(random, [64, p, c, x], 2 * c);
     let (used, n) = (random.below(c + 1), random.below(m.min(p) + 1));
-    lent.addresses.fill(0);
+    lent.base.addresses.fill(0);
     let (mut held, mut dirty_rows) = (Vec::new(), 0);
-    for (k, row) in lent.addresses.chunks_exact_mut(ROW).take(n).enumerate() {
+    for (k, row) in lent.base.addresses.chunks_exact_mut(ROW).take(n).enumerate() {
         let print = random.below(prints.len());
         let dirty = (print < used && random.below(2) == 0) as u8;
         let address = k as u32;
@@ -196,11 +193,11 @@ fn crafted(random: &mut Random, same: usize) -> Lent {
         let print = (k + used).checked_sub(c).map(|k| prints[k][..].try_into().unwrap());
         BlockRow { fingerprint: print.unwrap_or([0; 32]), slot: (c - 1 - k) as u32, used: print.is_some() as u8, padding: [0; 3] }
     });
-    lent.blocks = rows.flat_map(|row| row.to_bytes()).collect();
+    lent.base.blocks = rows.flat_map(|row| row.to_bytes()).collect();
     let lists = Lists::any(&held, c, x, |end| random.below(end));
     let t = [dirty_rows.max(1), m as u64][random.below(2)];
-    let numbers = ArcNumbers { n: n as u64, counters: [7; 4], t, adaptive: lists.p as u64, sizes: lists.sizes(), ..lent.arc_numbers() };
-    lent.state = numbers.to_bytes();
+    let numbers = ArcNumbers { n: n as u64, counters: [7; 4], t, adaptive: lists.p as u64, sizes: lists.sizes(), ..lent.numbers() };
+    lent.base.state = numbers.to_bytes();
     lent.lists = lists.to_bytes(m);
     lent
 }
@@ -219,7 +216,7 @@ fn crafted_boxes() {
         } else if random.below(4) == 0 {
             lent = broken_copy(&mut random, &lent);
         }
-        let p = lent.disk.len() / 64;
+        let p = lent.base.disk.len() / 64;
         let mut copy = lent.clone();
         folders[many(&mut copy, &mut any_folder(&mut random, p.max(1), 64), &context) as usize] += 1;
         let a = random.below(p + 1) as u32;
@@ -230,74 +227,4 @@ fn crafted_boxes() {
     }
     println!("60000 calls and 20000 folders on crafted D-ARC boxes agree with the model (seed {seed}); numbers {numbers:?} and {folders:?}");
     assert!([0, 2, 3, 6, 7, 8].iter().all(|number| numbers[*number] > 100 && folders[*number] > 20) && folders[10] > 100, "a refusal is hardly met");
-}
-
-/// An image of a box as it is, dirty rows and all, now and then of a D-LRU box of the same tables; with a byte changed, often in its header or its numbers, or
-/// without its end.
-fn any_image(random: &mut Random, right: &Lent) -> Vec<u8> {
-    let kind = if random.below(8) == 0 { Kind::Lru } else { Kind::Arc };
-    let state = if kind == Kind::Lru { right.numbers().to_bytes() } else { right.state.clone() };
-    let body = body(&Lent { kind, state, ..right.clone() });
-    let whole = room(kind, right.addresses.len() / ROW, right.blocks.len() / ROW);
-    let mut area = [&header(body.len() as u32)[..], &body, &random.bytes(whole - HEADER - body.len())].concat();
-    if random.below(2) == 0 {
-        let lists = area.len() - right.lists.len() - 64;
-        let (start, end) = [(0, HEADER), (HEADER, HEADER + 4 * body_numbers(kind)), (lists, area.len()), (0, area.len())][random.below(4)];
-        area[start + random.below(end - start)] ^= 1 << random.below(8);
-    }
-    area.truncate(area.len() - [0, 0, 0, 1, 64][random.below(5)]);
-    area
-}
-
-/// A save by the engine and by the model, into an area that may be short.
-fn save(random: &mut Random, mut lent: Lent, whole: usize, context: &str) -> u32 {
-    let (more, less) = (random.below(100), random.below(60));
-    let mut area = random.bytes(whole + more - less);
-    let (mut expected, mut wanted) = (lent.clone(), area.clone());
-    let number = carry_out_save(&mut expected, &mut wanted);
-    let Lent { state, disk, flash, addresses, blocks, lists, answer, .. } = &mut lent;
-    assert_eq!(arc::save(state, disk, flash, addresses, blocks, lists, &mut area, answer), number, "a save, {context}");
-    assert_eq!((lent.difference(&expected), area == wanted), (None, true), "a save, {context}");
-    number
-}
-
-/// A restore by both, into buffers of any bytes and mostly of the right lengths.
-fn restore(random: &mut Random, right: &Lent, context: &str) -> u32 {
-    let mut area = any_image(random, right);
-    let [state, addresses, blocks, lists] = [&right.state, &right.addresses, &right.blocks, &right.lists].map(|bytes| random.bytes(bytes.len()));
-    let mut lent = Lent { state, addresses, blocks, lists, ..right.clone() };
-    match random.below(12) {
-        0 => {
-            let Lent { state, addresses, blocks, lists, .. } = &mut lent;
-            [state, addresses, blocks, lists][random.below(4)].pop();
-        }
-        1 => lent.lists.clear(),
-        2 => (lent.state, lent.lists) = (random.bytes(STATE), vec![]),
-        _ => {}
-    }
-    let (mut expected, mut wanted) = (lent.clone(), area.clone());
-    let number = carry_out_restore(&mut expected, &mut wanted);
-    let Lent { state, addresses, blocks, lists, .. } = &mut lent;
-    assert_eq!(maps::restore(state, &mut area, addresses, blocks, lists), number, "a restore, {context}");
-    assert_eq!((lent.difference(&expected), area == wanted), (None, true), "a restore, {context}");
-    number
-}
-
-/// Saves of crafted boxes, some of them broken, and restores of their images and others: numbers, boxes and areas are the model's.
-#[test]
-fn images() {
-    let seed = 33;
-    let mut random = Random(seed);
-    let (mut saves, mut restores) = ([0; 17], [0; 17]);
-    for round in 0..20_000 {
-        let context = format!("round {round}, seed {seed}");
-        let right = crafted(&mut random, [2, 4, 8, 31][round % 4]);
-        let whole = room(Kind::Arc, right.addresses.len() / ROW, right.blocks.len() / ROW);
-        let lent = if random.below(3) == 0 { broken_copy(&mut random, &right) } else { right.clone() };
-        saves[save(&mut random, lent, whole, &context) as usize] += 1;
-        restores[restore(&mut random, &right, &context) as usize] += 1;
-    }
-    println!("20000 saves of D-ARC boxes and 20000 restores agree with the model (seed {seed}); numbers {saves:?} and {restores:?}");
-    assert!([0, 2, 6, 7, 11, 12, 14].iter().all(|number| saves[*number] > 50), "a refusal of a save is hardly met: {saves:?}");
-    assert!([0, 2, 14, 15, 16].iter().all(|number| restores[*number] > 500), "a refusal of a restore is hardly met: {restores:?}");
 }

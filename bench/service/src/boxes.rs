@@ -1,6 +1,8 @@
 //! The boxes that lists of calls start from: filled by calls, empty, and with tables made by hand.
+#[cfg(feature = "double")]
 use crate::measure::run_arc_peer;
 use crate::measure::{run_maps, List};
+#[cfg(feature = "double")]
 use engines::arc;
 use engines::maps;
 use sha2::{Digest, Sha256};
@@ -207,12 +209,16 @@ pub fn empty(shape: Shape) -> Start {
 }
 
 /// The places of C, X and the limit among the eights of a D-ARC state, and the length of such a state.
+#[cfg(feature = "double")]
 const ARC_C: usize = 2;
+#[cfg(feature = "double")]
 const ARC_X: usize = 3;
+#[cfg(feature = "double")]
 const ARC_STATE: usize = 192;
 
 /// A D-ARC box of the same tables, C being d, without a limit. The addresses that fill it have as many contents as there are slots, so that T1 and T2 come to
 /// hold C + X addresses; the others have all contents.
+#[cfg(feature = "double")]
 pub fn full_arc(shape: Shape) -> Start {
     let Shape { b, p, m, d } = shape;
     let all = contents(shape);

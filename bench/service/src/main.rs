@@ -1,5 +1,6 @@
 //! Times the proved service beside unproved Rust engines in one run, interleaved, on copies of the same boxes: the best of each call, as ratios to the
 //! peer `maps`; whether the bounds are kept; and the rows of README's table, in Markdown.
+#[cfg(feature = "double")]
 mod arc;
 mod boxes;
 mod many;
@@ -130,6 +131,7 @@ fn print_what_is_measured() {
              eight bytes.");
     println!("array: the same with an index in an array on the stack in place of the hash map. persistent: no refusals, maps kept from call to call, \
              tables not written.");
+    #[cfg(feature = "double")]
     println!("D-ARC boxes: the peer is an engine of the same kind, with the same refusals and such a map; the addresses that fill a box have as many \
              contents as there are slots.");
     println!("The engines take turns, and so do the boxes of a group; the time of each call is its best of all runs.");
@@ -165,6 +167,7 @@ fn main() {
     let by_hand = Group::measured(by_hand, 0);
     let folders = many::all(&large.boxes[FULL]);
     let questions = scores::all();
+    #[cfg(feature = "double")]
     let arcs = arc::all();
     growth();
 
@@ -223,6 +226,7 @@ fn main() {
     for one in &questions {
         println!("| m {}, d {} | {:.2} | {:.2} | {:.2} |", one.m, one.d, one.service / 1e6, one.plain / 1e6, one.speed());
     }
+    #[cfg(feature = "double")]
     arc::print(&arcs);
     if !bounds.kept {
         std::process::exit(1);

@@ -1,13 +1,15 @@
 //! Times lists of calls by each engine in turns.
 use crate::boxes::{number, Kind, Lent, Random, Shape, Start, Step};
 #[cfg(not(feature = "double"))]
-use crate::service::{self, arc as arc_service};
+use crate::service;
 use engines::persistent::Persistent;
-use engines::{arc, array, maps};
+use engines::{array, maps};
 use std::time::{Duration, Instant};
 
 #[cfg(feature = "double")]
-use engines::{arc as arc_service, maps as service};
+use engines::maps as service;
+#[cfg(feature = "double")]
+use engines::{arc, arc as arc_service};
 
 /// The engines in the order of the tables. The first is the service, the second its peer: ratios and bounds are to that one.
 pub const ENGINES: [&str; 4] = ["service", "maps", "array", "persistent"];
@@ -72,6 +74,7 @@ pub type Run = fn(&mut Lent, &List, &mut [Duration]) -> u64;
 /// In the order of `ENGINES`.
 pub const RUNS: [Run; ENGINES.len()] = [run_service, run_maps, run_array, run_persistent];
 /// Those on D-ARC boxes: the service and its peer.
+#[cfg(feature = "double")]
 pub const ARC_RUNS: [Run; 2] = [run_arc_service, run_arc_peer];
 
 fn run_service(lent: &mut Lent, list: &List, best: &mut [Duration]) -> u64 {
@@ -93,10 +96,12 @@ fn run_persistent(lent: &mut Lent, list: &List, best: &mut [Duration]) -> u64 {
     sum
 }
 
+#[cfg(feature = "double")]
 fn run_arc_service(lent: &mut Lent, list: &List, best: &mut [Duration]) -> u64 {
     run_list!(arc_service, lent, list, best, lists)
 }
 
+#[cfg(feature = "double")]
 pub fn run_arc_peer(lent: &mut Lent, list: &List, best: &mut [Duration]) -> u64 {
     run_list!(arc, lent, list, best, lists)
 }

@@ -59,7 +59,8 @@ pub fn scores([b, p, m, d, t]: [usize; 5], label: &[u8], disk: &[u8], k: usize, 
     unsafe { mindavehu_scores(b, p, m, d, t, label.as_ptr(), label.len(), disk.as_ptr(), disk.len(), k, counts.as_mut_ptr(), counts.len()) }
 }
 
-/// The calls on D-ARC boxes.
+/// The calls on D-ARC boxes. The library has no such C names yet: these are built, and not called, with `double` alone.
+#[cfg(feature = "double")]
 pub mod arc {
     use super::{M, P};
 

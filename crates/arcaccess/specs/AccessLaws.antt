@@ -1,11 +1,12 @@
 -- A read or a write of a D-ARC box that isn't refused: what it finds in the lent bytes, and what it tells when the step is done. Assumes nothing.
-use Rattle.std.specs.Prelude.{◌≡◌, refl, List, [], Bool, true, false, cond, ◌&&◌, ℕ, ◌+◌, ◌^◌, ◌≤◌, ◌<◌, get_or}
-use Rattle.std.proofs.Math.Path.{sym, ◌∙◌}
+use Rattle.std.specs.Prelude.{◌≡◌, List, [], Bool, true, false, ◌&&◌, ℕ, ◌+◌, ◌^◌, ◌≤◌, ◌<◌, get_or}
+use Rattle.std.proofs.Math.Path.{refl, sym, ◌∙◌}
 use Rattle.std.proofs.Common.{ap, subst, arith}
-use Rattle.std.proofs.Math.Option.{Option, some}
+use Rattle.std.proofs.Math.Bool.{cond}
+use Rattle.std.proofs.Math.Option.{Option, none, some}
 use Rattle.counters.specs.declared.Counters as Code
 use Rattle.counters.specs.Added.{added}
-use Rattle.paper.specs.Cache.{Hashing, Seat, Box, Call, Word, hit, miss, same_block, new_block, counted, one_if, is_read, is_hit, answer, cached}
+use Rattle.paper.specs.Cache.{Hashing, Seat, AddressRow, Box, Call, Word, hit, miss, same_block, new_block, counted, one_if, is_read, is_hit, answer, cached}
 use Rattle.paper.specs.Cache.{row_with_block, write_invalidate}
 use Rattle.paper.specs.Engine.{Fixed, fit}
 use Rattle.tables.specs.Records.{bytes2}
@@ -13,16 +14,16 @@ use Rattle.paper.specs.Lent.{Ask, calling, call_of, lent_of, answered, block_aft
 use Rattle.paper.specs.CallLaws.{not-over}
 use Rattle.paper.specs.Layout.{addresses_of, blocks_of}
 use Rattle.paper.specs.RowBytes.{Bytes}
-use Rattle.arc.specs.Policy.{Served, answered_by, through_by, back_by, serve_by}
+use Rattle.arc.specs.Policy.{Served, answered_by, read_by, through_by, back_by, serve_by}
 use Rattle.serve.specs.declared.Write.{Write}
 use Rattle.serve.specs.declared.Write.TheVariants.{Through, Back, Invalidate}
 use Rattle.serve.specs.Calls.{is_yes, writing}
-use Rattle.arc.specs.Arc.{Sizes, Lists, m_of, arc}
+use Rattle.arc.specs.Arc.{Sizes, Lists, base_numbers, m_of, arc}
 use Rattle.arc.specs.ArcStep.{ArcSound}
 use Rattle.arc.specs.ArcLent.{ArcLent, ListRecord, words, total_of, arc_refusal, arc_lent_of, arc_served}
 use Rattle.arc.specs.ArcLentLaws.{length-words-in}
 use Rattle.arc.specs.ArcDemand.{lists_of, box_of}
-use Rattle.arc.specs.ArcDemandLaws.{ArcPasses, Found, found, served-is, passes-right}
+use Rattle.arc.specs.ArcDemandLaws.{Found, found, served-is, passes-right}
 use Rattle.arclists.specs.declared.ListSizes.{ListSizes}
 use Rattle.arclists.specs.Holding.{Holds}
 use Rattle.parts.specs.Rep.{Rep, with_held, engine}
@@ -31,8 +32,7 @@ use Rattle.policy.specs.declared.Word as CodeWord
 use Rattle.policy.specs.declared.Answer.TheVariants.{Answered}
 use Rattle.policy.specs.Contract.{word_of, ask_of}
 use Rattle.policy.specs.CallLaws.{rep, access, said-is, no_hit, asks_write}
-use Rattle.arcserve.specs.ArcCalls.{carried_on, ArcAccess, Serves}
-use Rattle.arcserve.specs.ServedLaws.{read_word}
+use Rattle.arcserve.specs.ArcCalls.{ArcAccess, Serves}
 use Rattle.arcserve.specs.declared.ArcServed.{ArcServed}
 use Rattle.arcrefusals.specs.declared.ArcRecord.{ArcRecord}
 use Rattle.arcrefusals.specs.Given.{sizes_of, base_of, arc_lent}
@@ -42,27 +42,23 @@ use Rattle.arccalls.specs.BaseLaws.{base-zero, passes-read}
 
 -- the record with other rows held and other lists; C and X stay
 abbrev pub moved : ArcRecord → ℕ → ListSizes → ArcRecord
-moved a n s = record { size = a.size; blocks = a.blocks; held = n; label = a.label; limit = a.limit; sizes = carried_on a.sizes s }
-
--- lent lists that pass are those that they are read as
-pub lists-found : (a : ArcRecord) (disk flash addresses blocks lists : List ℕ) (c : Code.Counters)
-    → ArcPasses (sizes_of a) (arc_lent a disk flash addresses blocks lists (counters_of c)) → ((i : ℕ) → get_or lists i 0 < 256)
-    → Holds (m_of (sizes_of a)) a.sizes lists (lists_of (arc_lent a disk flash addresses blocks lists (counters_of c)))
-lists-found a disk flash addresses blocks lists c p low =
-    let u = arc_lent a disk flash addresses blocks lists (counters_of c) in
-    let r = passes-read (sizes_of a) u p in
-    let n = sym (record-found u.sizes (words (total_of u.sizes) lists) (length-words-in (total_of u.sizes) lists)) in
+moved a n s =
     record {
-      sized = record {
-        t1-is = ap (λ (x : ListRecord). x.t1) n;
-        t2-is = ap (λ (x : ListRecord). x.t2) n;
-        b1-is = ap (λ (x : ListRecord). x.b1) n;
-        b2-is = ap (λ (x : ListRecord). x.b2) n;
-        b3-is = ap (λ (x : ListRecord). x.b3) n;
-        p-is = ap (λ (x : ListRecord). x.p) n;
+      size = a.size;
+      blocks = a.blocks;
+      held = n;
+      label = a.label;
+      limit = a.limit;
+      sizes = record {
+        t1 = s.t1;
+        t2 = s.t2;
+        b1 = s.b1;
+        b2 = s.b2;
+        b3 = s.b3;
+        p = s.p;
+        cached = a.sizes.cached;
+        extra = a.sizes.extra;
       };
-      bytes = sym (bytes-found (m_of (sizes_of a)) u.sizes lists r.long r.room low r.after);
-      room = r.room;
     }
 
 module _ (a : ArcRecord) (disk flash addresses blocks lists : List ℕ) (c : Code.Counters) (q : Ask)
@@ -88,7 +84,22 @@ module _ (a : ArcRecord) (disk flash addresses blocks lists : List ℕ) (c : Cod
 
   pub lists-held : ((i : ℕ) → get_or lists i 0 < 256)
       → Holds (m_of (sizes_of a)) a.sizes lists (lists_of (arc_lent a disk flash addresses blocks lists (counters_of c)))
-  lists-held low = lists-found a disk flash addresses blocks lists c finds.passes low
+  lists-held low =
+      let u = arc_lent a disk flash addresses blocks lists (counters_of c) in
+      let r = passes-read (sizes_of a) u finds.passes in
+      let n = sym (record-found u.sizes (words (total_of u.sizes) lists) (length-words-in (total_of u.sizes) lists)) in
+      record {
+        sized = record {
+          t1-is = ap (λ (x : ListRecord). x.t1) n;
+          t2-is = ap (λ (x : ListRecord). x.t2) n;
+          b1-is = ap (λ (x : ListRecord). x.b1) n;
+          b2-is = ap (λ (x : ListRecord). x.b2) n;
+          b3-is = ap (λ (x : ListRecord). x.b3) n;
+          p-is = ap (λ (x : ListRecord). x.p) n;
+        };
+        bytes = sym (bytes-found (m_of (sizes_of a)) u.sizes lists r.long r.room low r.after);
+        room = r.room;
+      }
 
   -- what the code's call asks
   pub accesses : Bytes addresses → Bytes blocks → (x : ℕ) (l : List ℕ) → address_of q ≡ some x → lent_block q ≡ some l
@@ -169,8 +180,13 @@ module _ (a : ArcRecord) (disk flash addresses blocks lists : List ℕ) (c : Cod
 -- the words: a read's is hit or miss, a write's same or new
 module _ {X : ℕ} (H : Hashing (Fixed 32) (Fixed X)) (Z : Sizes) (l : Lists) (x : Box (Fixed 32) (Fixed X)) (a : ℕ) where
   pub read-says : (serve_by H (arc H Z) l x (Call.read a)).outcome.word ≡ cond (is_yes (serve_by H (arc H Z) l x (Call.read a)).outcome.word) hit miss
-  unfolding serve_by
-  read-says = read_word H (arc H Z) l x a (get_or x.disk a H.blank) (row_with_block H x a)
+  unfolding serve_by read_by answered_by answer
+  read-says = go (get_or x.disk a H.blank) (row_with_block H x a)
+    where
+      go : (y : Fixed X) (o : Option (AddressRow (Fixed 32)))
+          → (read_by H (arc H Z) l x a y o).outcome.word ≡ cond (is_yes (read_by H (arc H Z) l x a y o).outcome.word) hit miss
+      go y (some r) = refl
+      go y none = refl
 
   same_new : (b : Bool) → ◌≡◌ {A = Word} (cond b same_block new_block) (cond (is_yes (cond b same_block new_block)) same_block new_block)
   same_new true = refl

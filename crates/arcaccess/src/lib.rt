@@ -11,6 +11,7 @@ ghost use Rattle.arccalls.specs.Contract.{arc_told, arc_called};
 ghost use Rattle.arcaccess.specs.AccessLaws.{moved};
 
 use arccalls::{ArcOutcome, refused};
+use arclists::ListSizes;
 use arcrefusals::{ArcRecord, base_of};
 use arcserve::{reads, writes};
 use arcstep::Running;
@@ -21,11 +22,22 @@ use serve::Write;
 use tables::SourceAddress;
 
 // The record with what runs on: the rows held, the lists' sizes and p; C and X stay.
-pub fn moved_on(a: ArcRecord, t: Running) -> ArcRecord
+fn moved_on(a: ArcRecord, t: Running) -> ArcRecord
     ensures { result ≡ moved a t.held t.sizes }
 {
     let label = a.label;
-    let sizes = arcserve::carried(a.sizes, t.sizes);
+    let own = a.sizes;
+    let s = t.sizes;
+    let sizes = ListSizes {
+        t1: s.t1,
+        t2: s.t2,
+        b1: s.b1,
+        b2: s.b2,
+        b3: s.b3,
+        p: s.p,
+        cached: own.cached,
+        extra: own.extra,
+    };
     ArcRecord {
         size: a.size,
         blocks: a.blocks,

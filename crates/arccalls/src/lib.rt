@@ -13,7 +13,7 @@ use policy::Answer;
 use policy::calls::Outcome;
 
 // What a call gives back: its answer, the box record and the counters.
-#[derive(Drop)]
+#[derive(Clone, Copy)]
 pub struct ArcOutcome {
     pub answer: Answer,
     pub arc_record: ArcRecord,

@@ -16,7 +16,7 @@ use open::Opening;
 use tables::{fresh, moves};
 
 // What an opening gives back: its answer, the box record and the counters.
-#[derive(Drop)]
+#[derive(Clone, Copy)]
 pub struct ArcBegun {
     pub answer: Opening,
     pub arc_record: ArcRecord,

@@ -10,7 +10,7 @@ pub mod unsound;
 pub mod words;
 
 // "the record has their sizes and the number p"; with them "C (cached blocks, its d) and X (extra addresses)".
-#[derive(Drop)]
+#[derive(Clone, Copy)]
 pub struct ListSizes {
     pub t1: usize,
     pub t2: usize,
@@ -23,7 +23,7 @@ pub struct ListSizes {
 }
 
 // "which list it was is remembered"
-#[derive(Drop)]
+#[derive(Clone, Copy)]
 pub enum Was {
     InT1,
     InT2,
@@ -34,7 +34,7 @@ pub enum Was {
 }
 
 // The lists from which addresses leave the box: B1, B2 and B3.
-#[derive(Drop)]
+#[derive(Clone, Copy)]
 pub enum Ghost {
     OfB1,
     OfB2,
@@ -42,7 +42,7 @@ pub enum Ghost {
 }
 
 // What is left when an address leaves, and the list that it was in.
-#[derive(Drop)]
+#[derive(Clone, Copy)]
 pub struct Left {
     pub sizes: ListSizes,
     pub was: Was,

@@ -16,7 +16,7 @@ use parts::BoxRecord;
 
 // The record of a D-ARC box: the block size B, the disk's blocks P, the addresses held n, the office label, the most dirty rows t, and the lists' sizes with
 // p, C and X.
-#[derive(Drop)]
+#[derive(Clone, Copy)]
 pub struct ArcRecord {
     pub size: usize,
     pub blocks: usize,

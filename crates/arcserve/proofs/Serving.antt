@@ -12,6 +12,7 @@ use Rattle.paper.specs.Cache as Cache
 use Rattle.paper.specs.Cache.{Seat, AddressRow, Box, Call, Word, hit, miss, answer, block_of, seat_in, row_of, row_with_block, on_disk, same_or_new, back_request}
 use Rattle.paper.specs.Cache.{excess, reach, flushed, without_address, dropped, write_invalidate}
 use Rattle.paper.specs.KeyedLaws.{all_map}
+use Rattle.paper.specs.Sound.{Sound}
 use Rattle.paper.specs.Partly.{length-partly}
 use Rattle.paper.specs.Layout.{addresses_of}
 use Rattle.paper.specs.Engine.{Fixed}
@@ -27,13 +28,12 @@ use Rattle.arc.specs.Arc.{Lists, is_in, left, base_numbers, arc, arc_step}
 use Rattle.arclists.specs.declared.ListSizes.{ListSizes}
 use Rattle.parts.specs.declared.BoxRecord.{BoxRecord}
 use Rattle.parts.specs.Rep.{Rep, Copied, copied_rows, part_box, with_held, engine, no_row}
-use Rattle.step.specs.Steps.{asks, block_bytes}
+use Rattle.step.specs.Steps.{Sure, asks, block_bytes}
 use Rattle.arcstep.specs.declared.Running.{Running}
 use Rattle.arcstep.specs.Runs.{Within, Stands, sizes_for}
 use Rattle.serve.specs.Calls.{is_yes, returned_or, HitAt}
 use Rattle.serve.specs.ServeLaws.{hit-row, rep-on_disk, sound-rep}
 use Rattle.arcserve.specs.ArcCalls.{Serves}
-use Rattle.arcserve.specs.ServedLaws.{sure-of}
 
 -- an answer with what its step left
 pub answers : (b : BoxRecord) (s : ListSizes) (lent : List ℕ) (w : Word) (o : Option (Fixed b.size)) (more : ℕ)
@@ -84,6 +84,21 @@ hit-read b s l x a i j y lent r z disk flash addrs blocks lists block disk₀ fl
     rw (hit-row b disk₀ flash₀ addrs₀ blocks₀ x h a i j q) (go (rw ez at st) refl (sym (zero-add r.primary)) eb)
 
 -- ---- writes
+-- the base's structure, with the record's own numbers
+pub sure-of : (b : BoxRecord) (s : ListSizes) (x : Box (Fixed 32) (Fixed b.size)) → b.slots ≡ s.cached → b.rows ≡ s.cached + s.cached + s.extra
+    → Sound (engine b) (base_numbers (sizes_for b s)) x → Sure b x
+sure-of b s x e1 e2 so =
+    record {
+      addresses = so.addresses;
+      below = so.below;
+      few = rw e2 so.few;
+      fingerprints = so.fingerprints;
+      slots = rw e1 so.slots;
+      dirty_cached = so.dirty_cached;
+      flash_length = so.flash_length ∙ sym e1;
+      disk_length = so.disk_length;
+    }
+
 module _ (b : BoxRecord) (s : ListSizes) (l : Lists) (x : Box (Fixed 32) (Fixed b.size)) (so : ArcSound (engine b) (sizes_for b s) l x) where
   -- every name is a number of four bytes, and none is there twice
   pub all-low : b.blocks ≤ 65536 → Low l

@@ -15,11 +15,6 @@ use Rattle.serve.specs.declared.Write.{Write}
 use Rattle.serve.specs.Calls.{is_yes, returned_or, writing, HitAt}
 use Rattle.arcserve.specs.declared.ArcServed.{ArcServed}
 
--- the sizes and p that a call left, with the box's own C and X
-abbrev pub carried_on : (own left : ListSizes) → ListSizes
-carried_on own s =
-    record { t1 = s.t1; t2 = s.t2; b1 = s.b1; b2 = s.b2; b3 = s.b3; p = s.p; cached = own.cached; extra = own.extra }
-
 -- what a read or a write needs of the box: room, a block of its size, an address on its disk, tables and lists of its lengths, C and X, and a size of the seven
 abbrev pub ArcAccess : BoxRecord → ListSizes → (a : ℕ) → (block addrs blocks lists : List ℕ) → Type 0
 ArcAccess b s a block addrs blocks lists =

@@ -13,7 +13,7 @@ use parts::{BoxRecord, copy, rows};
 use tables::{SourceAddress, shift};
 
 // What is left when a row is taken out: how many rows are held, and the blocks copied to the disk.
-#[derive(Drop)]
+#[derive(Clone, Copy)]
 pub struct Gone {
     pub held: usize,
     pub primary: usize,

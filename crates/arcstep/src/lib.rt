@@ -10,7 +10,7 @@ use arclists::{ListSizes, Was};
 
 // What runs through the parts of a step: how many rows are held, the lists' sizes with p, C and X, the blocks stored in the flash, and those copied
 // to the disk.
-#[derive(Drop)]
+#[derive(Clone, Copy)]
 pub struct Running {
     pub held: usize,
     pub sizes: ListSizes,
@@ -19,14 +19,14 @@ pub struct Running {
 }
 
 // What runs on, and the place of the block row that can be taken then, the count of block rows for none.
-#[derive(Drop)]
+#[derive(Clone, Copy)]
 pub struct Cleared {
     pub running: Running,
     pub place: usize,
 }
 
 // What runs on when the requested address has left, and the list that it was in.
-#[derive(Drop)]
+#[derive(Clone, Copy)]
 pub struct Parted {
     pub running: Running,
     pub was: Was,

@@ -2,7 +2,7 @@
 ghost use Rattle.std.specs.Prelude.{◌≡◌, ◌+◌, ◌<◌, ◌^◌};
 ghost use Rattle.counters.specs.Added.{added};
 
-#[derive(Drop)]
+#[derive(Clone, Copy)]
 pub struct Counters {
     pub reads: u64,
     pub hits: u64,

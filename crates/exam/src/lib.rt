@@ -15,7 +15,7 @@ use parts::BoxRecord;
 use search::{Four, Nine, Question, State};
 
 // The number of a refusal, 0 where there is none, and how many lists have 0, 1, up to 8 hits.
-#[derive(Drop)]
+#[derive(Clone, Copy)]
 pub struct Tally {
     pub number: u32,
     pub counts: [u64; 9],

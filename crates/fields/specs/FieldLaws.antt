@@ -1,5 +1,5 @@
 -- What is written into the state and the answer is what is read there, and nothing else is changed. Assumes nothing.
-use Rattle.std.specs.Prelude.{◌≡◌, true, List, ◌++◌, eqb, take}
+use Rattle.std.specs.Prelude.{◌≡◌, List, ◌++◌, eqb, take}
 use Rattle.std.proofs.Math.Path.{refl, sym, ap}
 use Rattle.std.proofs.Common.{◌∙◌, length-take-le}
 use Prim.Native.Nat.{ℕ, zero, suc, ◌+◌, ◌-◌, ◌*◌, ◌/◌, ◌%◌, ◌^◌, ◌≤◌, ◌<◌}
@@ -12,22 +12,14 @@ use Rattle.tables.specs.Rows.{le8}
 use Rattle.tables.specs.RowLaws.{drop-take}
 use Rattle.block.specs.Blocks.{part, splice}
 use Rattle.block.specs.Laws.{length-splice, part-splice, take-splice, part-past}
-use Rattle.paper.specs.KeyedLaws.{by-test, and_left, and_right}
+use Rattle.paper.specs.KeyedLaws.{by-test}
 use Rattle.paper.specs.Cache.{Counters}
 use Rattle.exam.specs.Contract.{counts_bytes}
 use Rattle.parts.specs.declared.BoxRecord.{BoxRecord}
 use Rattle.parts.specs.Rep.{with_held}
 use Rattle.refusals.specs.Given.{counters_of}
 use Rattle.fields.specs.Fields.{low_bytes, get8, put8, state_bytes, record_in, counters_in, put_state, put_label, put_record, put_answer, put_counts}
-use Rattle.fields.specs.Fields.{counts_after, fitting}
-
--- ---- the lengths
-
-pub lengths : (n : ℕ) (s l : List ℕ) → fitting n s l ≡ true → (state_bytes ≤ length s) × (length l ≡ n)
-unfolding fitting
-lengths n s l h =
-    let e = eqb-true (length s) state_bytes (and_left (eqb (length s) state_bytes) (eqb (length l) n) h) in
-    (omega arith, eqb-true (length l) n (and_right (eqb (length s) state_bytes) (eqb (length l) n) h))
+use Rattle.fields.specs.Fields.{counts_after}
 
 -- ---- a list written over another
 
@@ -124,7 +116,7 @@ module _ (at v : ℕ) (s : List ℕ) (h : at + 8 ≤ length s) where
 
 -- ---- the state
 
-module _ (n : ℕ) (k : Counters) (s : List ℕ) (h : state_bytes ≤ length s) where
+module _ (n : ℕ) (k : Counters) (s : List ℕ) (h : length s ≡ state_bytes) where
   abbrev s₁ : List ℕ
   s₁ = put8 32 n s
 
@@ -137,19 +129,19 @@ module _ (n : ℕ) (k : Counters) (s : List ℕ) (h : state_bytes ≤ length s) 
   abbrev s₄ : List ℕ
   s₄ = put8 56 k.flash_writes s₃
 
-  l₁ : length s₁ ≡ length s
-  l₁ = length-put8 32 n s (omega arith)
+  l₁ : length s₁ ≡ state_bytes
+  l₁ = length-put8 32 n s (omega arith) ∙ h
 
-  l₂ : length s₂ ≡ length s
+  l₂ : length s₂ ≡ state_bytes
   l₂ = length-put8 40 k.reads s₁ (omega (arith, l₁)) ∙ l₁
 
-  l₃ : length s₃ ≡ length s
+  l₃ : length s₃ ≡ state_bytes
   l₃ = length-put8 48 k.hits s₂ (omega (arith, l₂)) ∙ l₂
 
-  l₄ : length s₄ ≡ length s
+  l₄ : length s₄ ≡ state_bytes
   l₄ = length-put8 56 k.flash_writes s₃ (omega (arith, l₃)) ∙ l₃
 
-  pub length-put_state : length (put_state n k s) ≡ length s
+  pub length-put_state : length (put_state n k s) ≡ state_bytes
   unfolding put_state
   length-put_state = length-put8 64 k.primary_writes s₄ (omega (arith, l₄)) ∙ l₄
 
@@ -233,13 +225,13 @@ module _ (n : ℕ) (k : Counters) (s : List ℕ) (h : state_bytes ≤ length s) 
 
 -- ---- the label
 
-module _ (label s : List ℕ) (h : state_bytes ≤ length s) (l : length label ≡ 64) where
+module _ (label s : List ℕ) (h : length s ≡ state_bytes) (l : length label ≡ 64) where
   room : 72 + length label ≤ length s
   room = omega arith
 
-  pub length-put_label : length (put_label label s) ≡ length s
+  pub length-put_label : length (put_label label s) ≡ state_bytes
   unfolding put_label
-  length-put_label = length-splice 72 label s room
+  length-put_label = length-splice 72 label s room ∙ h
 
   -- it is read where it is written, and the numbers before it and after it stay
   pub label-back : part 72 64 (put_label label s) ≡ label
@@ -260,7 +252,7 @@ module _ (label s : List ℕ) (h : state_bytes ≤ length s) (l : length label �
 
 -- ---- the box record
 
-module _ (b : BoxRecord) (s : List ℕ) (h : state_bytes ≤ length s) (l : length b.label ≡ 64) where
+module _ (b : BoxRecord) (s : List ℕ) (h : length s ≡ state_bytes) (l : length b.label ≡ 64) where
   abbrev r₁ : List ℕ
   r₁ = put8 0 b.size s
 
@@ -279,35 +271,32 @@ module _ (b : BoxRecord) (s : List ℕ) (h : state_bytes ≤ length s) (l : leng
   abbrev r₆ : List ℕ
   r₆ = put_label b.label r₅
 
-  h₁ : length r₁ ≡ length s
-  h₁ = length-put8 0 b.size s (omega arith)
+  h₁ : length r₁ ≡ state_bytes
+  h₁ = length-put8 0 b.size s (omega arith) ∙ h
 
-  h₂ : length r₂ ≡ length s
+  h₂ : length r₂ ≡ state_bytes
   h₂ = length-put8 8 b.blocks r₁ (omega (arith, h₁)) ∙ h₁
 
-  h₃ : length r₃ ≡ length s
+  h₃ : length r₃ ≡ state_bytes
   h₃ = length-put8 16 b.rows r₂ (omega (arith, h₂)) ∙ h₂
 
-  h₄ : length r₄ ≡ length s
+  h₄ : length r₄ ≡ state_bytes
   h₄ = length-put8 24 b.slots r₃ (omega (arith, h₃)) ∙ h₃
 
-  h₅ : length r₅ ≡ length s
+  h₅ : length r₅ ≡ state_bytes
   h₅ = length-put8 32 b.held r₄ (omega (arith, h₄)) ∙ h₄
 
-  enough : state_bytes ≤ length r₅
-  enough = omega (arith, h₅)
+  h₆ : length r₆ ≡ state_bytes
+  h₆ = length-put_label b.label r₅ h₅ l
 
-  h₆ : length r₆ ≡ length s
-  h₆ = length-put_label b.label r₅ enough l ∙ h₅
-
-  pub length-put_record : length (put_record b s) ≡ length s
+  pub length-put_record : length (put_record b s) ≡ state_bytes
   unfolding put_record
   length-put_record = length-put8 136 b.limit r₆ (omega (arith, h₆)) ∙ h₆
 
   -- a number before the label is as it was before the label and the limit were written
   first-numbers : (i : ℕ) → i + 8 ≤ 72 → get8 (put_record b s) i ≡ get8 r₅ i
   unfolding put_record
-  first-numbers i k = get8-before 136 b.limit r₆ (omega (arith, h₆)) i (omega arith) ∙ get8-label b.label r₅ enough l i k
+  first-numbers i k = get8-before 136 b.limit r₆ (omega (arith, h₆)) i (omega arith) ∙ get8-label b.label r₅ h₅ l i k
 
   size-put : b.size < 2 ^ 64 → get8 (put_record b s) 0 ≡ b.size
   size-put v =
@@ -348,7 +337,7 @@ module _ (b : BoxRecord) (s : List ℕ) (h : state_bytes ≤ length s) (l : leng
       sym (drop-take 72 64 (splice 136 (low_bytes 8 b.limit) r₆))
       ∙ ap (drop 72) (take-splice 136 8 (low_bytes 8 b.limit) r₆ refl (omega (arith, h₆)))
       ∙ drop-take 72 64 r₆
-      ∙ label-back b.label r₅ enough l
+      ∙ label-back b.label r₅ h₅ l
 
   limit-put : b.limit < 2 ^ 64 → get8 (put_record b s) 136 ≡ b.limit
   unfolding put_record

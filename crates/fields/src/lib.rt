@@ -72,7 +72,7 @@ pub fn fit(n: usize, state: &[u8], answer: &[u8]) -> bool
 
 // The label in the state.
 pub(crate) fn label_in(state: &[u8]) -> [u8; 64]
-    requires { state_bytes ≤ length state.now }
+    requires { length state.now ≡ state_bytes }
     ensures { result ≡ part 72 64 state.now }
 {
     let mut label = [0u8; 64];
@@ -82,7 +82,7 @@ pub(crate) fn label_in(state: &[u8]) -> [u8; 64]
 
 // The box record in the state.
 pub fn record_in(state: &[u8]) -> BoxRecord
-    requires { state_bytes ≤ length state.now }
+    requires { length state.now ≡ state_bytes }
     ensures { result ≡ record_in state.now }
 {
     let label = label_in(state);
@@ -99,7 +99,7 @@ pub fn record_in(state: &[u8]) -> BoxRecord
 
 // The counters in the state.
 pub fn counters_in(state: &[u8]) -> Counters
-    requires { state_bytes ≤ length state.now }
+    requires { length state.now ≡ state_bytes }
     ensures { result ≡ counters_in state.now }
 {
     Counters {
@@ -112,7 +112,7 @@ pub fn counters_in(state: &[u8]) -> Counters
 
 // Writes n and the counters into the state.
 pub fn put_state(state: &mut [u8], held: usize, c: Counters)
-    requires { state_bytes ≤ length state.old }
+    requires { length state.old ≡ state_bytes }
     ensures { state.new ≡ put_state held (counters_of c) state.old }
 {
     put8(state, 32, held as u64);
@@ -174,7 +174,7 @@ pub fn word_number(w: Word) -> u64
 
 // Writes what a call tells into the state and the answer. The number of the refusal, 0 where the call was served.
 pub fn write_outcome(state: &mut [u8], answer: &mut [u8], o: Outcome) -> u32
-    requires { (state_bytes ≤ length state.old) × (length answer.old ≡ 24) }
+    requires { (length state.old ≡ state_bytes) × (length answer.old ≡ 24) }
     ensures { record { number = result; state = state.new; answer = answer.new }
         ≡ noted (answer_of o.answer) o.box_record.held (counters_of o.counters) state.old answer.old }
 {
@@ -193,7 +193,7 @@ pub fn write_outcome(state: &mut [u8], answer: &mut [u8], o: Outcome) -> u32
 
 // The same of a folder read.
 pub fn write_many(state: &mut [u8], answer: &mut [u8], o: many::Outcome) -> u32
-    requires { (state_bytes ≤ length state.old) × (length answer.old ≡ 32) }
+    requires { (length state.old ≡ state_bytes) × (length answer.old ≡ 32) }
     ensures { record { number = result; state = state.new; answer = answer.new }
         ≡ noted_many (many_answer_of o.answer) o.box_record.held (counters_of o.counters) state.old answer.old }
 {
@@ -211,10 +211,10 @@ pub fn write_many(state: &mut [u8], answer: &mut [u8], o: many::Outcome) -> u32
 }
 
 // Writes n of an opening into the state, and the counters where it was served.
-pub fn put_opening(state: &mut [u8], number: u32, held: usize, c: Counters)
-    requires { state_bytes ≤ length state.old }
+pub(crate) fn put_opening(state: &mut [u8], number: u32, held: usize, c: Counters)
+    requires { length state.old ≡ state_bytes }
     ensures state_after { state.new ≡ cond (eqb number 0) (put_state held (counters_of c) state.old) (put8 32 held state.old) }
-    ensures state_len_unchanged { length state.new ≡ length state.old }
+    ensures state_len { length state.new ≡ state_bytes }
 {
     if number == 0 {
         put_state(state, held, c);
@@ -224,8 +224,8 @@ pub fn put_opening(state: &mut [u8], number: u32, held: usize, c: Counters)
 }
 
 // Writes a label into the state.
-pub fn put_label(state: &mut [u8], label: [u8; 64])
-    requires { state_bytes ≤ length state.old }
+pub(crate) fn put_label(state: &mut [u8], label: [u8; 64])
+    requires { length state.old ≡ state_bytes }
     ensures { state.new ≡ put_label label state.old }
 {
     block::put(&label, state, 72);
@@ -233,7 +233,7 @@ pub fn put_label(state: &mut [u8], label: [u8; 64])
 
 // Writes the box record into the state; the counters stay.
 pub fn put_record(state: &mut [u8], b: BoxRecord)
-    requires { state_bytes ≤ length state.old }
+    requires { length state.old ≡ state_bytes }
     ensures { state.new ≡ put_record b state.old }
 {
     put8(state, 0, b.size as u64);
@@ -248,7 +248,7 @@ pub fn put_record(state: &mut [u8], b: BoxRecord)
 
 // Writes what an opening tells into the state: n and the label, and the counters where it was served. The number of the refusal, 0 where the box is open.
 pub fn write_opening(state: &mut [u8], o: Begun) -> u32
-    requires { state_bytes ≤ length state.old }
+    requires { length state.old ≡ state_bytes }
     ensures { (result ≡ opening_number o.answer) × (state.new ≡ state_opened (opening_number o.answer) o.box_record.held
         (counters_of o.counters) o.box_record.label state.old) }
 {
@@ -263,7 +263,7 @@ pub fn write_opening(state: &mut [u8], o: Begun) -> u32
 }
 
 // The number of an opening's answer.
-pub fn opening_number(a: Opening) -> u32
+fn opening_number(a: Opening) -> u32
     ensures { result ≡ opening_number a }
 {
     match a {

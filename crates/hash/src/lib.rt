@@ -11,7 +11,7 @@ ghost use Rattle.hash.specs.Words.{words};
 use constants::K;
 
 // A hash value H0 to H7, or the working variables a to h.
-#[derive(Drop)]
+#[derive(Clone, Copy)]
 pub struct State {
     pub a: u32,
     pub b: u32,

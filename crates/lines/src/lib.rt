@@ -4,7 +4,7 @@ pub mod parse;
 mod words;
 
 // A line of a list: the box line with B, P, m and d, a call with its address and the byte that fills its block, or no line of the form.
-#[derive(Drop)]
+#[derive(Clone, Copy)]
 pub enum Command {
     Box(u32, u32, u32, u32),
     Read(u32),

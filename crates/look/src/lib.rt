@@ -12,7 +12,7 @@ use policy::{Answer, Word};
 use tables::{FlashSlot, SourceAddress};
 
 // Where the block of an address is, or the number of the refusal.
-#[derive(Drop)]
+#[derive(Clone, Copy)]
 pub enum Place {
     Refused(u32),
     Flash(FlashSlot),

@@ -9,14 +9,14 @@ use counters::Counters;
 use parts::BoxRecord;
 
 // The answer of an opening.
-#[derive(Drop)]
+#[derive(Clone, Copy)]
 pub enum Opening {
     Refused(u32),
     Open,
 }
 
 // What an opening gives back: its answer, the box record and the counters.
-#[derive(Drop)]
+#[derive(Clone, Copy)]
 pub struct Begun {
     pub answer: Opening,
     pub box_record: BoxRecord,

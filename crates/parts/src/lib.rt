@@ -8,7 +8,7 @@ ghost use Rattle.parts.specs.Rep.{with_held, empty_box};
 
 // The box record: the block size B, the disk's blocks P, the most addresses held m, the cached blocks d, the addresses held n, the office label, and
 // the most dirty rows t.
-#[derive(Drop)]
+#[derive(Clone, Copy)]
 pub struct BoxRecord {
     pub size: usize,
     pub blocks: usize,

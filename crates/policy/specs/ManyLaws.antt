@@ -24,12 +24,6 @@ use Rattle.policy.specs.declared.many.Answer.TheVariants.{Refused, Batched}
 use Rattle.policy.specs.Contract.{ToldMany, told_many, called_many}
 use Rattle.policy.specs.CallLaws.{passes-rep}
 
--- numbers that are all below P, one by one
-pub each_below : (P : ℕ) (xs : List ℕ) → All (λ a. a < P) xs → (j : ℕ) → j < length xs → get_or xs j 0 < P
-each_below P [] w j h = absurd (omega arith)
-each_below P (x ∷ xs) w zero h = w.0
-each_below P (x ∷ xs) w (suc j) h = each_below P xs w.1 j (le_of_suc-le-suc h)
-
 module _ (b : BoxRecord) (disk flash addresses blocks : List ℕ) (k : Counters) (l buffer : List ℕ)
     (z : batch_refusal (numbers_of b) (lent b disk flash addresses blocks k) l buffer ≡ 0) where
   abbrev pub found : Finds (numbers_of b) (lent b disk flash addresses blocks k) l buffer
@@ -43,7 +37,12 @@ module _ (b : BoxRecord) (disk flash addresses blocks : List ℕ) (k : Counters)
   )
 
   pub within : (j : ℕ) → j < length l → get_or l j 0 < b.blocks
-  within = each_below b.blocks l found.within
+  within = go l found.within
+    where
+      go : (xs : List ℕ) → All (λ a. a < b.blocks) xs → (j : ℕ) → j < length xs → get_or xs j 0 < b.blocks
+      go [] w j h = absurd (omega arith)
+      go (x ∷ xs) w zero h = w.0
+      go (x ∷ xs) w (suc j) h = go xs w.1 j (le_of_suc-le-suc h)
 
 -- a refused one
 pub keep : (b : BoxRecord) (disk flash addresses blocks : List ℕ) (c : Code.Counters) (l buffer : List ℕ) (n : ℕ)
@@ -57,7 +56,7 @@ keep b disk flash addresses blocks c l buffer n e q =
     rw (w, e) refl
 
 -- the sums of 64 reads fit
-pub fitting : (c : Code.Counters) (n h f p : ℕ) → over (counters_of c) ≡ false → n ≤ 64 → h ≤ n → f ≤ n → p ≤ n * 2050
+pub fitting : (c : Code.Counters) (n h f p : ℕ) → over (counters_of c) ≡ false → n ≤ 64 → h ≤ n → f ≤ n → p ≤ n * 1026
     → (c.reads + n < 2 ^ 64) × (c.hits + h < 2 ^ 64) × (c.flash + f < 2 ^ 64) × (c.primary + p < 2 ^ 64)
 fitting c n h f p e ln lh lf lp =
     let x = not-over (counters_of c) e in
@@ -85,21 +84,21 @@ finish b disk flash addresses blocks c l buffer z s disk' flash' addresses' bloc
     let n = numbers_of b in
     let u = lent b disk flash addresses blocks (counters_of c) in
     let long = lb ∙ (batch-finds n u l buffer z).long in
-    let eb = sym (take_all (length l * b.size) buffer' (rw long (omega arith))) ∙ w.told.filled_is in
+    let eb = sym (take_all (length l * b.size) buffer' (rw long (omega arith))) ∙ w.filled_is in
     let x = w.box-is in
     let last = sym (batch-served n u l buffer z) in
     ◌∙◌ {A = ToldMany}
     (λ i. record {
       numbers = n;
       after = record {
-        answer = batched (sym w.told.hits-are i) (sym w.told.flashed-is i) (sym w.told.primary-is i) (sym w.told.fetches-are i);
+        answer = batched (sym w.hits-are i) (sym w.flashed-is i) (sym w.primary-is i) (sym w.fetches-are i);
         lent = record {
           n = sym x.rows_are.count i;
           disk = x.disk-is.is i;
           flash = x.flash-is.is i;
           addresses = x.rows_are.is i;
           blocks = x.blocks-are.is i;
-          counters = sym w.told.counters-are i;
+          counters = sym w.counters-are i;
         };
         buffer = eb i;
       };

@@ -18,7 +18,7 @@ use serve::{Served, Write};
 use tables::SourceAddress;
 
 // What a call gives back: its answer, the box record and the counters.
-#[derive(Drop)]
+#[derive(Clone, Copy)]
 pub struct Outcome {
     pub answer: Answer,
     pub box_record: BoxRecord,

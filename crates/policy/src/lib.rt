@@ -3,7 +3,7 @@ pub mod calls;
 pub mod many;
 
 // The word of an answer.
-#[derive(Drop)]
+#[derive(Clone, Copy)]
 pub enum Word {
     Hit,
     Miss,
@@ -15,7 +15,7 @@ pub enum Word {
 }
 
 // An answer: the number of a refusal, or the word with the flash writes and the primary writes.
-#[derive(Drop)]
+#[derive(Clone, Copy)]
 pub enum Answer {
     Refused(u32),
     Answered(Word, usize, usize),

@@ -12,14 +12,14 @@ use refusals::many;
 use turns::Sums;
 
 // An answer: the number of a refusal, or the hits, the flash writes, the primary writes and the fetches.
-#[derive(Drop)]
+#[derive(Clone, Copy)]
 pub enum Answer {
     Refused(u32),
     Batched(usize, usize, usize, usize),
 }
 
 // What the call gives back: its answer, the box record and the counters.
-#[derive(Drop)]
+#[derive(Clone, Copy)]
 pub struct Outcome {
     pub answer: Answer,
     pub box_record: BoxRecord,

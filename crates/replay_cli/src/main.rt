@@ -88,7 +88,7 @@ fn run(
 }
 
 // What a turn took: how many bytes it read, and the session after them.
-#[derive(Drop)]
+#[derive(Clone, Copy)]
 struct Taken {
     count: usize,
     session: Session,

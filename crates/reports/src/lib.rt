@@ -12,7 +12,7 @@ use parts::{BoxRecord, rows};
 use tables::row;
 
 // Whose report it is.
-#[derive(Drop)]
+#[derive(Clone, Copy)]
 pub enum Reader {
     Manager,
     Desk,

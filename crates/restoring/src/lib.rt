@@ -172,7 +172,7 @@ pub(crate) fn body_in<'a>(area: &'a [u8]) -> &'a [u8]
 }
 
 // What a restore finds in a body: the record, and where the tables and the lists lie, from `start` on, as long as these numbers say.
-#[derive(Drop)]
+#[derive(Clone, Copy)]
 pub(crate) struct Found {
     pub arc_record: ArcRecord,
     pub start: usize,
@@ -306,7 +306,7 @@ pub(crate) fn take_box(
 }
 
 // What a restore gives back: the number of its refusal, 0 where it is served, and the record of a box of either kind, by the first number of the body.
-#[derive(Drop)]
+#[derive(Clone, Copy)]
 pub struct Restored {
     pub number: u32,
     pub box_record: BoxRecord,

@@ -20,7 +20,7 @@ use step::steps;
 use tables::{SourceAddress, find, row};
 
 // What a served call tells: whether its word is the first of its two, the rows held, and its flash and primary writes.
-#[derive(Drop)]
+#[derive(Clone, Copy)]
 pub struct Served {
     pub yes: bool,
     pub held: usize,
@@ -29,7 +29,7 @@ pub struct Served {
 }
 
 // The kinds of write.
-#[derive(Drop)]
+#[derive(Clone, Copy)]
 pub enum Write {
     Through,
     Back,

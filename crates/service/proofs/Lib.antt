@@ -1,4 +1,5 @@
 pub mod Noting
 pub mod Reporting
 pub mod Opening
+pub mod Warming
 pub mod Looked

@@ -4,16 +4,29 @@ use mathlib.Core.Bool.{true, false}
 use mathlib.Core.List.{List}
 use mathlib.Core.Option.{Option}
 use Prim.Native.Nat.{ℕ}
+use lib.Dec.{eqb}
+use lib.ListN.{length}
+use borrow.Author.Tests.{eqb-true}
 use Rattle.counters.specs.declared.Counters as Code
+use Rattle.paper.specs.KeyedLaws.{and_left, and_right}
 use Rattle.paper.specs.Lent.{Ask, lent_block}
 use Rattle.parts.specs.declared.BoxRecord.{BoxRecord}
 use Rattle.policy.specs.declared.calls.Outcome.{Outcome}
 use Rattle.refusals.specs.Given.{counters_of, lent}
 use Rattle.policy.specs.declared.many.Outcome as Many
 use Rattle.policy.specs.Contract.{answer_of, Told, told, called, many_answer_of, ToldMany, told_many, called_many}
-use Rattle.fields.specs.Fields.{record_in, counters_in, fitting}
+use Rattle.fields.specs.Fields.{record_in, counters_in, fitting, state_bytes}
 use Rattle.fields.specs.Noted.{Noted, noted, noted_many}
-use Rattle.left.specs.Left.{Left, lent_in, told_in, leaves, LeftMany, told_many_in, leaves_many}
+use Rattle.service.specs.Left.{Left, lent_in, told_in, leaves, LeftMany, told_many_in, leaves_many}
+
+-- ---- the lengths
+
+pub lengths : (n : ℕ) (s l : List ℕ) → fitting n s l ≡ true → (length s ≡ state_bytes) × (length l ≡ n)
+unfolding fitting
+lengths n s l h = (
+  eqb-true (length s) state_bytes (and_left (eqb (length s) state_bytes) (eqb (length l) n) h),
+  eqb-true (length l) n (and_right (eqb (length s) state_bytes) (eqb (length l) n) h),
+)
 
 -- ---- a call
 

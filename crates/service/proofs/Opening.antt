@@ -12,7 +12,7 @@ use Rattle.refusals.specs.Given.{counters_of}
 use Rattle.open.specs.Contract.{opening_number, Opened, begun, opens}
 use Rattle.fields.specs.Fields.{record_in, counters_in, state_bytes}
 use Rattle.fields.specs.Noted.{state_opened}
-use Rattle.left.specs.Left.{LeftOpen, fresh_record, opened_in, leaves_open}
+use Rattle.service.specs.Left.{LeftOpen, fresh_record, opened_in, leaves_open}
 
 module _ (label s disk flash addresses blocks : List ℕ) where
   -- a wrong length: nothing is changed

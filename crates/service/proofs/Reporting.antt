@@ -11,7 +11,7 @@ use Rattle.parts.specs.Rep.{numbers_of}
 use Rattle.refusals.specs.Given.{counters_of, lent}
 use Rattle.reports.specs.Contract.{Reported, reports}
 use Rattle.fields.specs.Fields.{record_in, counters_in, state_bytes}
-use Rattle.left.specs.Left.{leaves_report}
+use Rattle.service.specs.Left.{leaves_report}
 
 module _ (w : Reader) (s disk flash addresses blocks report : List ℕ) where
   pub not-reported : (length s ≡ state_bytes → ⊥) → ◌≡◌ {A = Reported} (record { number = 2; report = report }) (leaves_report w s disk flash addresses blocks report)

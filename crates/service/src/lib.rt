@@ -1,5 +1,6 @@
 // The service that C calls: numbers and byte slices. Each call reads the box record and the counters in the state's bytes,
 // does the cache's call, and writes what it tells into the state and the answer.
+pub mod warm;
 
 ghost use Rattle.std.specs.Prelude.{◌≡◌, true};
 ghost use Rattle.std.proofs.Math.Option.{Option};
@@ -9,7 +10,7 @@ ghost use Rattle.paper.specs.Reports.{manager, desk};
 ghost use Rattle.policy.specs.Contract.{ask_of};
 ghost use Rattle.reports.specs.Contract.{reader_of};
 ghost use Rattle.fields.specs.Fields.{record_in, fitting};
-ghost use Rattle.left.specs.Left.{lent_in, leaving, leaves, leaves_many, leaves_open, leaves_look, leaves_report, Shows, leaves_scores};
+ghost use Rattle.service.specs.Left.{lent_in, leaving, leaves, leaves_many, leaves_open, leaves_look, leaves_report, Shows, leaves_scores};
 
 use reports::Reader;
 use serve::Write;

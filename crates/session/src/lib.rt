@@ -6,7 +6,7 @@ use parts::BoxRecord;
 
 // What is carried from byte to byte beside the lent buffers: 0 before the box line, 1 while the box is open, and above that at the end;
 // how many bytes of the line are kept; the next call's number; the box record and the counters.
-#[derive(Drop)]
+#[derive(Clone, Copy)]
 pub struct Session {
     pub stage: u8,
     pub kept: usize,
@@ -16,7 +16,7 @@ pub struct Session {
 }
 
 // What a byte gives: the session after it, and how many bytes of text it put into the output.
-#[derive(Drop)]
+#[derive(Clone, Copy)]
 pub struct Fed {
     pub session: Session,
     pub filled: usize,

@@ -20,7 +20,7 @@ use parts::{BoxRecord, copy, rows};
 use tables::{FlashSlot, SourceAddress, put, row, shift};
 
 // What step 1 tells: how many rows are held then, the place of the fingerprint taken out, and the blocks copied to the disk.
-#[derive(Drop)]
+#[derive(Clone, Copy)]
 pub struct Out {
     pub held: usize,
     pub place: usize,
@@ -208,7 +208,7 @@ pub(crate) fn store(
 }
 
 // What step 4 tells: the blocks stored in the flash, and those copied to the disk.
-#[derive(Drop)]
+#[derive(Clone, Copy)]
 pub struct Wrote {
     pub flashed: usize,
     pub primary: usize,
@@ -259,7 +259,7 @@ pub(crate) fn step4(
 }
 
 // What a step tells: how many rows are held, the blocks stored in the flash, and those copied to the disk.
-#[derive(Drop)]
+#[derive(Clone, Copy)]
 pub struct Done {
     pub held: usize,
     pub flashed: usize,

@@ -8,15 +8,15 @@ pub mod row;
 pub mod shift;
 
 // A source address, a block number of the disk.
-#[derive(Drop)]
+#[derive(Clone, Copy)]
 pub struct SourceAddress(pub u32);
 
 // A slot, a block number of the flash.
-#[derive(Drop)]
+#[derive(Clone, Copy)]
 pub struct FlashSlot(pub u32);
 
 // A row's index, if there is such a row.
-#[derive(Drop)]
+#[derive(Clone, Copy)]
 pub enum Found {
     At(usize),
     Nothing,

@@ -35,7 +35,7 @@ const SEAT_HIGH: usize = 38;
 const LAST: usize = 39;
 
 // Which number of a row: an address row's address, or a block row's slot.
-#[derive(Drop)]
+#[derive(Clone, Copy)]
 pub(crate) enum Number {
     Address,
     Slot,

@@ -11,13 +11,14 @@ ghost use Rattle.paper.specs.CallLaws.{Fits};
 ghost use Rattle.parts.specs.Rep.{numbers_of, Rep, engine};
 ghost use Rattle.step.specs.Steps.{Sure};
 ghost use Rattle.serve.specs.Calls.{LentSound};
-ghost use Rattle.turns.specs.Turns.{with_read, Turned, Lends};
+ghost use Rattle.turns.specs.Turns.{Turned, Lends};
 
 use parts::BoxRecord;
+use serve::Served;
 use tables::{SourceAddress, moves};
 
 // What the reads so far have told: the rows held, and the sums of their hits, flash writes, primary writes and fetches.
-#[derive(Drop)]
+#[derive(Clone, Copy)]
 pub struct Sums {
     pub held: usize,
     pub hits: usize,
@@ -27,7 +28,7 @@ pub struct Sums {
 }
 
 // 1 for yes.
-pub fn one_if(yes: bool) -> usize
+pub(crate) fn one_if(yes: bool) -> usize
     ensures value { result ≡ cond yes 1 0 }
     ensures upper_bound { result ≤ 1 }
 {
@@ -38,7 +39,7 @@ pub fn one_if(yes: bool) -> usize
 }
 
 // 1 for a fetch: the first read of an address, where it is a miss.
-pub fn fetch_if(first: bool, hit: bool) -> usize
+pub(crate) fn fetch_if(first: bool, hit: bool) -> usize
     ensures value { result ≡ cond (first && not hit) 1 0 }
     ensures upper_bound { result ≤ 1 }
 {
@@ -49,23 +50,29 @@ pub fn fetch_if(first: bool, hit: bool) -> usize
 }
 
 // The sums with those of one read more.
-pub fn summed(t: Sums, held: usize, yes: bool, flashed: usize, primary: usize, first: bool) -> Sums
-    requires { (t.hits ≤ 64) × (t.flashed ≤ 64) × (t.primary ≤ 131200) × (t.fetches ≤ 64) × (flashed ≤ 1) × (primary ≤ 2050) }
-    ensures { result ≡ with_read t held yes flashed primary first }
+pub(crate) fn summed(t: Sums, s: Served, first: bool) -> Sums
+    requires { (t.hits ≤ 64) × (t.flashed ≤ 64) × (t.primary ≤ 65664) × (t.fetches ≤ 64) × (s.flashed ≤ 1) × (s.primary ≤ 1026) }
+    ensures { result ≡ record {
+      held = s.held;
+      hits = t.hits + cond s.yes 1 0;
+      flashed = t.flashed + s.flashed;
+      primary = t.primary + s.primary;
+      fetches = t.fetches + cond (first && not s.yes) 1 0;
+    } }
 {
-    let h = one_if(yes);
-    let f = fetch_if(first, yes);
+    let h = one_if(s.yes);
+    let f = fetch_if(first, s.yes);
     Sums {
-        held: held,
+        held: s.held,
         hits: t.hits + h,
-        flashed: t.flashed + flashed,
-        primary: t.primary + primary,
+        flashed: t.flashed + s.flashed,
+        primary: t.primary + s.primary,
         fetches: t.fetches + f,
     }
 }
 
 // The index of the first of the addresses that is the one at `k`.
-pub fn first_of(asked: &[u32], k: usize) -> usize
+pub(crate) fn first_of(asked: &[u32], k: usize) -> usize
     requires { k < length asked.now }
     ensures { (result ≤ k) × (result ≡ index_where (λ x. eqb (get_or asked.now k 0) x) (take k asked.now)) }
 {
@@ -80,7 +87,7 @@ pub fn first_of(asked: &[u32], k: usize) -> usize
 }
 
 // Where `i` is below `k`, block `i` of the buffer is written over its block `k`.
-pub fn bring(buffer: &mut [u8], i: usize, k: usize, size: usize)
+pub(crate) fn bring(buffer: &mut [u8], i: usize, k: usize, size: usize)
     requires { (k * size + size ≤ length buffer.old) × (k < 64) × (size ≤ 4096) }
     ensures { buffer.new
         ≡ cond (ltb i k) (splice (k * size) (part (i * size) size buffer.old) buffer.old) buffer.old }
@@ -127,7 +134,7 @@ pub(crate) fn land(
         blocks,
         &mut buffer[at..end],
     );
-    summed(t, s.held, s.yes, s.flashed, s.primary, first)
+    summed(t, s, first)
 }
 
 // The read at `k`.

@@ -14,7 +14,7 @@ use serve::Served;
 use tables::SourceAddress;
 
 // The index of the block rows of a sound box; `heads` is 0 everywhere at first.
-pub fn index_rows(b: BoxRecord, blocks: &[u8], heads: &mut [u16])
+pub(crate) fn index_rows(b: BoxRecord, blocks: &[u8], heads: &mut [u16])
     requires blank { Blank heads.old }
     requires by_index { (disk : List ℕ) × (flash : List ℕ) × (addrs : List ℕ) × LentSound b disk flash addrs blocks.now }
     ensures { Indexed b.slots blocks.now heads.new }

@@ -1,14 +1,17 @@
 //! Images of a box in a lent area (document 02, U10): their bytes, the writes of a save, what a power cut leaves of them, and both calls with their refusals.
-use crate::arc::{ArcNumbers, WORD};
 use crate::lent::first_of;
 use crate::*;
 
 /// "The header is the area's first 64 bytes", and a body is written "in writes of 64 bytes".
 pub const HEADER: usize = 64;
 pub const WRITE: usize = 64;
-/// The refusals that a save checks, in the order of the documents: those of a flush, and 14 "in a save after all else". Of a D-ARC box 11 stands for 1.
+/// "0, B, P, m, d, n, t [..] 4 bytes each", before the label.
+pub const BODY_NUMBERS: usize = 28;
+/// "1, B, P, C, X, n, t, p and the five list sizes": those of a D-ARC box.
+const ARC_NUMBERS: usize = 52;
+/// The refusals that a save checks, in the order of the documents: those of a flush, and 14 "in a save after all else".
 pub const SAVE_CHECKS: [u32; 9] = [1, 12, 2, 6, 7, 8, 13, 9, 14];
-/// Those that a restore checks. A state of another length than the lists' length asks for comes before them.
+/// Those that a restore checks. A state that is not 144 bytes comes before them.
 pub const RESTORE_CHECKS: [u32; 4] = [15, 14, 16, 2];
 /// What 16 asks of the box in a body.
 const BOX_CHECKS: [u32; 6] = [1, 12, 6, 7, 8, 13];
@@ -31,32 +34,16 @@ pub fn header_length(bytes: &[u8]) -> Option<u32> {
     (bytes.get(..HEADER)? == header(length)).then_some(length)
 }
 
-/// How many numbers of "4 bytes each" a body has before the label: "0, B, P, m, d, n, t, or for D-ARC 1, B, P, C, X, n, t, p and the five list sizes".
-pub fn body_numbers(kind: Kind) -> usize {
-    match kind {
-        Kind::Lru => 7,
-        Kind::Arc => 13,
-    }
-}
-
-/// The body of a box: its numbers, "then label, tables and lists", as they are.
+/// The body of a box: its numbers, its label and its tables, as they are.
 pub fn body(lent: &Lent) -> Vec<u8> {
     let Numbers { b, p, m, d, n, label, t, .. } = lent.numbers();
-    let (numbers, lists) = match lent.kind {
-        Kind::Lru => (vec![0, b, p, m, d, n, t], &[][..]),
-        Kind::Arc => {
-            let ArcNumbers { c, x, adaptive, sizes, .. } = lent.arc_numbers();
-            ([&[1, b, p, c, x, n, t, adaptive][..], &sizes].concat(), &lent.lists[..])
-        }
-    };
-    let bytes = numbers.iter().flat_map(|number| u32::try_from(*number).expect("a number of a box that is saved").to_le_bytes());
-    [&bytes.collect::<Vec<u8>>()[..], &label, &lent.addresses, &lent.blocks, lists].concat()
+    let numbers = [0, b, p, m, d, n, t].map(|number| u32::try_from(number).expect("a number of a box that is saved").to_le_bytes());
+    [&numbers.concat()[..], &label, &lent.addresses, &lent.blocks].concat()
 }
 
-/// The length of a body with so many address rows and block rows, in numbers of 128 bits, in which no product is too large.
-pub fn body_length(kind: Kind, m: u128, d: u128) -> u128 {
-    let lists = if kind == Kind::Arc { m * WORD as u128 } else { 0 };
-    (body_numbers(kind) * 4 + LABEL) as u128 + (m + d) * ROW as u128 + lists
+/// The length of a body of so many address rows and block rows, in numbers of 128 bits, in which no product is too large.
+pub fn body_length(m: u64, d: u64) -> u128 {
+    (BODY_NUMBERS + LABEL) as u128 + (m as u128 + d as u128) * ROW as u128
 }
 
 /// The length of an area that has room for header, body and fill, and for no byte more.
@@ -65,14 +52,18 @@ pub fn area_length(body_length: u128) -> u128 {
 }
 
 /// The same for a box of so many rows that can be saved.
-pub fn room(kind: Kind, m: usize, d: usize) -> usize {
-    area_length(body_length(kind, m as u128, d as u128)) as usize
+pub fn room(m: usize, d: usize) -> usize {
+    area_length(body_length(m as u64, d as u64)) as usize
 }
 
 /// The writes of a save of this box, in their order: "The first write clears the header, the next ones fill the body in rising order, the last one writes the
 /// header", with "zeros filling the last" of the body.
 pub fn writes(lent: &Lent) -> Vec<Write> {
-    let body = body(lent);
+    writes_of(&body(lent))
+}
+
+/// The same for a body of either kind of box.
+pub(crate) fn writes_of(body: &[u8]) -> Vec<Write> {
     let part = |k: usize| std::array::from_fn(|i| body.get(k * WRITE + i).copied().unwrap_or(0));
     let parts = (0..body.len().div_ceil(WRITE)).map(|k| (HEADER + k * WRITE, part(k)));
     [(0, [0; HEADER])].into_iter().chain(parts).chain([(0, header(body.len() as u32))]).collect()
@@ -102,7 +93,7 @@ pub fn refusal_save(lent: &Lent, area: &[u8]) -> u32 {
     match refusal(Call::Flush, 0, lent) {
         0 => {
             let Numbers { m, d, .. } = lent.numbers();
-            14 * ((area.len() as u128) < area_length(body_length(lent.kind, m.into(), d.into()))) as u32
+            14 * ((area.len() as u128) < area_length(body_length(m, d))) as u32
         }
         number => number,
     }
@@ -118,77 +109,111 @@ pub fn carry_out_save(lent: &mut Lent, area: &mut [u8]) -> u32 {
     number
 }
 
-/// The box in a body, without counters, disk and flash; 16 for "a body that starts above 1, isn't as long as its record says or fails 1, 11, 12, 6, 7, 8 or
-/// 13".
-fn read_body(body: &[u8]) -> Result<Lent, u32> {
-    let word = |k: usize| body.get(k * 4..k * 4 + 4).map(|bytes| u32::from_le_bytes(bytes.try_into().unwrap()) as u64);
-    let kind = match word(0) {
-        Some(0) => Kind::Lru,
-        Some(1) => Kind::Arc,
-        _ => return Err(16),
-    };
-    let numbers = (0..body_numbers(kind)).map(word).collect::<Option<Vec<u64>>>().ok_or(16u32)?;
-    let (label, tables) = body[4 * numbers.len()..].split_at_checked(LABEL).ok_or(16u32)?;
-    let label = label.try_into().unwrap();
-    let (state, m, d) = match numbers[..] {
-        [_, b, p, m, d, n, t] => (Numbers { b, p, m, d, n, counters: [0; 4], label, t }.to_bytes(), m, d),
-        [_, b, p, c, x, n, t, adaptive, t1, t2, b1, b2, b3] => {
-            let sizes = [t1, t2, b1, b2, b3];
-            (ArcNumbers { b, p, c, x, n, counters: [0; 4], label, t, adaptive, sizes }.to_bytes(), 2 * c + x, c)
-        }
-        _ => unreachable!("a body has 7 numbers or 13"),
-    };
-    if body.len() as u128 != body_length(kind, m.into(), d.into()) {
+/// The first numbers of a body, 16 where it is too short for them.
+fn numbers_in<const K: usize>(body: &[u8]) -> Result<[u64; K], u32> {
+    let numbers = body.get(..K * 4).ok_or(16u32)?;
+    Ok(std::array::from_fn(|k| u32::from_le_bytes(numbers[k * 4..k * 4 + 4].try_into().unwrap()) as u64))
+}
+
+/// The box in a body, without counters, disk and flash, and the bytes of its lists. 16 for "a body that starts above 1, isn't as long as its record says or
+/// fails 1, 11, 12, 6, 7, 8 or 13".
+fn read_body(body: &[u8]) -> Result<(Lent, Vec<u8>), u32> {
+    match numbers_in::<1>(body)? {
+        [0] => Ok((read_lru(body)?, vec![])),
+        [1] => read_arc(body),
+        _ => Err(16),
+    }
+}
+
+fn read_lru(body: &[u8]) -> Result<Lent, u32> {
+    let [_, b, p, m, d, n, t] = numbers_in(body)?;
+    if body.len() as u128 != body_length(m, d) {
         return Err(16);
     }
-    let (addresses, rest) = tables.split_at(m as usize * ROW);
-    let (blocks, lists) = rest.split_at(d as usize * ROW);
-    let lent = Lent { kind, state, addresses: addresses.to_vec(), blocks: blocks.to_vec(), lists: lists.to_vec(), ..Lent::default() };
+    let (label, tables) = body[BODY_NUMBERS..].split_at(LABEL);
+    let (addresses, blocks) = tables.split_at(m as usize * ROW);
+    let lent = Lent {
+        state: Numbers { b, p, m, d, n, counters: [0; 4], label: label.try_into().unwrap(), t }.to_bytes(),
+        addresses: addresses.to_vec(),
+        blocks: blocks.to_vec(),
+        ..Lent::default()
+    };
     match first_of(&BOX_CHECKS, &lent, |_| false) {
         0 => Ok(lent),
         _ => Err(16),
     }
 }
 
-/// The box that a restore of this area gives back, by a caller whose buffers for address table, block table and lists have these lengths; or the number of its
-/// refusal.
-pub fn found(area: &[u8], lengths: [usize; 3]) -> Result<Lent, u32> {
+/// The same of a D-ARC box, whose "m is 2 × C + X". This library runs none: in its state C and X stand where m and d do.
+fn read_arc(body: &[u8]) -> Result<(Lent, Vec<u8>), u32> {
+    let [_, b, p, c, x, n, t, last_p, t1, t2, b1, b2, b3] = numbers_in(body)?;
+    let m = 2 * c + x;
+    if body.len() as u128 != (ARC_NUMBERS + LABEL) as u128 + (m as u128 + c as u128) * ROW as u128 + m as u128 * 4 {
+        return Err(16);
+    }
+    let (label, rest) = body[ARC_NUMBERS..].split_at(LABEL);
+    let (addresses, rest) = rest.split_at(m as usize * ROW);
+    let (blocks, lists) = rest.split_at(c as usize * ROW);
+    let with = |m: u64, d: u64| Lent {
+        state: Numbers { b, p, m, d, n, counters: [0; 4], label: label.try_into().unwrap(), t }.to_bytes(),
+        addresses: addresses.to_vec(),
+        blocks: blocks.to_vec(),
+        ..Lent::default()
+    };
+    // "T1, T2 and B3 hold at most C + X together, B1 and B2 together at most C", and p is at most C; 11 is 1 of m and C.
+    let oversized = t1 + t2 + b3 > c + x || b1 + b2 > c || last_p > c;
+    let base = with(m, c);
+    if first_of(&BOX_CHECKS, &base, |_| false) != 0 || oversized || misnamed(&base, lists, (t1 + t2) as usize, (t1 + t2 + b1 + b2 + b3) as usize) {
+        return Err(16);
+    }
+    Ok((with(c, x), lists.to_vec()))
+}
+
+/// "lists that don't name each held address once and no other", "a nonzero byte after them", or "an address of T1 or T2 without its block".
+fn misnamed(base: &Lent, lists: &[u8], tops: usize, total: usize) -> bool {
+    let (rows, blocks) = read_tables(base);
+    let held = &rows[..base.numbers().n as usize];
+    let (named, after) = lists.split_at(total * 4);
+    let names: Vec<u32> = named.chunks_exact(4).map(|name| u32::from_le_bytes(name.try_into().unwrap())).collect();
+    let cached = |row: &AddressRow| blocks.iter().any(|block| block.used == 1 && block.fingerprint == row.fingerprint);
+    after.iter().any(|byte| *byte != 0)
+        || held.iter().any(|row| names.iter().filter(|name| **name == row.address).count() != 1)
+        || names.iter().any(|name| held.iter().all(|row| row.address != *name))
+        || held.iter().any(|row| names[..tops].contains(&row.address) && !cached(row))
+}
+
+/// The box that a restore of this area gives back, by a caller whose buffers for tables and lists have these lengths; or the number of its refusal.
+pub fn found(area: &[u8], addresses: usize, blocks: usize, lists: usize) -> Result<Lent, u32> {
     let length = header_length(area).ok_or(15u32)?;
     if (area.len() as u128) < area_length(length as u128) {
         return Err(14);
     }
-    let saved = read_body(&area[HEADER..][..length as usize])?;
+    let (saved, saved_lists) = read_body(&area[HEADER..][..length as usize])?;
     // "for a D-LRU image the lists' buffer has length 0"
-    if [&saved.addresses, &saved.blocks, &saved.lists].map(|bytes| bytes.len()) != lengths {
+    if saved.addresses.len() != addresses || saved.blocks.len() != blocks || saved_lists.len() != lists {
         return Err(2);
     }
+    assert!(lists == 0, "no test lends a D-ARC image its own lengths");
     Ok(saved)
 }
 
-/// Fills all of a state but the counters, which are the caller's.
-fn set_record(state: &mut [u8], record: &[u8]) {
-    for part in [0..STATE_COUNTERS.start, STATE_COUNTERS.end..state.len()] {
-        state[part.clone()].copy_from_slice(&record[part]);
-    }
-}
-
-/// A restore: "reads the header, clears it, and gives back the saved box, touching nothing else". "A refused restore returns a record of zeros." It is lent
-/// the state of a D-LRU box where the lists have no byte and that of a D-ARC box where they have one; another state is 2, and nothing is changed then.
-pub fn carry_out_restore(lent: &mut Lent, area: &mut [u8]) -> u32 {
-    let kind = if lent.lists.is_empty() { Kind::Lru } else { Kind::Arc };
-    if lent.state.len() != kind.state() {
+/// A restore: "reads the header, clears it, and gives back the saved box, touching nothing else". "A refused restore returns a record of zeros." The
+/// counters in the state are the caller's. The bytes of `lists` are never looked at.
+pub fn carry_out_restore(lent: &mut Lent, area: &mut [u8], lists: usize) -> u32 {
+    if lent.state.len() != STATE {
         return 2;
     }
-    match found(area, [&lent.addresses, &lent.blocks, &lent.lists].map(|bytes| bytes.len())) {
+    let counters = lent.numbers().counters;
+    match found(area, lent.addresses.len(), lent.blocks.len(), lists) {
         Ok(saved) => {
-            set_record(&mut lent.state, &saved.state);
-            (lent.addresses, lent.blocks, lent.lists) = (saved.addresses, saved.blocks, saved.lists);
+            lent.state = Numbers { counters, ..saved.numbers() }.to_bytes();
+            lent.addresses = saved.addresses;
+            lent.blocks = saved.blocks;
             area[..HEADER].fill(0);
             0
         }
         Err(number) => {
-            let zeros = vec![0; lent.state.len()];
-            set_record(&mut lent.state, &zeros);
+            lent.state = Numbers { b: 0, p: 0, m: 0, d: 0, n: 0, counters, label: ZEROS, t: 0 }.to_bytes();
             number
         }
     }

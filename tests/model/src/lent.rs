@@ -1,21 +1,17 @@
 //! A box as it is lent: bytes. Which of them are refused, and the way into maps and queues and back.
-use crate::arc::{eleven, lists_unsound, top_uncached, ArcNumbers, Lists, WORD};
+use crate::arc::ArcNumbers;
 use crate::cache::{Held, Store};
 use crate::*;
 use std::collections::{BTreeSet, HashMap, HashSet};
 
-/// All memory that is lent to a call. A call that takes no block or no answer leaves that one alone, opening alone takes the label, and of the calls on a D-LRU
-/// box a restore alone takes the lists.
+/// All memory that is lent to a call. A call that takes no block or no answer leaves that one alone, and opening alone takes the label.
 #[derive(Clone, Default, PartialEq, Eq)]
 pub struct Lent {
-    /// Whose calls it is lent to.
-    pub kind: Kind,
     pub state: Vec<u8>,
     pub disk: Vec<u8>,
     pub flash: Vec<u8>,
     pub addresses: Vec<u8>,
     pub blocks: Vec<u8>,
-    pub lists: Vec<u8>,
     pub block: Vec<u8>,
     pub answer: Vec<u8>,
     pub label: Vec<u8>,
@@ -75,33 +71,18 @@ impl Numbers {
 }
 
 impl Lent {
-    /// The numbers of the tables: those of the state, or of a D-ARC box m and d by C and X.
     pub fn numbers(&self) -> Numbers {
-        match self.kind {
-            Kind::Lru => Numbers::from_bytes(&self.state),
-            Kind::Arc => self.arc_numbers().tables(),
-        }
-    }
-
-    /// The numbers of a D-ARC box.
-    pub fn arc_numbers(&self) -> ArcNumbers {
-        ArcNumbers::from_bytes(&self.state)
-    }
-
-    /// All words of the lists' bytes, named or not.
-    pub fn words(&self) -> Vec<u32> {
-        self.lists.chunks_exact(WORD).map(|word| u32::from_le_bytes(word.try_into().unwrap())).collect()
+        Numbers::from_bytes(&self.state)
     }
 
     /// The buffers by name, to say which one differs.
-    pub fn buffers(&self) -> [(&'static str, &Vec<u8>); 9] {
+    pub fn buffers(&self) -> [(&'static str, &Vec<u8>); 8] {
         [
             ("state", &self.state),
             ("disk", &self.disk),
             ("flash", &self.flash),
             ("address table", &self.addresses),
             ("block table", &self.blocks),
-            ("lists", &self.lists),
             ("lent block", &self.block),
             ("answer", &self.answer),
             ("lent label", &self.label),
@@ -177,21 +158,20 @@ fn one(numbers: &Numbers) -> bool {
 }
 
 /// "a limit outside its range", which is "from 1 to m" (document 02, U8)
-fn twelve(numbers: &Numbers) -> bool {
+pub(crate) fn twelve(numbers: &Numbers) -> bool {
     !(1..=numbers.m).contains(&numbers.t)
 }
 
-/// Asked after 1 or 11, so that no product is too large.
-fn two(numbers: &Numbers, lent: &Lent) -> bool {
+/// Asked after 1, so that no product is too large.
+pub(crate) fn two(numbers: &Numbers, lent: &Lent) -> bool {
     let wrong = |bytes: &Vec<u8>, length: u64| bytes.len() as u64 != length;
     wrong(&lent.disk, numbers.p * numbers.b)
         || wrong(&lent.flash, numbers.d * numbers.b)
         || wrong(&lent.addresses, numbers.m * ROW as u64)
         || wrong(&lent.blocks, numbers.d * ROW as u64)
-        || lent.kind == Kind::Arc && wrong(&lent.lists, numbers.m * WORD as u64)
 }
 
-fn six(numbers: &Numbers, rows: &[AddressRow], bytes: &[u8]) -> bool {
+pub(crate) fn six(numbers: &Numbers, rows: &[AddressRow], bytes: &[u8]) -> bool {
     if numbers.n > numbers.m {
         return true;
     }
@@ -205,7 +185,7 @@ fn six(numbers: &Numbers, rows: &[AddressRow], bytes: &[u8]) -> bool {
         || bytes[n * ROW..].iter().any(|byte| *byte != 0)
 }
 
-fn seven(numbers: &Numbers, rows: &[BlockRow]) -> bool {
+pub(crate) fn seven(numbers: &Numbers, rows: &[BlockRow]) -> bool {
     let free: Vec<&BlockRow> = rows.iter().take_while(|row| row.used == 0).collect();
     let used = &rows[free.len()..];
     let slots: BTreeSet<u32> = rows.iter().map(|row| row.slot).collect();
@@ -217,19 +197,19 @@ fn seven(numbers: &Numbers, rows: &[BlockRow]) -> bool {
         || fingerprints.len() < used.len()
 }
 
-fn eight(numbers: &Numbers, rows: &[AddressRow], blocks: &[BlockRow]) -> bool {
+pub(crate) fn eight(numbers: &Numbers, rows: &[AddressRow], blocks: &[BlockRow]) -> bool {
     let cached: HashSet<Fingerprint> = blocks.iter().filter(|row| row.used == 1).map(|row| row.fingerprint).collect();
     rows[..numbers.n as usize].iter().any(|row| row.dirty == 1 && !cached.contains(&row.fingerprint))
 }
 
 /// "a state with more than t dirty rows" (document 02, U8)
-fn thirteen(numbers: &Numbers, rows: &[AddressRow]) -> bool {
+pub(crate) fn thirteen(numbers: &Numbers, rows: &[AddressRow]) -> bool {
     rows[..numbers.n as usize].iter().filter(|row| row.dirty == 1).count() as u64 > numbers.t
 }
 
 /// The number with which a call is refused, 0 where it is served. A state or an answer of another length comes before all.
 pub fn refusal(call: Call, address: u32, lent: &Lent) -> u32 {
-    if lent.state.len() != lent.kind.state() || call != Call::Open && lent.answer.len() != ANSWER {
+    if lent.state.len() != STATE || call != Call::Open && lent.answer.len() != ANSWER {
         return 2;
     }
     let numbers = lent.numbers();
@@ -242,7 +222,7 @@ pub fn refusal(call: Call, address: u32, lent: &Lent) -> u32 {
 
 /// The number with which one call for a folder is refused, 0 where it is served. A state or an answer of another length comes before all.
 pub fn refusal_many(lent: &Lent, folder: &Folder) -> u32 {
-    if lent.state.len() != lent.kind.state() || folder.answer.len() != MANY_ANSWER {
+    if lent.state.len() != STATE || folder.answer.len() != MANY_ANSWER {
         return 2;
     }
     let numbers = lent.numbers();
@@ -258,67 +238,57 @@ pub fn refusal_many(lent: &Lent, folder: &Folder) -> u32 {
 
 /// The number with which a report into so many bytes is refused, 0 where it is made. A state of another length comes before all.
 pub fn refusal_report(report: Report, lent: &Lent, length: usize) -> u32 {
-    if lent.state.len() != lent.kind.state() {
+    if lent.state.len() != STATE {
         return 2;
     }
     let most = lent.numbers().m as u128 * report.row() as u128;
     first_of(&REPORT_CHECKS, lent, |_| length as u128 != most)
 }
 
-/// The first of these checks that applies, 0 where none does; of a D-ARC box 11 "in place of 1". `own` is the call's own part of 2, of 3 and of 10.
+/// The first of these checks that applies, 0 where none does. `own` is the call's own part of 2, of 3 and of 10.
 pub(crate) fn first_of(checks: &[u32], lent: &Lent, own: impl Fn(u32) -> bool) -> u32 {
     let numbers = lent.numbers();
     let (rows, blocks) = read_tables(lent);
-    let arc = lent.kind == Kind::Arc;
-    let applies = |number: &u32| match *number {
+    let applies = |number: &&u32| match **number {
         1 => one(&numbers),
-        11 => eleven(&lent.arc_numbers()),
         2 => two(&numbers, lent) || own(2),
         3 => own(3),
-        6 => six(&numbers, &rows, &lent.addresses) || arc && lists_unsound(lent, &rows),
+        6 => six(&numbers, &rows, &lent.addresses),
         7 => seven(&numbers, &blocks),
-        8 => eight(&numbers, &rows, &blocks) || arc && top_uncached(lent, &rows, &blocks),
+        8 => eight(&numbers, &rows, &blocks),
         9 => numbers.counters.iter().any(|counter| *counter > MOST_COUNTED),
         12 => twelve(&numbers),
         13 => thirteen(&numbers, &rows),
         _ => own(10),
     };
-    checks.iter().map(|number| lent.kind.check(*number)).find(applies).unwrap_or(0)
+    checks.iter().find(applies).copied().unwrap_or(0)
 }
 
 /// Carries a call out on lent bytes: gives the number of the refusal or 0, and leaves in every buffer what it must hold afterwards.
 pub fn carry_out(call: Call, address: u32, lent: &mut Lent) -> u32 {
     let number = refusal(call, address, lent);
     if call == Call::Open {
-        open(number, lent);
-    } else if number == 0 {
-        let mut cache = Cache::load(lent);
-        let answer = cache.call(call, address, &mut lent.block).expect("every refusal has been asked for");
-        cache.store(lent);
-        lent.answer = answer.to_bytes();
-    }
-    number
-}
-
-/// An opening. "The box record carries the label, given at opening (zeros if refused)" (document 02, U6). A refused one leaves n, the label, p and the sizes of
-/// the lists zeros in the state, and changes nothing else.
-fn open(number: u32, lent: &mut Lent) {
-    if lent.state.len() != lent.kind.state() {
-        return;
+        if lent.state.len() == STATE {
+            // "The box record carries the label, given at opening (zeros if refused)." (document 02, U6)
+            let label = if number == 0 { lent.label[..].try_into().unwrap() } else { ZEROS };
+            lent.state = Numbers { n: 0, label, ..lent.numbers() }.to_bytes();
+        }
+        if number == 0 {
+            let Numbers { b, p, m, d, t, label, .. } = lent.numbers();
+            let [b, p, m, d, t] = [b, p, m, d, t].map(|number| number as usize);
+            let (disk, flash) = (std::mem::take(&mut lent.disk), std::mem::take(&mut lent.flash));
+            Cache::fresh(b, p, m, d, t, label, disk, flash).store(lent);
+        }
+        return number;
     }
     if number != 0 {
-        lent.state = match lent.kind {
-            Kind::Lru => Numbers { n: 0, label: ZEROS, ..lent.numbers() }.to_bytes(),
-            Kind::Arc => ArcNumbers { n: 0, label: ZEROS, adaptive: 0, sizes: [0; 5], ..lent.arc_numbers() }.to_bytes(),
-        };
-        return;
+        return number;
     }
-    let Numbers { b, p, m, d, t, .. } = lent.numbers();
-    let [b, p, m, d, t] = [b, p, m, d, t].map(|number| number as usize);
-    let label = lent.label[..].try_into().unwrap();
-    let (disk, flash) = (std::mem::take(&mut lent.disk), std::mem::take(&mut lent.flash));
-    let fresh = Cache::fresh(b, p, m, d, t, label, disk, flash);
-    Cache { lists: (lent.kind == Kind::Arc).then(Lists::default), ..fresh }.store(lent);
+    let mut cache = Cache::load(lent);
+    let answer = cache.call(call, address, &mut lent.block).expect("every refusal has been asked for");
+    cache.store(lent);
+    lent.answer = answer.to_bytes();
+    0
 }
 
 /// The same for one call for a folder.
@@ -367,7 +337,11 @@ impl Answer {
 impl Cache {
     /// A box out of bytes that no check refuses. Takes disk and flash away from the bytes; `store` gives them back.
     pub fn load(lent: &mut Lent) -> Cache {
-        let numbers = lent.numbers();
+        Cache::load_as(lent.numbers(), lent)
+    }
+
+    /// The same where the numbers of the box are known already, and the bytes of the state are not looked at.
+    pub(crate) fn load_as(numbers: Numbers, lent: &mut Lent) -> Cache {
         let (rows, blocks) = read_tables(lent);
         let held = &rows[..numbers.n as usize];
         let (free, used): (Vec<BlockRow>, Vec<BlockRow>) = blocks.into_iter().partition(|row| row.used == 0);
@@ -388,11 +362,11 @@ impl Cache {
             disk: Store::new(b, std::mem::take(&mut lent.disk)),
             flash: Store::new(b, std::mem::take(&mut lent.flash)),
             counters: Counters { reads, hits, flash, primary },
-            lists: (lent.kind == Kind::Arc).then(|| Lists::load(lent)),
+            lists: None,
         }
     }
 
-    fn numbers(&self) -> Numbers {
+    pub(crate) fn numbers(&self) -> Numbers {
         let Counters { reads, hits, flash, primary } = self.counters;
         let [b, p, m, d, n, t] = [self.b, self.p, self.m, self.d, self.addresses.len(), self.t].map(|number| number as u64);
         Numbers { b, p, m, d, n, counters: [reads, hits, flash, primary], label: self.label, t }
@@ -421,14 +395,8 @@ impl Cache {
         free.chain(used).flat_map(|row| row.to_bytes()).collect()
     }
 
-    /// The lists of a D-ARC box.
-    fn list_bytes(&self) -> Option<Vec<u8>> {
-        self.lists.as_ref().map(|lists| lists.to_bytes(self.m))
-    }
-
-    /// Writes the box into bytes: every buffer but the lent block, the answer and the lent label, and of a D-LRU box the lists.
+    /// Writes the box into bytes: every buffer but the lent block, the answer and the lent label.
     pub fn store(self, lent: &mut Lent) {
-        self.list_bytes().into_iter().for_each(|bytes| lent.lists = bytes);
         lent.state = self.state_bytes();
         lent.addresses = self.address_bytes();
         lent.blocks = self.block_bytes();
@@ -436,14 +404,12 @@ impl Cache {
         lent.flash = self.flash.into_bytes();
     }
 
-    /// The name of a buffer whose bytes are not this box's, if there is one. The lent block, the answer and the lent label are not looked at, nor are the lists
-    /// beside a D-LRU box.
+    /// The name of a buffer whose bytes are not this box's, if there is one. The lent block, the answer and the lent label are not looked at.
     pub fn difference(&self, lent: &Lent) -> Option<&'static str> {
         [
             ("state", lent.state == self.state_bytes()),
             ("address table", lent.addresses == self.address_bytes()),
             ("block table", lent.blocks == self.block_bytes()),
-            ("lists", self.list_bytes().is_none_or(|bytes| lent.lists == bytes)),
             ("flash", self.flash.is(&lent.flash)),
             ("disk", self.disk.is(&lent.disk)),
         ]

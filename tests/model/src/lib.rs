@@ -3,7 +3,7 @@
 //! `Cache` runs calls from a fresh box. `Lent` is a box in bytes, any bytes: `carry_out` gives what a call must answer and what every buffer
 //! must hold after it. The call that reads a folder of addresses is lent a `Folder` beside the box: `Cache::read_many`, `carry_out_many`.
 //! The two reports are lent their bytes: `Cache::report`, `carry_out_report`. `image` has the images that a save makes and a restore takes.
-//! A box is of one of two kinds, D-LRU and D-ARC. `arc` has what D-ARC adds: a `Cache` with lists, and their bytes beside the tables.
+//! `arc` has D-ARC boxes: a `Cache` with lists, and `ArcLent`, a box in bytes.
 //! `machines` has the two machines that the document compares a list of calls with, `exam` what is counted of all lists of a few reads.
 pub mod arc;
 mod cache;
@@ -41,7 +41,6 @@ pub const ROW: usize = 40;
 pub const LABEL: usize = 64;
 /// Nine numbers of 8 bytes, then the label, then the limit.
 pub const STATE: usize = 144;
-pub const STATE_COUNTERS: Range<usize> = 40..72;
 pub const STATE_LABEL: Range<usize> = 72..136;
 pub const STATE_LIMIT: Range<usize> = 136..144;
 pub const ANSWER: usize = 24;
@@ -50,40 +49,6 @@ pub const MANY_ANSWER: usize = 32;
 pub const MOST_ASKED: usize = 64;
 /// The refusals that one call for a folder checks, in the order of the documents.
 pub const MANY_CHECKS: [u32; 10] = [1, 12, 2, 10, 3, 6, 7, 8, 13, 9];
-
-/// The two kinds of boxes. Each has calls of its own, but for a restore.
-#[derive(Clone, Copy, Debug, Default, PartialEq, Eq)]
-pub enum Kind {
-    #[default]
-    Lru,
-    Arc,
-}
-
-pub const KINDS: [Kind; 2] = [Kind::Lru, Kind::Arc];
-
-impl std::fmt::Display for Kind {
-    fn fmt(&self, text: &mut std::fmt::Formatter) -> std::fmt::Result {
-        text.write_str(["D-LRU", "D-ARC"][(*self == Kind::Arc) as usize])
-    }
-}
-
-impl Kind {
-    /// The bytes of a state.
-    pub fn state(self) -> usize {
-        match self {
-            Kind::Lru => STATE,
-            Kind::Arc => arc::ARC_STATE,
-        }
-    }
-
-    /// A check of a D-LRU box for a box of this kind: "It refuses with 11, in place of 1" (document 02, U5).
-    pub fn check(self, number: u32) -> u32 {
-        match (self, number) {
-            (Kind::Arc, 1) => 11,
-            _ => number,
-        }
-    }
-}
 
 /// The two reports on the held rows (document 02, U7).
 #[derive(Clone, Copy, Debug, PartialEq, Eq)]

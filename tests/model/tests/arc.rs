@@ -1,8 +1,7 @@
 //! D-ARC boxes by the model: the worked states and refusals of crates/arc/specs, cases worked out by hand from document 02, and the laws of U5 on random lists.
 use model::arc::worked::{play, B};
-use model::arc::{ArcNumbers, WORD};
-use model::{carry_out, carry_out_many, carry_out_report, refusal, refusal_many, refusal_report};
-use model::{AddressRow, Answer, BlockRow, Call, Folder, Kind, Lent, Report, ANSWER, CALLS, HIT, LABEL, MANY_ANSWER, ROW};
+use model::arc::{carry_out, carry_out_many, carry_out_report, refusal, refusal_many, refusal_report, ArcLent, ArcNumbers, WORD};
+use model::{AddressRow, Answer, BlockRow, Call, Folder, Lent, Report, ANSWER, CALLS, HIT, LABEL, MANY_ANSWER, ROW};
 
 #[test]
 fn worked_states() {
@@ -11,7 +10,7 @@ fn worked_states() {
 }
 
 /// The box of crates/arc/specs/ArcRefused.antt: B 64, P 4, C 2, X 1, so m is 5; rows by address, byte of the fingerprint and dirty byte.
-fn refused_box(rows: &[(u32, u8, u8)], sizes: [u64; 5], adaptive: u64, names: &[u32]) -> Lent {
+fn refused_box(rows: &[(u32, u8, u8)], sizes: [u64; 5], adaptive: u64, names: &[u32]) -> ArcLent {
     let row = |(address, print, dirty): &(u32, u8, u8)| AddressRow { address: *address, fingerprint: [*print; 32], dirty: *dirty, seat: 0x0807, padding: 0 };
     let mut addresses: Vec<u8> = rows.iter().flat_map(|given| row(given).to_bytes()).collect();
     addresses.resize(5 * ROW, 0);
@@ -21,8 +20,7 @@ fn refused_box(rows: &[(u32, u8, u8)], sizes: [u64; 5], adaptive: u64, names: &[
     let blocks = [(1, 0), (2, 1)].map(|(print, slot)| BlockRow { fingerprint: [print; 32], slot, used: 1, padding: [0; 3] }.to_bytes()).concat();
     let filled = |from: u8, count: u8| (from..from + count).flat_map(|k| [k; B]).collect::<Vec<u8>>();
     let (block, answer) = (vec![0; B], vec![0; ANSWER]);
-    let (kind, state, disk, flash, label) = (Kind::Arc, state.to_bytes(), filled(4, 4), filled(8, 2), vec![7; LABEL]);
-    Lent { kind, state, disk, flash, addresses, blocks, lists, block, answer, label }
+    ArcLent { base: Lent { state: state.to_bytes(), disk: filled(4, 4), flash: filled(8, 2), addresses, blocks, block, answer, label: vec![7; LABEL] }, lists }
 }
 
 /// Address 0 is without its block; 1 is dirty; 3 is clean.
@@ -32,38 +30,38 @@ const FOUR: [(u32, u8, u8); 4] = [(0, 1, 0), (1, 1, 1), (2, 2, 0), (3, 2, 0)];
 const DIRTY_TWO: [(u32, u8, u8); 4] = [(0, 1, 1), (1, 1, 1), (2, 2, 0), (3, 2, 0)];
 
 /// T1 has 1, T2 has 3, B1 has 0.
-fn right() -> Lent {
+fn right() -> ArcLent {
     refused_box(&THREE, [1, 1, 1, 0, 0], 1, &[1, 3, 0])
 }
 
 /// Address 0, in T1, is without its block.
-fn uncached() -> Lent {
+fn uncached() -> ArcLent {
     refused_box(&THREE, [1, 1, 1, 0, 0], 1, &[0, 3, 1])
 }
 
-fn dirty_two() -> Lent {
+fn dirty_two() -> ArcLent {
     refused_box(&DIRTY_TWO, [2, 1, 1, 0, 0], 0, &[0, 1, 2, 3])
 }
 
 /// A box with something changed.
-fn with(mut lent: Lent, change: impl Fn(&mut Lent)) -> Lent {
+fn with(mut lent: ArcLent, change: impl Fn(&mut ArcLent)) -> ArcLent {
     change(&mut lent);
     lent
 }
 
-fn limit(lent: Lent, t: u64) -> Lent {
-    let numbers = ArcNumbers { t, ..lent.arc_numbers() };
-    with(lent, |lent| lent.state = numbers.to_bytes())
+fn limit(lent: ArcLent, t: u64) -> ArcLent {
+    let numbers = ArcNumbers { t, ..lent.numbers() };
+    with(lent, |lent| lent.base.state = numbers.to_bytes())
 }
 
 /// The right box with other numbers, for openings.
-fn numbered(b: u64, p: u64, c: u64, x: u64) -> Lent {
-    let numbers = ArcNumbers { b, p, c, x, t: 2 * c + x, ..right().arc_numbers() };
-    with(right(), |lent| lent.state = numbers.to_bytes())
+fn numbered(b: u64, p: u64, c: u64, x: u64) -> ArcLent {
+    let numbers = ArcNumbers { b, p, c, x, t: 2 * c + x, ..right().numbers() };
+    with(right(), |lent| lent.base.state = numbers.to_bytes())
 }
 
 /// The cases of `table` in ArcRefused.antt about the lists, each asked by a read of address 1.
-fn refused_lists() -> Vec<(Lent, u32)> {
+fn refused_lists() -> Vec<(ArcLent, u32)> {
     let three = |sizes: [u64; 5], adaptive: u64, names: &[u32]| refused_box(&THREE, sizes, adaptive, names);
     let four = |sizes: [u64; 5]| refused_box(&FOUR, sizes, 0, &[0, 1, 2, 3]);
     let list = |place: usize| with(right(), |lent| lent.lists[place] = 1);
@@ -100,8 +98,8 @@ fn refused_lists() -> Vec<(Lent, u32)> {
 }
 
 /// The others.
-fn refused_reads() -> Vec<(Lent, u32)> {
-    let padding = |row: usize, place: usize| with(right(), |lent| lent.addresses[row * ROW + 37 + place] = 1);
+fn refused_reads() -> Vec<(ArcLent, u32)> {
+    let padding = |row: usize, place: usize| with(right(), |lent| lent.base.addresses[row * ROW + 37 + place] = 1);
     let short = with(right(), |lent| lent.lists.truncate(19));
     let uncached_dirty = refused_box(&[(0, 3, 1), (1, 1, 1), (3, 2, 0)], [1, 1, 1, 0, 0], 1, &[1, 3, 0]);
     vec![
@@ -126,8 +124,8 @@ fn refused_reads() -> Vec<(Lent, u32)> {
     ]
 }
 
-fn refused_openings() -> Vec<(Lent, u32)> {
-    let label = |length: usize| with(right(), |lent| lent.label.resize(length, 7));
+fn refused_openings() -> Vec<(ArcLent, u32)> {
+    let label = |length: usize| with(right(), |lent| lent.base.label.resize(length, 7));
     vec![
         (label(65), 2),
         (label(63), 2),
@@ -162,13 +160,13 @@ fn refused_calls() {
         assert_eq!(carry_out(Call::Open, 0, &mut after), number, "opening {k}");
         // "A refused opening": n, the label, p and the five sizes are zeros, and nothing else is another.
         let mut expected = lent.clone();
-        expected.state = ArcNumbers { n: 0, label: [0; LABEL], adaptive: 0, sizes: [0; 5], ..lent.arc_numbers() }.to_bytes();
+        expected.base.state = ArcNumbers { n: 0, label: [0; LABEL], adaptive: 0, sizes: [0; 5], ..lent.numbers() }.to_bytes();
         if number == 0 {
-            let label = lent.label[..].try_into().unwrap();
-            expected.state = ArcNumbers { label, counters: [0; 4], ..expected.arc_numbers() }.to_bytes();
-            expected.addresses.fill(0);
-            expected.blocks = [[0; ROW], [0; ROW]].concat();
-            expected.blocks[ROW + 32] = 1;
+            let label = lent.base.label[..].try_into().unwrap();
+            expected.base.state = ArcNumbers { label, counters: [0; 4], ..expected.numbers() }.to_bytes();
+            expected.base.addresses.fill(0);
+            expected.base.blocks = [[0; ROW], [0; ROW]].concat();
+            expected.base.blocks[ROW + 32] = 1;
             expected.lists.fill(0);
         }
         assert_eq!(after.difference(&expected), None, "opening {k}");
@@ -178,7 +176,7 @@ fn refused_calls() {
 #[test]
 fn refused_folders() {
     let byte = |place: usize| with(right(), |lent| lent.lists[place] = 1);
-    let folders: [(Lent, Vec<u32>, usize, u32); 13] = [
+    let folders: [(ArcLent, Vec<u32>, usize, u32); 13] = [
         (right(), vec![1, 3, 1], 192, 0),
         (right(), vec![], 0, 10),
         (right(), vec![1; 64], 4_096, 0),
@@ -202,8 +200,8 @@ fn refused_folders() {
 
 #[test]
 fn refused_reports() {
-    let much = with(right(), |lent| lent.state[40..48].copy_from_slice(&((1u64 << 63) + 1).to_le_bytes()));
-    let reports: [(Lent, Report, usize, u32); 18] = [
+    let much = with(right(), |lent| lent.base.state[40..48].copy_from_slice(&((1u64 << 63) + 1).to_le_bytes()));
+    let reports: [(ArcLent, Report, usize, u32); 18] = [
         (right(), Report::Manager, 35, 0),
         (right(), Report::Desk, 25, 0),
         (right(), Report::Manager, 34, 2),
@@ -213,9 +211,9 @@ fn refused_reports() {
         (right(), Report::Desk, 26, 2),
         (right(), Report::Desk, 35, 2),
         (with(right(), |lent| lent.lists.truncate(19)), Report::Desk, 25, 2),
-        (with(right(), |lent| lent.addresses[39] = 1), Report::Manager, 35, 6),
+        (with(right(), |lent| lent.base.addresses[39] = 1), Report::Manager, 35, 6),
         (with(right(), |lent| lent.lists[12] = 1), Report::Desk, 25, 6),
-        (with(right(), |lent| lent.blocks[37] = 1), Report::Manager, 35, 7),
+        (with(right(), |lent| lent.base.blocks[37] = 1), Report::Manager, 35, 7),
         (uncached(), Report::Desk, 25, 8),
         (much.clone(), Report::Manager, 35, 0),
         (much, Report::Desk, 25, 0),
@@ -235,11 +233,11 @@ fn served_in_bytes() {
     let mut lent = right();
     assert_eq!(carry_out(Call::Read, 1, &mut lent), 0);
     let mut expected = refused_box(&[(0, 3, 0), (3, 2, 0), (1, 1, 1)], [0, 2, 1, 0, 0], 1, &[3, 1, 0]);
-    expected.state = ArcNumbers { counters: [1, 1, 0, 0], ..expected.arc_numbers() }.to_bytes();
-    let first = expected.blocks.drain(..ROW).collect::<Vec<u8>>();
-    expected.blocks.extend(first);
-    expected.block = vec![8; B];
-    expected.answer = Answer { word: HIT, first: 0, second: 0 }.to_bytes();
+    expected.base.state = ArcNumbers { counters: [1, 1, 0, 0], ..expected.numbers() }.to_bytes();
+    let first = expected.base.blocks.drain(..ROW).collect::<Vec<u8>>();
+    expected.base.blocks.extend(first);
+    expected.base.block = vec![8; B];
+    expected.base.answer = Answer { word: HIT, first: 0, second: 0 }.to_bytes();
     assert_eq!(lent.difference(&expected), None);
     let (mut manager, mut desk) = (vec![9; 35], vec![9; 25]);
     assert_eq!((carry_out_report(Report::Manager, &right(), &mut manager), carry_out_report(Report::Desk, &right(), &mut desk)), (0, 0));
@@ -254,16 +252,16 @@ fn order_of_refusals() {
     for call in CALLS {
         let mut lent = dirty_two();
         let mut given = Vec::new();
-        let mut add = |number: u32, address: u32, change: &dyn Fn(&mut Lent)| {
+        let mut add = |number: u32, address: u32, change: &dyn Fn(&mut ArcLent)| {
             change(&mut lent);
             given.push((number, refusal(call, address, &lent)));
         };
-        let set = |place: usize, number: u64| move |lent: &mut Lent| lent.state[place..place + 8].copy_from_slice(&number.to_le_bytes());
+        let set = |place: usize, number: u64| move |lent: &mut ArcLent| lent.base.state[place..place + 8].copy_from_slice(&number.to_le_bytes());
         add(9, 3, &set(64, (1 << 63) + 1));
         add(13, 3, &set(136, 1));
         // The block row of address 2, which is clean and in T2, gets another fingerprint.
-        add(8, 3, &|lent| lent.blocks[ROW] ^= 1);
-        add(7, 3, &|lent| lent.blocks[39] = 1);
+        add(8, 3, &|lent| lent.base.blocks[ROW] ^= 1);
+        add(7, 3, &|lent| lent.base.blocks[39] = 1);
         // The lists' last byte, behind what they name.
         add(6, 3, &|lent| lent.lists[19] = 1);
         add(3, 4, &|_| {});

@@ -1,21 +1,20 @@
 //! Images of D-ARC boxes by the model (document 02, U10): the bytes of a body, saves and restores from worked states, power cuts, and what a restore refuses.
 use common::Random;
+use model::arc::image::{body, carry_out_restore, carry_out_save, found, refusal_save, room, writes, BODY_NUMBERS};
 use model::arc::worked::{examples, shown, Asked, B};
-use model::arc::{ArcNumbers, ARC_STATE};
-use model::image::{body, body_numbers, carry_out_restore, carry_out_save, cut, found, header, refusal_save, room, writes, HEADER, WRITE};
-use model::{carry_out, Call, Kind, Lent, Numbers, LABEL, ROW, STATE, ZEROS};
-
-const BODY_NUMBERS: usize = 13 * 4;
+use model::arc::{carry_out, ArcLent, ArcNumbers, ARC_STATE};
+use model::image::{cut, header, HEADER, WRITE};
+use model::{Call, Lent, LABEL, ROW, ZEROS};
 
 /// The boxes from which and to which the calls of the worked states lead.
-fn boxes() -> Vec<Lent> {
+fn boxes() -> Vec<ArcLent> {
     let mut boxes = Vec::new();
     for example in examples() {
         let mut lent = example.from.clone();
         boxes.push(lent.clone());
         for asked in &example.asked {
             if let Asked::One(said) = asked {
-                lent.block = vec![said.content; B];
+                lent.base.block = vec![said.content; B];
                 assert_eq!(carry_out(said.call, said.address, &mut lent), 0);
                 boxes.push(lent.clone());
             }
@@ -24,16 +23,16 @@ fn boxes() -> Vec<Lent> {
     boxes
 }
 
-fn area_of(lent: &Lent) -> Vec<u8> {
-    let Numbers { m, d, .. } = lent.numbers();
-    vec![0xDD; room(Kind::Arc, m as usize, d as usize) + 5]
+fn area_of(lent: &ArcLent) -> Vec<u8> {
+    let ArcNumbers { c, x, .. } = lent.numbers();
+    vec![0xDD; room(c as usize, x as usize) + 5]
 }
 
 /// The box of a caller who starts again: disk and flash as they are, other bytes in state, tables and lists.
-fn cold(lent: &Lent) -> Lent {
+fn cold(lent: &ArcLent) -> ArcLent {
     let other = |bytes: &Vec<u8>| vec![0xA7; bytes.len()];
-    let (addresses, blocks, lists) = (other(&lent.addresses), other(&lent.blocks), other(&lent.lists));
-    Lent { state: vec![0; ARC_STATE], addresses, blocks, lists, ..lent.clone() }
+    let base = Lent { state: vec![0; ARC_STATE], addresses: other(&lent.base.addresses), blocks: other(&lent.base.blocks), ..lent.base.clone() };
+    ArcLent { base, lists: other(&lent.lists) }
 }
 
 /// "for D-ARC 1, B, P, C, X, n, t, p and the five list sizes, 4 bytes each, little-endian; then label, tables and lists"
@@ -43,9 +42,8 @@ fn bytes_of_a_body() {
     let body = body(lent);
     let numbers: Vec<u32> = body[..BODY_NUMBERS].chunks_exact(4).map(|word| u32::from_le_bytes(word.try_into().unwrap())).collect();
     assert_eq!(numbers, [1, 64, 6, 2, 2, 4, 6, 1, 1, 1, 0, 0, 2]);
-    let parts = [&[0x4F; LABEL][..], &lent.addresses, &lent.blocks, &lent.lists].concat();
+    let parts = [&[0x4F; LABEL][..], &lent.base.addresses, &lent.base.blocks, &lent.lists].concat();
     assert_eq!(body[BODY_NUMBERS..], parts);
-    assert_eq!((BODY_NUMBERS, body_numbers(Kind::Lru)), (4 * body_numbers(Kind::Arc), 7));
     assert_eq!(body.len(), 13 * 4 + 64 + 6 * ROW + 2 * ROW + 6 * 4);
     let writes = writes(lent);
     assert_eq!((writes.len(), writes[0], writes[1].0, *writes.last().unwrap()), (10, (0, [0; HEADER]), HEADER, (0, header(460))));
@@ -65,13 +63,13 @@ fn saved_and_restored() {
         assert!(area[area.len() - 5..] == [0xDD; 5]);
         let (mut warm, mut cleared) = (cold(&saved), area.clone());
         assert_eq!(carry_out_restore(&mut warm, &mut cleared), 0);
-        saved.state = ArcNumbers { counters: [0; 4], ..saved.arc_numbers() }.to_bytes();
+        saved.base.state = ArcNumbers { counters: [0; 4], ..saved.numbers() }.to_bytes();
         assert_eq!(warm.difference(&saved), None);
         assert_eq!(shown(&warm), shown(&flushed));
         assert!(cleared[..HEADER] == [0; HEADER] && cleared[HEADER..] == area[HEADER..]);
         // The image serves once; a refused restore leaves a record of zeros.
         assert_eq!(carry_out_restore(&mut warm, &mut cleared), 15);
-        assert_eq!(warm.state, [0; ARC_STATE]);
+        assert_eq!(warm.base.state, [0; ARC_STATE]);
     }
     println!("{} D-ARC boxes are saved and restored", boxes.len());
 }
@@ -90,7 +88,7 @@ fn every_cut() {
             for header_is_new in [false, true] {
                 let mut area = area.clone();
                 cut(&mut area, &all, at, random.bytes(WRITE).try_into().unwrap(), header_is_new);
-                let given = found(&area, [&lent.addresses, &lent.blocks, &lent.lists].map(|bytes| bytes.len())).map(|found| found.lists == saved.lists);
+                let given = found(&area, lent.base.addresses.len(), lent.base.blocks.len(), lent.lists.len()).map(|found| found.lists == saved.lists);
                 assert_eq!(given, if at + 1 == all.len() && header_is_new { Ok(true) } else { Err(15) }, "write {at}");
                 cuts += 1;
             }
@@ -107,8 +105,8 @@ fn refused_restores() {
     let short = area.len() - 6;
     assert_eq!((refusal_save(&saved, &area[..short]), refusal_save(&saved, &area[..short + 1])), (14, 0));
     assert_eq!(carry_out_save(&mut saved, &mut area), 0);
-    let [addresses, blocks, lists] = [&lent.addresses, &lent.blocks, &lent.lists].map(|bytes| bytes.len());
-    let number = |area: &[u8], lists: usize| found(area, [addresses, blocks, lists]).err().unwrap_or(0);
+    let [addresses, blocks, lists] = [&lent.base.addresses, &lent.base.blocks, &lent.lists].map(|bytes| bytes.len());
+    let number = |area: &[u8], lists: usize| found(area, addresses, blocks, lists).err().unwrap_or(0);
     assert_eq!([number(&area, lists), number(&area, 0), number(&area[..short], lists), number(&area[..63], lists)], [0, 2, 14, 15]);
     // A number of the body and what it becomes: kind, C, X, n, t, p, a size. All of these are refused with 16.
     for (place, other) in [(0, 0), (0, 2), (1, 65), (3, 0), (4, 3), (5, 3), (6, 0), (6, 7), (7, 3), (8, 2)] {
@@ -117,34 +115,7 @@ fn refused_restores() {
         assert_eq!(number(&area, lists), 16, "number {place} is {other}");
         let mut record = cold(lent);
         assert_eq!(carry_out_restore(&mut record, &mut area), 16);
-        assert_eq!(record.arc_numbers().label, ZEROS);
+        assert_eq!(record.numbers().label, ZEROS);
     }
     println!("saves and restores of a D-ARC box are refused with 14, 15, 16 and 2");
-}
-
-/// The lists' length tells the kind of the state: with another state a restore of any image is 2, and nothing is changed. A sound image of the other kind is 2
-/// too, and leaves a record of zeros.
-#[test]
-fn states_and_lists_of_both_kinds() {
-    let lent = &examples()[0].from;
-    let Numbers { b, p, m, d, n, t, label, .. } = lent.numbers();
-    let lru = Lent { kind: Kind::Lru, state: Numbers { b, p, m, d, n, t, label, counters: [0; 4] }.to_bytes(), lists: vec![], ..lent.clone() };
-    let mut tried = 0;
-    for saved in [lent, &lru] {
-        let mut area = vec![0xDD; room(Kind::Arc, m as usize, d as usize)];
-        assert_eq!(carry_out_save(&mut saved.clone(), &mut area), 0);
-        for (state, lists) in [(STATE, 0), (ARC_STATE, 0), (STATE, lent.lists.len()), (ARC_STATE, lent.lists.len()), (193, 0), (191, 1), (143, 0)] {
-            let given = Lent { state: vec![0x5A; state], lists: vec![0xA7; lists], ..lent.clone() };
-            let (mut after, mut left) = (given.clone(), area.clone());
-            let number = carry_out_restore(&mut after, &mut left);
-            let right = state == saved.kind.state() && lists == saved.lists.len();
-            assert_eq!(number, if right { 0 } else { 2 }, "{}, a state of {state}, lists of {lists}", saved.kind);
-            let read = state == if lists == 0 { STATE } else { ARC_STATE };
-            let record = [&after.state[..40], &after.state[72..]].concat();
-            assert_eq!(record.iter().all(|byte| *byte == 0), read && !right, "{}, a state of {state}, lists of {lists}", saved.kind);
-            assert_eq!((after == given, left == area), (!read, !right), "{}, a state of {state}, lists of {lists}", saved.kind);
-            tried += 1;
-        }
-    }
-    println!("{tried} restores with states and lists of both kinds and others");
 }

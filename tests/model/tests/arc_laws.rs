@@ -1,9 +1,8 @@
 //! The laws of U5 on random lists of calls on D-ARC boxes of the model, with those of U2, U3, U7 and U8 that are about these boxes too.
 use common::Random;
-use model::arc::{ArcNumbers, Lists, B1, B2, B3, T1, T2, WORD};
+use model::arc::{carry_out, carry_out_many, carry_out_report, ArcLent, ArcNumbers, Lists, B1, B2, B3, T1, T2, WORD};
 use model::machines::PlainDisk;
-use model::{carry_out, carry_out_many, carry_out_report, fingerprint, read_tables};
-use model::{AddressRow, Answer, BlockRow, Cache, Call, Fingerprint, Folder, Kind, Label, Lent, ManyAnswer, Report};
+use model::{fingerprint, read_tables, AddressRow, Answer, BlockRow, Cache, Call, Fingerprint, Folder, Label, Lent, ManyAnswer, Report};
 use model::{ANSWER, DISK, HIT, LABEL, MANY_ANSWER, ROW};
 use std::collections::{HashMap, HashSet};
 
@@ -34,7 +33,7 @@ struct Met {
 
 /// A box as bytes and as a cache, beside the plain disk.
 struct Beside {
-    lent: Lent,
+    lent: ArcLent,
     cache: Cache,
     plain: PlainDisk,
 }
@@ -71,21 +70,20 @@ impl Shape {
     }
 }
 
-fn memory(numbers: ArcNumbers, disk: &[u8], flash: &[u8], tables: [Vec<u8>; 3]) -> Lent {
+fn memory(numbers: ArcNumbers, disk: &[u8], flash: &[u8], tables: [Vec<u8>; 3]) -> ArcLent {
     let (state, disk, flash, [addresses, blocks, lists]) = (numbers.to_bytes(), disk.to_vec(), flash.to_vec(), tables);
-    let (kind, block, answer, label) = (Kind::Arc, vec![0; B], vec![0; ANSWER], OFFICE.to_vec());
-    Lent { kind, state, disk, flash, addresses, blocks, lists, block, answer, label }
+    ArcLent { base: Lent { state, disk, flash, addresses, blocks, block: vec![0; B], answer: vec![0; ANSWER], label: OFFICE.to_vec() }, lists }
 }
 
 /// A fresh box over other bytes, in bytes and as a cache.
-fn opened(shape: Shape, disk: &[u8], flash: &[u8]) -> (Lent, Cache) {
+fn opened(shape: Shape, disk: &[u8], flash: &[u8]) -> (ArcLent, Cache) {
     let Shape { c, x, p, t, .. } = shape;
     let m = shape.m();
     let before = ArcNumbers { label: [1; LABEL], ..shape.numbers(77, 99, [3; 5]) };
     let mut lent = memory(before, disk, flash, [vec![0xBB; m * ROW], vec![0xCC; c * ROW], vec![0xDD; m * WORD]]);
     assert_eq!(carry_out(Call::Open, 0, &mut lent), 0);
     let cache = Cache::fresh_arc(B, p, c, x, t, OFFICE, disk.to_vec(), flash.to_vec());
-    assert_eq!(cache.difference(&lent), None);
+    assert_eq!(cache.difference_arc(&lent), None);
     (lent, cache)
 }
 
@@ -98,7 +96,7 @@ fn shuffled<T>(random: &mut Random, list: impl IntoIterator<Item = T>) -> Vec<T>
 }
 
 /// A box that is sound and under the premise faithful, which no list need reach, and its plain disk.
-fn faithful(random: &mut Random, shape: Shape) -> (Lent, Vec<u8>) {
+fn faithful(random: &mut Random, shape: Shape) -> (ArcLent, Vec<u8>) {
     let Shape { c, p, t, contents, .. } = shape;
     let (m, plain, mut disk) = (shape.m(), shape.disk(random), shape.disk(random));
     let print = |content: u8| fingerprint(&OFFICE, &[content; B]);
@@ -135,23 +133,23 @@ fn faithful(random: &mut Random, shape: Shape) -> (Lent, Vec<u8>) {
 }
 
 /// The named addresses of each list, read from the bytes.
-fn lists(lent: &Lent) -> [Vec<u32>; 5] {
+fn lists(lent: &ArcLent) -> [Vec<u32>; 5] {
     let mut words = lent.words().into_iter();
-    lent.arc_numbers().sizes.map(|size| words.by_ref().take(size as usize).collect())
+    lent.numbers().sizes.map(|size| words.by_ref().take(size as usize).collect())
 }
 
-fn held(lent: &Lent) -> Vec<AddressRow> {
-    read_tables(lent).0[..lent.arc_numbers().n as usize].to_vec()
+fn held(lent: &ArcLent) -> Vec<AddressRow> {
+    read_tables(&lent.base).0[..lent.numbers().n as usize].to_vec()
 }
 
-fn used(lent: &Lent) -> Vec<BlockRow> {
-    read_tables(lent).1.into_iter().filter(|row| row.used == 1).collect()
+fn used(lent: &ArcLent) -> Vec<BlockRow> {
+    read_tables(&lent.base).1.into_iter().filter(|row| row.used == 1).collect()
 }
 
 /// "each address of T1 and T2 has its block, T1, T2 and B3 hold at most C + X together, B1 and B2 together at most C"; the lists name each held address once
 /// and no other, zeros follow, and p is at most C.
-fn laws_of_the_lists(lent: &Lent, context: &str) {
-    let ArcNumbers { c, x, adaptive, sizes, .. } = lent.arc_numbers();
+fn laws_of_the_lists(lent: &ArcLent, context: &str) {
+    let ArcNumbers { c, x, adaptive, sizes, .. } = lent.numbers();
     let lists = lists(lent);
     assert!(sizes[T1] + sizes[T2] + sizes[B3] <= c + x && sizes[B1] + sizes[B2] <= c && adaptive <= c, "{sizes:?}, p {adaptive}, {context}");
     let cached: HashSet<Fingerprint> = used(lent).iter().map(|row| row.fingerprint).collect();
@@ -167,23 +165,23 @@ fn laws_of_the_lists(lent: &Lent, context: &str) {
 
 /// Under the premise each held row has the fingerprint of the plain disk's block and each used block row that of the block in its slot; at most t rows are
 /// dirty; and where none is, the disk is the plain disk's.
-fn laws_of_the_tables(lent: &Lent, plain: &PlainDisk, context: &str) {
+fn laws_of_the_tables(lent: &ArcLent, plain: &PlainDisk, context: &str) {
     let rows = held(lent);
     assert!(rows.iter().all(|row| row.fingerprint == fingerprint(&OFFICE, plain.block(row.address))), "{context}");
-    let stored = |row: &BlockRow| &lent.flash[row.slot as usize * B..][..B];
+    let stored = |row: &BlockRow| &lent.base.flash[row.slot as usize * B..][..B];
     assert!(used(lent).iter().all(|row| row.fingerprint == fingerprint(&OFFICE, stored(row))), "{context}");
     let dirty = rows.iter().filter(|row| row.dirty == 1).count() as u64;
-    assert!(dirty <= lent.arc_numbers().t, "{dirty} dirty rows, {context}");
-    assert!(dirty > 0 || plain.is(&lent.disk), "no row is dirty, and the disk is another, {context}");
+    assert!(dirty <= lent.numbers().t, "{dirty} dirty rows, {context}");
+    assert!(dirty > 0 || plain.is(&lent.base.disk), "no row is dirty, and the disk is another, {context}");
 }
 
 impl Met {
     /// Sees what a read or a write of this address did.
-    fn see(&mut self, before: &Lent, after: &Lent, address: u32) {
+    fn see(&mut self, before: &ArcLent, after: &ArcLent, address: u32) {
         let (old, new) = (lists(before), lists(after));
         let from = old.iter().position(|list| list.contains(&address)).unwrap_or(5);
         self.from[from] += 1;
-        let (p, q) = (before.arc_numbers().adaptive, after.arc_numbers().adaptive);
+        let (p, q) = (before.numbers().adaptive, after.numbers().adaptive);
         self.raised += (q > p) as usize;
         self.lowered += (q < p) as usize;
         self.by_more += (q.abs_diff(p) > 1) as usize;
@@ -216,19 +214,19 @@ impl Met {
 fn one(both: &mut Beside, call: Call, address: u32, block: &[u8], met: &mut Met, context: &str) -> (u32, Vec<u8>) {
     let Beside { lent, cache, plain } = both;
     let before = lent.clone();
-    lent.block = block.to_vec();
+    lent.base.block = block.to_vec();
     let number = carry_out(call, address, lent);
     assert!([0, 2, 3].contains(&number), "number {number}, {context}");
     let mut own = block.to_vec();
     assert_eq!(cache.call(call, address, &mut own).err().unwrap_or(0), number, "{context}");
-    assert!(own == lent.block && cache.difference(lent).is_none(), "{context}");
-    let answer = Answer::from_bytes(&lent.answer);
+    assert!(own == lent.base.block && cache.difference_arc(lent).is_none(), "{context}");
+    let answer = Answer::from_bytes(&lent.base.answer);
     let returned = match call {
         Call::Look if number == 0 => {
-            let part = if answer.word == DISK { &lent.disk } else { &lent.flash };
+            let part = if answer.word == DISK { &lent.base.disk } else { &lent.base.flash };
             Some(part[answer.first as usize..][..answer.second as usize].to_vec())
         }
-        Call::Read if number == 0 => Some(lent.block.clone()),
+        Call::Read if number == 0 => Some(lent.base.block.clone()),
         _ => None,
     };
     assert_eq!(plain.feed(call, address, block, number != 0), returned.as_deref(), "{context}");
@@ -236,7 +234,7 @@ fn one(both: &mut Beside, call: Call, address: u32, block: &[u8], met: &mut Met,
     if number == 0 && call.takes_block() {
         met.see(&before, lent, address);
     }
-    (number, if number == 0 { lent.answer.clone() } else { vec![] })
+    (number, if number == 0 { lent.base.answer.clone() } else { vec![] })
 }
 
 /// One call for a folder: blocks, flash, tables, lists, counters and disk are those of the reads done in turn.
@@ -247,7 +245,7 @@ fn folder(both: &mut Beside, asked: &[u32], met: &mut Met, context: &str) -> (u3
     let number = carry_out_many(lent, &mut many);
     let mut own = vec![0xEE; asked.len() * B];
     assert_eq!(cache.read_many(asked, &mut own).err().unwrap_or(0), number, "{context}");
-    assert!(own == many.buffer && cache.difference(lent).is_none(), "{context}");
+    assert!(own == many.buffer && cache.difference_arc(lent).is_none(), "{context}");
     if number != 0 {
         assert!(number == 3 || number == 10, "number {number}, {context}");
         met.refused += 1;
@@ -255,17 +253,17 @@ fn folder(both: &mut Beside, asked: &[u32], met: &mut Met, context: &str) -> (u3
     }
     let (mut expected, mut blocks) = (ManyAnswer::default(), Vec::new());
     for (k, a) in asked.iter().enumerate() {
-        single.block = vec![0; B];
+        single.base.block = vec![0; B];
         assert_eq!(carry_out(Call::Read, *a, &mut single), 0, "{context}");
-        let Answer { word, first, second } = Answer::from_bytes(&single.answer);
+        let Answer { word, first, second } = Answer::from_bytes(&single.base.answer);
         expected.hits += (word == HIT) as u64;
         expected.flash += first;
         expected.primary += second;
         expected.fetches += (word != HIT && !asked[..k].contains(a)) as u64;
-        assert_eq!(single.block, plain.block(*a), "{context}");
-        blocks.extend(&single.block);
+        assert_eq!(single.base.block, plain.block(*a), "{context}");
+        blocks.extend(&single.base.block);
     }
-    (single.block, single.answer) = (lent.block.clone(), lent.answer.clone());
+    (single.base.block, single.base.answer) = (lent.base.block.clone(), lent.base.answer.clone());
     assert_eq!((ManyAnswer::from_bytes(&many.answer), many.buffer == blocks), (expected, true), "{context}");
     assert_eq!(lent.difference(&single), None, "{context}");
     met.folders += 1;
@@ -322,7 +320,7 @@ fn list(random: &mut Random, shape: Shape, mut both: Beside, length: usize, met:
         laws_of_the_lists(&both.lent, &context);
         laws_of_the_tables(&both.lent, &both.plain, &context);
         if matches!(what, Asked::One(Call::Flush, _, _)) {
-            assert!(both.plain.is(&both.lent.disk), "{context}");
+            assert!(both.plain.is(&both.lent.base.disk), "{context}");
         }
     }
 }
@@ -355,7 +353,7 @@ fn from_faithful_boxes() {
         let shape = Shape::any(&mut random);
         let (mut lent, plain) = faithful(&mut random, shape);
         let before = lent.clone();
-        let cache = Cache::load(&mut lent);
+        let cache = Cache::load_arc(&mut lent);
         let both = Beside { lent: before, cache, plain: PlainDisk::new(&plain, B) };
         laws_of_the_lists(&both.lent, "a faithful box");
         laws_of_the_tables(&both.lent, &both.plain, "a faithful box");
@@ -418,7 +416,7 @@ fn other_seats_and_no_limit() {
             assert_eq!(answers[0], answers[1], "{context}");
             assert!(answers[0].0 == answers[2].0 && answers[0].1.get(..8) == answers[2].1.get(..8), "without the limit, {context}");
             assert_eq!(lists(&one.lent), lists(&free.lent), "{context}");
-            assert_eq!(one.lent.arc_numbers(), other.lent.arc_numbers(), "{context}");
+            assert_eq!(one.lent.numbers(), other.lent.numbers(), "{context}");
             let mut desks = [vec![1; shape.m() * 5], vec![2; shape.m() * 5]];
             for (desk, both) in desks.iter_mut().zip([&one, &other]) {
                 assert_eq!(carry_out_report(Report::Desk, &both.lent, desk), 0, "{context}");

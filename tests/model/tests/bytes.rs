@@ -25,7 +25,6 @@ fn lists_in_bytes() {
             block: Vec::new(),
             answer: vec![0; 24],
             label: label.to_vec(),
-            ..Lent::default()
         };
         let mut cache = Cache::fresh(b, p, m, d, t, label, disk, flash);
         assert_eq!(carry_out(Call::Open, 0, &mut lent), 0);

@@ -1,6 +1,6 @@
 //! Images by the model: one worked byte by byte from document 02 (U10), each refusal of a restore alone and their order, 14 after 9 in a save, power cuts.
 use model::image::{area_length, body, carry_out_restore, carry_out_save, cut, header, header_length, refusal_save, room, writes};
-use model::{carry_out, fingerprint, Answer, Call, Kind, Label, Lent, Numbers, DONE, LABEL, ROW};
+use model::{carry_out, fingerprint, Answer, Call, Label, Lent, Numbers, DONE, LABEL, ROW};
 
 const B: usize = 64;
 const OFFICE: Label = [0x4F; LABEL];
@@ -18,7 +18,6 @@ fn dirty_box() -> Lent {
         block: vec![9; B],
         answer: vec![0xEE; 24],
         label: OFFICE.to_vec(),
-        ..Lent::default()
     };
     assert_eq!((carry_out(Call::Open, 0, &mut lent), carry_out(Call::Back(0x0201), 2, &mut lent)), (0, 0));
     lent
@@ -74,71 +73,69 @@ fn given_back() {
     let (lent, mut area) = saved();
     let before = area.clone();
     let mut back = stale(&lent);
-    assert_eq!(carry_out_restore(&mut back, &mut area), 0);
+    assert_eq!(carry_out_restore(&mut back, &mut area, 0), 0);
     let expected = Lent { state: Numbers { counters: [5, 6, 7, u64::MAX], ..lent.numbers() }.to_bytes(), ..lent.clone() };
     assert_eq!(back.difference(&expected), None);
     assert_eq!((&area[..64], &area[64..]), (&[0; 64][..], &before[64..]));
     // The header is gone: a second restore finds no image, and leaves a record of zeros.
-    assert_eq!(carry_out_restore(&mut back, &mut area), 15);
+    assert_eq!(carry_out_restore(&mut back, &mut area, 0), 15);
     assert_eq!(back.numbers(), Numbers { counters: [5, 6, 7, u64::MAX], ..Numbers::from_bytes(&[0; 144]) });
     assert!(back.addresses == expected.addresses && back.blocks == expected.blocks);
     println!("a box given back once");
 }
 
 /// What can be wrong with a restore, in the order of its checks; every number of the body is wrong in a way of its own.
-type Wrong = (&'static str, u32, fn(&mut Vec<u8>, &mut Lent));
+type Wrong = (&'static str, u32, fn(&mut Vec<u8>, &mut Lent, &mut usize));
 const WRONG: [Wrong; 26] = [
-    ("no mark", 15, |area, _| area[0] = b'v'),
-    ("the mark's second byte", 15, |area, _| area[1] = 0),
-    ("the mark's third byte", 15, |area, _| area[2] = b'Y'),
-    ("version 0", 15, |area, _| area[3] = 0),
-    ("version 2", 15, |area, _| area[3] = 2),
-    ("version 257", 15, |area, _| area[4] = 1),
-    ("a byte behind the length", 15, |area, _| area[9] = 1),
-    ("the header's last byte", 15, |area, _| area[63] = 1),
-    ("an area of 63 bytes", 15, |area, _| area.truncate(63)),
-    ("an area of no byte", 15, |area, _| area.clear()),
-    ("an area without the fill's last byte", 14, |area, _| area.truncate(ROOM - 1)),
-    ("a header alone", 14, |area, _| area.truncate(64)),
-    ("a length above the area", 14, |area, _| area[5..9].fill(255)),
-    ("a D-LRU body that starts as a D-ARC one", 16, |area, _| area[64] = 1),
-    ("a kind that is none", 16, |area, _| area[67] = 1),
-    ("B of 65", 16, |area, _| area[68] = 65),
-    ("P of 0", 16, |area, _| area[72] = 0),
-    ("m too large for any area", 16, |area, _| area[76..80].fill(255)),
-    ("d too large for any area", 16, |area, _| area[80..84].fill(255)),
-    ("n above m", 16, |area, _| area[84] = 3),
-    ("t of 0", 16, |area, _| area[88] = 0),
-    ("the address table", 16, |area, _| area[156 + 39] = 1),
-    ("the block table", 16, |area, _| area[156 + 2 * ROW + 37] = 1),
-    ("a longer address table lent", 2, |_, lent| lent.addresses.push(0)),
-    ("a shorter block table lent", 2, |_, lent| lent.blocks.truncate(ROW - 1)),
-    ("lists of a byte, and the state that goes with them", 2, |_, lent| (lent.lists, lent.state) = (vec![7], vec![0x5A; 192])),
+    ("no mark", 15, |area, _, _| area[0] = b'v'),
+    ("the mark's second byte", 15, |area, _, _| area[1] = 0),
+    ("the mark's third byte", 15, |area, _, _| area[2] = b'Y'),
+    ("version 0", 15, |area, _, _| area[3] = 0),
+    ("version 2", 15, |area, _, _| area[3] = 2),
+    ("version 257", 15, |area, _, _| area[4] = 1),
+    ("a byte behind the length", 15, |area, _, _| area[9] = 1),
+    ("the header's last byte", 15, |area, _, _| area[63] = 1),
+    ("an area of 63 bytes", 15, |area, _, _| area.truncate(63)),
+    ("an area of no byte", 15, |area, _, _| area.clear()),
+    ("an area without the fill's last byte", 14, |area, _, _| area.truncate(ROOM - 1)),
+    ("a header alone", 14, |area, _, _| area.truncate(64)),
+    ("a length above the area", 14, |area, _, _| area[5..9].fill(255)),
+    ("a D-LRU body that starts as a D-ARC one", 16, |area, _, _| area[64] = 1),
+    ("a kind that is none", 16, |area, _, _| area[67] = 1),
+    ("B of 65", 16, |area, _, _| area[68] = 65),
+    ("P of 0", 16, |area, _, _| area[72] = 0),
+    ("m too large for any area", 16, |area, _, _| area[76..80].fill(255)),
+    ("d too large for any area", 16, |area, _, _| area[80..84].fill(255)),
+    ("n above m", 16, |area, _, _| area[84] = 3),
+    ("t of 0", 16, |area, _, _| area[88] = 0),
+    ("the address table", 16, |area, _, _| area[156 + 39] = 1),
+    ("the block table", 16, |area, _, _| area[156 + 2 * ROW + 37] = 1),
+    ("a longer address table lent", 2, |_, lent, _| lent.addresses.push(0)),
+    ("a shorter block table lent", 2, |_, lent, _| lent.blocks.truncate(ROW - 1)),
+    ("lists of a byte", 2, |_, _, lists| *lists = 1),
 ];
 
 /// Bodies of other lengths by their header, all of them short enough for the area.
 const OTHER_LENGTHS: [Wrong; 5] = [
-    ("a body of no byte", 16, |area, _| area[5] = 0),
-    ("a body shorter than its numbers", 16, |area, _| area[5] = 27),
-    ("a body of its numbers alone", 16, |area, _| area[5] = 28),
-    ("a body that is a byte shorter", 16, |area, _| area[5] -= 1),
-    ("a body that is a byte longer", 16, |area, _| area[5] += 1),
+    ("a body of no byte", 16, |area, _, _| area[5] = 0),
+    ("a body shorter than its numbers", 16, |area, _, _| area[5] = 27),
+    ("a body of its numbers alone", 16, |area, _, _| area[5] = 28),
+    ("a body that is a byte shorter", 16, |area, _, _| area[5] -= 1),
+    ("a body that is a byte longer", 16, |area, _, _| area[5] += 1),
 ];
 
 /// A refused restore: its number, with everything kept but the record, which is zeros.
 fn refused(wrong: &[&Wrong], number: u32) {
     let (lent, mut area) = saved();
-    let mut back = stale(&lent);
+    let (mut back, mut lists) = (stale(&lent), 0);
     // From the last check to the first, so that an area gets shorter last.
     for (_, _, spoil) in wrong.iter().rev() {
-        spoil(&mut area, &mut back);
+        spoil(&mut area, &mut back, &mut lists);
     }
     let names: Vec<&str> = wrong.iter().map(|(name, ..)| *name).collect();
     let (kept, kept_area) = (back.clone(), area.clone());
-    assert_eq!(carry_out_restore(&mut back, &mut area), number, "{names:?}");
-    let mut expected = kept;
-    expected.state[..40].fill(0);
-    expected.state[72..].fill(0);
+    assert_eq!(carry_out_restore(&mut back, &mut area, lists), number, "{names:?}");
+    let expected = Lent { state: Numbers { counters: kept.numbers().counters, ..Numbers::from_bytes(&[0; 144]) }.to_bytes(), ..kept };
     assert_eq!(back.difference(&expected), None, "{names:?}");
     assert_eq!(area, kept_area, "{names:?}");
 }
@@ -184,7 +181,7 @@ fn dirty_rows_in_a_body() {
         lent.blocks[0] ^= missing as u8;
         let body = body(&lent);
         let mut area = [&header(body.len() as u32)[..], &body, &[0xFF; 44]].concat();
-        assert_eq!(carry_out_restore(&mut stale(&lent), &mut area), number, "t = {t}, missing {missing}");
+        assert_eq!(carry_out_restore(&mut stale(&lent), &mut area, 0), number, "t = {t}, missing {missing}");
     }
     println!("dirty rows up to the limit are restored, whatever the fill");
 }
@@ -193,11 +190,11 @@ fn dirty_rows_in_a_body() {
 fn a_state_of_another_length() {
     let (lent, mut area) = saved();
     let kept = area.clone();
-    for length in [0, 136, 143, 145, 192] {
+    for length in [0, 136, 143, 145] {
         let mut back = stale(&lent);
         back.state.resize(length, 0x5A);
         let expected = back.clone();
-        assert_eq!(carry_out_restore(&mut back, &mut area), 2, "{length}");
+        assert_eq!(carry_out_restore(&mut back, &mut area, 0), 2, "{length}");
         assert!(back == expected && area == kept);
         assert_eq!(carry_out_save(&mut back, &mut area), 2, "{length}");
         assert!(back == expected && area == kept);
@@ -231,7 +228,7 @@ fn every_cut() {
         let whole = at == 5 && new;
         assert_eq!(header_length(&area), whole.then_some(212));
         let mut back = stale(&lent);
-        assert_eq!(carry_out_restore(&mut back, &mut area), if whole { 0 } else { 15 }, "cut at {at}, new {new}");
+        assert_eq!(carry_out_restore(&mut back, &mut area, 0), if whole { 0 } else { 15 }, "cut at {at}, new {new}");
         assert_eq!(back.addresses == lent.addresses, whole);
         // Each write of the body is new, junk or old.
         for (k, part) in area[64..].chunks(64).enumerate() {
@@ -249,6 +246,6 @@ fn lengths() {
     for (body, area) in lengths {
         assert_eq!(area_length(body), area, "{body}");
     }
-    assert_eq!((room(Kind::Lru, 2, 1), room(Kind::Lru, 1, 1), room(Kind::Lru, 1_024, 256)), (ROOM, 64 + 192, 64 + 51_328));
+    assert_eq!((room(2, 1), room(1, 1), room(1_024, 256)), (ROOM, 64 + 192, 64 + 51_328));
     println!("{} lengths of bodies and of their areas", lengths.len());
 }

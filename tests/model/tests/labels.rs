@@ -36,7 +36,6 @@ fn used(label: &[u8]) -> Lent {
         block: vec![0xDD; B],
         answer: vec![0xEE; 24],
         label: label.to_vec(),
-        ..Lent::default()
     };
     assert_eq!((carry_out(Call::Open, 0, &mut lent), carry_out(Call::Read, 5, &mut lent)), (0, 0));
     lent

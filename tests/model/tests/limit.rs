@@ -91,7 +91,6 @@ fn lent(dirty: usize, t: u64) -> Lent {
         block: vec![9; B],
         answer: vec![0; 24],
         label: vec![0x33; LABEL],
-        ..Lent::default()
     }
 }
 

@@ -63,7 +63,6 @@ fn off_the_premise(held: bool, print: u8, stored: u8) -> Lent {
         block: vec![],
         answer: vec![],
         label: vec![],
-        ..Lent::default()
     }
 }
 
@@ -114,7 +113,7 @@ fn as_the_reads_in_turn() {
         let disk: Vec<u8> = (0..p).flat_map(|_| [random.below(contents) as u8; B]).collect();
         let flash = random.bytes(d * B);
         let mut cache = Cache::fresh(B, p, m, d, 1 + random.below(m), OFFICE, disk.clone(), flash.clone());
-        let mut lent = Lent { disk, flash, ..Lent::default() };
+        let mut lent = Lent { state: vec![], disk, flash, addresses: vec![], blocks: vec![], block: vec![], answer: vec![], label: vec![] };
         for _ in 0..30 {
             let call = model::CALLS[1 + random.below(6)].by_seat(random.number() as u16);
             cache.call(call, random.below(p) as u32, &mut vec![random.below(contents) as u8; B]).unwrap();

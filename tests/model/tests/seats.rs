@@ -20,7 +20,7 @@ fn rows(cache: &Cache) -> Vec<(u32, bool, u16)> {
 }
 
 fn bytes_of(cache: &Cache) -> Lent {
-    let mut lent = Lent::default();
+    let mut lent = Lent { state: vec![], disk: vec![], flash: vec![], addresses: vec![], blocks: vec![], block: vec![], answer: vec![], label: vec![] };
     cache.clone().store(&mut lent);
     lent
 }

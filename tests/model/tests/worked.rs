@@ -132,7 +132,6 @@ fn lent(b: usize, p: usize, m: usize, d: usize) -> Lent {
         block: vec![0xDD; b],
         answer: vec![0xEE; 24],
         label: OFFICE.to_vec(),
-        ..Lent::default()
     }
 }
 

@@ -81,18 +81,14 @@ fn asked(line: &[u8], more: More) -> Option<Asked<'_>> {
     Some(Asked { call, letter: words[0], address, content })
 }
 
-/// A fresh box by line 1, or the number with which the line is refused: 4 before 1, or 11 of a D-ARC box, that before 5, 5 before 12.
+/// A fresh box by line 1, or the number with which the line is refused: 4 before 1, 1 before 5, 5 before 12.
 fn open(line: &[u8], more: More) -> Result<Cache, u32> {
-    let words = words(line).filter(|words| words.len() == 5 && ["box", "arc"].contains(&words[0])).ok_or(NOT_THE_FORM)?;
+    let words = words(line).filter(|words| words.len() == 5 && words[0] == "box").ok_or(NOT_THE_FORM)?;
     let numbers: Option<Vec<u32>> = words[1..].iter().map(|word| decimal(word)).collect();
-    let [b, p, third, fourth] = numbers.ok_or(NOT_THE_FORM)?[..] else { unreachable!("four words") };
-    // "C (cached blocks, its d) and X (extra addresses); its m is 2 × C + X" (document 02, U5)
-    let arc = words[0] == "arc";
-    let (m, d) = if arc { (2 * third + fourth, third) } else { (third, fourth) };
+    let [b, p, m, d] = numbers.ok_or(NOT_THE_FORM)?[..] else { unreachable!("four words") };
     let inside = |number: u32, most: usize| 1 <= number && number as usize <= most;
     if !(BLOCK_SIZES.contains(&(b as usize)) && inside(p, MOST_P) && inside(m, MOST_M) && inside(d, MOST_D)) {
-        // "It refuses with 11, in place of 1"
-        return Err(if arc { 11 } else { 1 });
+        return Err(1);
     }
     if p > MOST_REPLAY_P || p * b > MOST_BYTES || d * b > MOST_BYTES {
         return Err(TOO_LARGE);
@@ -103,8 +99,8 @@ fn open(line: &[u8], more: More) -> Result<Cache, u32> {
         return Err(12);
     }
     let [b, p, m, d, t] = [b, p, m, d, t].map(|number| number as usize);
-    let (disk, flash) = ((0..p).flat_map(|k| vec![k as u8; b]).collect(), vec![0; d * b]);
-    Ok(if arc { Cache::fresh_arc(b, p, d, m - 2 * d, t, ZEROS, disk, flash) } else { Cache::fresh(b, p, m, d, t, ZEROS, disk, flash) })
+    let disk = (0..p).flat_map(|k| vec![k as u8; b]).collect();
+    Ok(Cache::fresh(b, p, m, d, t, ZEROS, disk, vec![0; d * b]))
 }
 
 /// The output's line for a later line of the list: its fields after the call number.
@@ -138,16 +134,8 @@ pub fn follow(input: &[u8], more: More, mut seen: impl FnMut(Option<&str>, Optio
     seen(Some(&counters(&cache)), None, Some(&cache));
 }
 
-/// Whether the first line of an input is that of a D-ARC box, or begins as one.
-pub fn is_arc(input: &[u8]) -> bool {
-    input.starts_with(b"arc")
-}
-
-/// The whole output for a whole input. A replay has no D-ARC boxes: their line 1 is not of its form.
+/// The whole output for a whole input.
 pub fn replay(input: &[u8]) -> Vec<u8> {
-    if is_arc(input) {
-        return format!("0 refused {NOT_THE_FORM}\n").into_bytes();
-    }
     let mut output = String::new();
     follow(input, More::Nothing, |line, _, _| {
         if let Some(line) = line {

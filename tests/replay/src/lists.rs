@@ -74,29 +74,13 @@ impl Pool {
 /// A list: its lines, and a newline after the last one or not.
 pub fn random_list(random: &mut Random) -> Vec<u8> {
     let shape = Shape::random(random);
-    list_of(random, shape.line(), &shape)
-}
-
-/// The same of a D-ARC box, which has few extra addresses most of the time.
-pub fn random_arc_list(random: &mut Random) -> Vec<u8> {
-    let Shape { b, p, d, .. } = Shape::random(random);
-    let most = 1_024 - 2 * d;
-    let x = match random.below(12) {
-        0 => most,
-        1 => random.below(most + 1),
-        _ => random.below(4),
-    };
-    list_of(random, format!("arc {b} {p} {d} {x}"), &Shape { b, p, m: 2 * d + x, d })
-}
-
-fn list_of(random: &mut Random, line: String, shape: &Shape) -> Vec<u8> {
-    let pool = Pool::random(random, shape);
+    let pool = Pool::random(random, &shape);
     let length = match random.below(20) {
         0 => 300 + random.below(200),
         1 => random.below(3),
         _ => random.below(80),
     };
-    let mut lines = vec![line];
+    let mut lines = vec![shape.line()];
     lines.extend((0..length).map(|_| pool.line(random)));
     let mut input = lines.join("\n").into_bytes();
     if random.below(8) != 0 {

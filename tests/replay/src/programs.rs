@@ -14,29 +14,6 @@ pub fn fences(page: &str) -> Vec<&str> {
     page.split("```\n").skip(1).step_by(2).collect()
 }
 
-/// Whether all lines of a text stand in a page, in their order.
-pub fn in_order(page: &str, text: &str) -> bool {
-    let mut rest = page.lines();
-    text.lines().all(|line| rest.any(|found| found == line))
-}
-
-/// A lesson's name, its list and its stored output.
-pub type Lesson = (String, Vec<u8>, String);
-
-/// The lessons. A list without a stored output, or a stored output without its list, is a failure.
-pub fn lessons() -> Vec<Lesson> {
-    let folder = root().join("lessons");
-    let mut files: Vec<PathBuf> = std::fs::read_dir(&folder).unwrap().map(|entry| entry.unwrap().path()).collect();
-    files.sort();
-    let with = |extension: &str| {
-        files.iter().filter(|file| file.extension().is_some_and(|found| found == extension)).map(|file| file.with_extension("")).collect::<Vec<_>>()
-    };
-    assert_eq!(with("txt"), with("expected"), "lists and stored outputs");
-    let read = |file: &PathBuf, extension: &str| std::fs::read(file.with_extension(extension)).unwrap();
-    let name = |file: &PathBuf| file.file_name().unwrap().to_str().unwrap().to_string();
-    with("txt").iter().map(|file| (name(file), read(file, "txt"), String::from_utf8(read(file, "expected")).unwrap())).collect()
-}
-
 /// A program that reads standard input and writes standard output.
 pub struct Program {
     path: PathBuf,
@@ -181,7 +158,7 @@ impl Build {
     fn path(&self) -> &Path {
         self.path.get_or_init(|| {
             let output = root().join("target/tests").join(self.name);
-            let library = root().join("target/staticlib/libmindavehu.a");
+            let library = root().join("target/staticlib/libservice.a");
             let (built, said) = self.gcc(&root().join(self.source), &[&library], &output);
             assert!(built, "{} does not compile:\n{said}", self.source);
             output

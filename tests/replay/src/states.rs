@@ -1,5 +1,5 @@
 //! What the program of the states must print, from the model's box. A held row's content is found by its fingerprint, not by where its block is.
-use crate::{follow, is_arc, lines, More};
+use crate::{follow, lines, More};
 use model::{fingerprint, read_tables, Cache, Fingerprint, Lent, ZEROS};
 use std::collections::HashMap;
 
@@ -13,7 +13,7 @@ impl Contents {
 }
 
 fn lent(cache: &Cache) -> Lent {
-    let mut lent = Lent::default();
+    let mut lent = Lent { state: vec![], disk: vec![], flash: vec![], addresses: vec![], blocks: vec![], block: vec![], answer: vec![], label: vec![] };
     cache.clone().store(&mut lent);
     lent
 }
@@ -22,20 +22,12 @@ fn joined<T: ToString>(parts: impl Iterator<Item = T>) -> String {
     parts.map(|part| part.to_string()).collect::<Vec<_>>().join(" ")
 }
 
-/// The lists of a D-ARC box, oldest first, with `-` for an empty one, and p.
-fn lists(cache: &Cache) -> String {
-    let Some(lists) = &cache.lists else { return String::new() };
-    let of = |k: usize| if lists.of[k].is_empty() { "-".into() } else { joined(lists.of[k].iter()) };
-    let [t1, t2, b1, b2, b3] = std::array::from_fn(of);
-    format!("    T1 {t1}; T2 {t2}; B1 {b1}; B2 {b2}; B3 {b3}; p {}\n", lists.p)
-}
-
-/// The state in the notation of E1 to E8, with `*` for a dirty row and `none` for no held row, and behind it the lists of a D-ARC box.
+/// The state in the notation of E1 to E8, with `*` for a dirty row and `none` for no held row.
 fn state(cache: &Cache, contents: &Contents) -> String {
     let (_, rows) = read_tables(&lent(cache));
     let held = joined(cache.rows().iter().map(|(a, row)| format!("{a}:{}{}", contents.0[&row.fingerprint], if row.dirty { "*" } else { "" })));
     let blocks = joined(rows.iter().map(|row| if row.used == 1 { contents.0[&row.fingerprint].to_string() } else { "-".into() }));
-    format!("    {}; blocks {blocks}\n{}", if held.is_empty() { "none" } else { &held }, lists(cache))
+    format!("    {}; blocks {blocks}\n", if held.is_empty() { "none" } else { &held })
 }
 
 fn picture(cache: &Cache) -> String {
@@ -75,16 +67,14 @@ pub fn limited(input: &[u8], t: u32) -> String {
 pub fn warm(input: &[u8], request: usize) -> String {
     let mut list = lines(input);
     let Some((m, d)) = opened(input).filter(|_| request < list.len()) else { return states(input, false) };
-    // An answer, a state, and of a D-ARC box its lists.
-    let (kind, each) = if is_arc(input) { (model::Kind::Arc, 3) } else { (model::Kind::Lru, 2) };
     list.insert(request + 1, b"F");
     let flushed = states(&[&list.join(&b'\n')[..], b"\n"].concat(), false);
     let mut output = String::new();
     for (k, line) in flushed.lines().enumerate() {
-        output += &match (k / each, k % each) {
-            (call, 0) if call == request => saved(line, model::image::room(kind, m, d)),
-            (call, 1) if call == request => format!("{}\n", line.trim_start()),
-            (call, 0) if call > request => format!("{}\n", one_less(line)),
+        output += &match k / 2 {
+            call if call == request && k % 2 == 0 => saved(line, model::image::room(m, d)),
+            call if call == request => format!("{}\n", line.trim_start()),
+            call if call > request && k % 2 == 0 => format!("{}\n", one_less(line)),
             _ => format!("{line}\n"),
         };
     }
@@ -128,7 +118,7 @@ fn written(input: &[u8], full: bool, more: More) -> String {
         let Some(cache) = cache else { return output += &format!("{}\n", answer.unwrap()) };
         let contents = contents.get_or_insert_with(|| Contents::of(cache.b));
         match (answer, asked) {
-            (None, _) if full => output += &format!("    {}\n", std::str::from_utf8(lines(input)[0]).unwrap()),
+            (None, _) if full => output += &format!("    box {} {} {} {}\n", cache.b, cache.p, cache.m, cache.d),
             (None, _) => return,
             (Some(_), Some(line)) if full => output += &shown(line),
             _ => {}
@@ -179,13 +169,10 @@ pub fn folder(input: &[u8], asked: &[u32]) -> String {
     // Read by read: what the list prints when it has the reads as its last lines, without what it prints for the others.
     let reads: Vec<u8> = asked.iter().flat_map(|a| format!("R {a}\n").into_bytes()).collect();
     let longer = states(&[&lines(input).join(&b'\n')[..], b"\n", &reads].concat(), false);
-    // Behind the last answer stand the sums and the state.
-    let sums_and_state = 1 + state(&cache, &contents).lines().count();
-    let (before, all) = (states(input, false).lines().count() - sums_and_state, longer.lines().count() - sums_and_state);
+    let (before, all) = (states(input, false).lines().count() - 2, longer.lines().count() - 2);
     let each: String = longer.split_inclusive('\n').take(all).skip(before).collect();
     let sums = longer.lines().nth(all).unwrap();
     let misses = asked.len() as u64 - hits;
     output += &format!("folder {name}, read by read\n{each}{read}{sums}\n");
-    let tables = if cache.lists.is_some() { "tables, lists" } else { "tables" };
-    output + &format!("the same contents, {tables}, flash, disk and counters\nblocks fetched from disk: {fetches} by one call, {misses} read by read\n")
+    output + &format!("the same contents, tables, flash, disk and counters\nblocks fetched from disk: {fetches} by one call, {misses} read by read\n")
 }

@@ -1,8 +1,7 @@
 //! `--explain`: the rule that each refused line breaks, and what the cache did in each other line and why.
 use common::Random;
 use replay::programs::{root, Build, Program, Writing, PLAIN, SANITIZED};
-use replay::lists::{random_arc_list, random_list};
-use replay::{cases::cases, list, malformed::KINDS, states};
+use replay::{cases::cases, list, lists::random_list, malformed::KINDS, states};
 
 const LISTS: usize = 300;
 
@@ -10,7 +9,7 @@ fn explained(build: &'static Build, input: &[u8]) -> String {
     String::from_utf8(Program::states(build, &["--explain"]).run(input, Writing::Whole)).unwrap()
 }
 
-/// The lines below each answer but the state, without their spaces; a refused box line has no state, that of a D-ARC box has two lines.
+/// The lines below each answer but the state, without their spaces; a refused box line has no state.
 fn reasons(output: &str) -> Vec<(String, Vec<String>)> {
     let mut all: Vec<(String, Vec<String>)> = vec![];
     for line in output.lines() {
@@ -20,30 +19,15 @@ fn reasons(output: &str) -> Vec<(String, Vec<String>)> {
         }
     }
     for (answer, reasons) in &mut all {
-        if !answer.starts_with("0 ") && reasons.pop().is_some_and(|line| line.starts_with("T1 ")) {
+        if !answer.starts_with("0 ") {
             reasons.pop();
         }
     }
     all
 }
 
-/// An output without the reasons.
-fn without_reasons(output: &str) -> String {
-    let mut left = output.lines();
-    let mut kept = String::new();
-    for (answer, reasons) in reasons(output) {
-        kept += &format!("{answer}\n");
-        left.by_ref().nth(reasons.len());
-        for line in left.clone().take_while(|line| line.starts_with(' ')) {
-            kept += &format!("{line}\n");
-            left.next();
-        }
-    }
-    kept
-}
-
 /// Lines that are not of the form, after `box 64 8 3 2`, with the rule that is told.
-const LATER: [(&str, &str); 35] = [
+const LATER: [(&str, &str); 34] = [
     ("", "an empty line is no request"),
     ("R 1 and a tail that is far too long", "R 1 and a tail that is far too l...: 32 bytes at most"),
     ("R 1                             ", "R 1                             : no space before the first word, and none after the last"),
@@ -60,7 +44,6 @@ const LATER: [(&str, &str); 35] = [
     ("X 1", "X 1: a request begins with one of the letters R, L, F, T, B and I, and a space behind it where more follows"),
     ("R1", "R1: a request begins with one of the letters R, L, F, T, B and I, and a space behind it where more follows"),
     ("box 64 8 3 2", "box 64 8 3 2: a box line is line 1 only"),
-    ("arc 64 8 2 0", "arc 64 8 2 0: a box line is line 1 only"),
     ("R", "R: R and L have one address behind them, and nothing more"),
     ("L 1 07", "L 1 07: R and L have one address behind them, and nothing more"),
     ("F 1", "F 1: F stands alone"),
@@ -83,24 +66,12 @@ const LATER: [(&str, &str); 35] = [
 ];
 
 /// Line 1, with what is told.
-const FIRST: [(&str, &str); 29] = [
-    ("", "line 1 is box B P m d, or arc B P C X, and this one is empty"),
+const FIRST: [(&str, &str); 17] = [
+    ("", "line 1 is box B P m d, and this one is empty"),
     ("\u{feff}box 64 8 3 2", "???box 64 8 3 2: a byte order mark: save the file without one"),
     ("box 64 8 3 2\r", "box 64 8 3 2?: a carriage return: save the file with line ends of one byte"),
-    ("R 1", "R 1: line 1 begins with the word box, or arc for a D-ARC box, in lower case"),
-    ("Box 64 8 3 2", "Box 64 8 3 2: line 1 begins with the word box, or arc for a D-ARC box, in lower case"),
-    ("Arc 64 8 3 2", "Arc 64 8 3 2: line 1 begins with the word box, or arc for a D-ARC box, in lower case"),
-    ("arc 64 4 2", "arc 64 4 2: line 1 has four numbers after the word arc: B, P, C and X"),
-    ("arc 64 4 2 x", "arc 64 4 2 x: a number has decimal digits only"),
-    ("arc 64 4 2 00", "arc 64 4 2 00: a number has no zero before its first digit"),
-    ("arc 96 257 0 1024", "arc 96 257 0 1024: B is 96: it is 64, 128, 256, 512, 1024, 2048 or 4096"),
-    ("arc 64 65537 2 0", "arc 64 65537 2 0: P is 65537: it is 1 to 65536"),
-    ("arc 64 8 0 4", "arc 64 8 0 4: C is 0: it is 1 to 256"),
-    ("arc 64 8 257 0", "arc 64 8 257 0: C is 257: it is 1 to 256"),
-    ("arc 64 8 2 1021", "arc 64 8 2 1021: 2 x C + X is 1025: it is 1024 at most"),
-    ("arc 64 257 2 0", "arc 64 257 2 0: P is 257: a replay takes 256 at most"),
-    ("arc 4096 5 2 0", "arc 4096 5 2 0: P x B is 20480: a replay takes 16384 at most"),
-    ("arc 4096 4 5 0", "arc 4096 4 5 0: C x B is 20480: a replay takes 16384 at most"),
+    ("R 1", "R 1: line 1 begins with the word box, in lower case"),
+    ("Box 64 8 3 2", "Box 64 8 3 2: line 1 begins with the word box, in lower case"),
     ("box 64 8 3", "box 64 8 3: line 1 has four numbers after the word box: B, P, m and d"),
     ("box 64 8 3 2 1", "box 64 8 3 2 1: line 1 has four numbers after the word box: B, P, m and d"),
     ("box 64 08 3 2", "box 64 08 3 2: a number has no zero before its first digit"),
@@ -132,7 +103,7 @@ fn refused_lines() {
 /// A list, its line that is looked at, and all that is said of that line.
 type Case = (&'static [&'static str], &'static str, &'static [&'static str]);
 
-const SERVED: [Case; 34] = [
+const SERVED: [Case; 24] = [
     (&["box 64 8 3 2"], "R 1", &["R 1: address 1 is not held: its block, content 1, comes from the disk", "content 1 is stored in flash"]),
     (&["box 64 8 3 2", "R 1"], "R 1", &["R 1: address 1 is held and its block, content 1, is in flash"]),
     (&["box 64 8 3 2", "I 7 03", "R 3"], "R 7", &[
@@ -196,60 +167,6 @@ const SERVED: [Case; 34] = [
     ]),
     (&["box 64 8 3 2", "B 1 09", "R 2"], "F", &["F: address 1 is dirty, so content 9 is copied to the disk"]),
     (&["box 64 8 3 2", "R 2"], "F", &["F: no address is dirty: nothing is copied"]),
-    // D-ARC boxes.
-    (&["arc 64 8 2 0"], "R 1", &[
-        "R 1: address 1 is not held: its block, content 1, comes from the disk",
-        "address 1 was in no list: it becomes the newest of T1",
-        "content 1 is stored in flash",
-    ]),
-    (&["arc 64 8 2 0", "R 1"], "R 1", &[
-        "R 1: address 1 is held and its block, content 1, is in flash",
-        "address 1 was in T1: it becomes the newest of T2",
-    ]),
-    (&["arc 64 8 1 0", "R 0", "R 1"], "R 2", &[
-        "R 2: address 2 is not held: its block, content 2, comes from the disk",
-        "address 2 was in no list: it becomes the newest of T1",
-        "address 0, the oldest of B1, is no longer held",
-        "address 1, the oldest of T1, goes to B1",
-        "flash is full: content 1, the oldest that no address of T1 and T2 has, leaves",
-        "content 2 is stored in flash",
-    ]),
-    (&["arc 64 8 1 0", "R 0", "R 1"], "R 0", &[
-        "R 0: address 0 is held, but its block, content 0, is not in flash: it comes from the disk",
-        "address 0 was in B1, which raises p from 0 to 1: it becomes the newest of T2",
-        "address 1, the oldest of T1, goes to B1",
-        "flash is full: content 1, the oldest that no address of T1 and T2 has, leaves",
-        "content 0 is stored in flash",
-    ]),
-    (&["arc 64 8 1 0", "R 0", "R 1", "R 0"], "R 1", &[
-        "R 1: address 1 is held, but its block, content 1, is not in flash: it comes from the disk",
-        "address 1 was in B1, and p stays 1, the most that it can be: it becomes the newest of T2",
-        "address 0, the oldest of T2, goes to B2",
-        "flash is full: content 0, the oldest that no address of T1 and T2 has, leaves",
-        "content 1 is stored in flash",
-    ]),
-    (&["arc 64 8 1 0", "R 0", "R 0", "T 1 00"], "R 0", &[
-        "R 0: address 0 is held and its block, content 0, is in flash",
-        "address 0 was in B2, and p stays 0, the least that it can be: it becomes the newest of T2",
-        "address 1, the oldest of T1, is no longer held",
-    ]),
-    (&["arc 64 8 1 0", "B 0 05"], "T 1 05", &[
-        "T 1 05: content 5 is in flash already; it goes to the disk at once",
-        "address 1 was in no list: it becomes the newest of T1",
-        "address 0, the oldest of T1, is no longer held; it is dirty, so content 5 is copied to the disk",
-    ]),
-    (&["arc 64 8 1 0", "B 0 05"], "R 1", &[
-        "R 1: address 1 is not held: its block, content 1, comes from the disk",
-        "address 1 was in no list: it becomes the newest of T1",
-        "address 0, the oldest of T1, goes to B1",
-        "flash is full: content 5, the oldest that no address of T1 and T2 has, leaves; address 0 is dirty, so content 5 is copied to the disk first",
-        "content 1 is stored in flash",
-    ]),
-    (&["arc 64 8 2 0", "R 1"], "I 1 01", &[
-        "I 1 01: content 1 is in flash already; it goes to the disk only, and address 1 leaves the cache",
-        "no address has content 1 now: its row becomes free",
-    ]),
-    (&["arc 64 8 2 0", "B 1 09"], "F", &["F: address 1 is dirty, so content 9 is copied to the disk"]),
 ];
 
 #[test]
@@ -262,10 +179,9 @@ fn served_lines() {
     println!("{} served lines with what is said of them", SERVED.len());
 }
 
-/// Random lists of both kinds of boxes, inputs by hand, and one of each malformed kind.
+/// Random lists, inputs by hand, and one of each malformed kind.
 fn inputs(random: &mut Random, lists: usize) -> Vec<Vec<u8>> {
     let mut inputs: Vec<Vec<u8>> = (0..lists).map(|_| random_list(random)).collect();
-    inputs.extend((0..lists).map(|_| random_arc_list(random)));
     inputs.extend(cases().into_iter().map(|(input, _)| input));
     inputs.extend(KINDS.iter().map(|(_, make)| make(random)));
     inputs
@@ -281,7 +197,12 @@ fn random_lists() {
     let (mut stored, mut copied, mut freed) = (0, 0, 0);
     for input in &inputs {
         let output = explained(build, input);
-        assert_eq!(without_reasons(&output), states::states(input, false), "the states");
+        assert_eq!(states::without_states(&output).into_bytes(), replay::replay(input));
+        let mut places = output.lines().peekable();
+        let kept: String = std::iter::from_fn(|| places.next().map(|line| (line, places.peek().is_none_or(|next| !next.starts_with(' ')))))
+            .filter(|(line, last)| !line.starts_with(' ') || *last)
+            .map(|(line, _)| format!("{line}\n"))
+            .collect();
         let shown = |line: &str| String::from_utf8_lossy(input).into_owned() + line;
         for (answer, reasons) in reasons(&output) {
             let words: Vec<&str> = answer.split(' ').collect();
@@ -302,6 +223,9 @@ fn random_lists() {
             stored += (words[4] == "1") as usize;
             copied += text.matches("is copied to the disk").count();
             freed += text.matches("becomes free").count();
+        }
+        if !output.starts_with("0 refused") {
+            assert_eq!(kept, states::states(input, false), "the states");
         }
     }
     assert!(stored > 1_000 && copied > 500 && freed > 100, "{stored} stored, {copied} copied, {freed} freed");

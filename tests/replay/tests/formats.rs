@@ -21,7 +21,7 @@ fn the_example() {
 fn the_rows_and_the_reports() {
     let mut cache = Cache::fresh(64, 8, 3, 2, 3, ZEROS, (0..8).flat_map(|k| vec![k; 64]).collect(), vec![0; 128]);
     cache.call(Call::Back(258), 5, &mut vec![7; 64]).unwrap();
-    let mut lent = Lent::default();
+    let mut lent = Lent { state: vec![], disk: vec![], flash: vec![], addresses: vec![], blocks: vec![], block: vec![], answer: vec![], label: vec![] };
     let reports = [Report::Manager, Report::Desk].map(|report| cache.report(report));
     cache.store(&mut lent);
     let bytes = |text: &str| text.split_whitespace().map(|byte| u8::from_str_radix(byte, 16).unwrap()).collect::<Vec<u8>>();
@@ -32,12 +32,11 @@ fn the_rows_and_the_reports() {
     println!("three rows and two reports of docs/FORMATS.md, byte for byte");
 }
 
-/// A number of the headers by its name, which may be that of another one.
+/// A number of the header by its name.
 fn number(name: &str) -> u64 {
-    let headers = read("include/mindavehu.h") + &read("include/mindavehu_arc.h");
-    let line = headers.lines().find_map(|line| line.strip_prefix(&format!("#define MINDAVEHU_{name} "))).unwrap_or_else(|| panic!("{name} is not defined"));
-    let word = line.split_whitespace().next().unwrap();
-    word.strip_prefix("MINDAVEHU_").map_or_else(|| word.parse().unwrap(), number)
+    let header = read("include/mindavehu.h");
+    let line = header.lines().find_map(|line| line.strip_prefix(&format!("#define MINDAVEHU_{name} "))).unwrap_or_else(|| panic!("{name} is not defined"));
+    line.split_whitespace().next().unwrap().parse().unwrap()
 }
 
 /// The header's numbers of refusals, words and fields, as the page tells them.
@@ -45,7 +44,7 @@ fn number(name: &str) -> u64 {
 fn the_numbers() {
     let page = read("docs/FORMATS.md");
     let [of_calls, of_states] = [["OUTSIDE", "WRONG_LENGTH", "NO_ADDRESS"], ["BAD_ADDRESSES", "BAD_BLOCKS", "DIRTY_UNCACHED"]];
-    let others = ["COUNTER_FULL", "BAD_COUNT", "ARC_OUTSIDE", "BAD_LIMIT", "TOO_DIRTY", "NO_ROOM", "NO_IMAGE", "BAD_IMAGE", "TOO_LARGE"];
+    let others = ["COUNTER_FULL", "BAD_COUNT", "BAD_LIMIT", "TOO_DIRTY", "NO_ROOM", "NO_IMAGE", "BAD_IMAGE", "TOO_LARGE"];
     let refusals: Vec<u64> = of_calls.into_iter().chain(of_states).chain(others).map(number).collect();
     let mut told: Vec<u64> = page
         .split("## Refusals")
@@ -77,14 +76,7 @@ fn the_numbers() {
     let bytes = row("byte", fields.iter().map(|(name, _)| number(name).to_string()).collect());
     let names = row("number", fields.iter().map(|(_, name)| name.to_string()).collect());
     assert!(page.contains(&bytes) && page.contains(&names), "{bytes}{names}");
-    let places = [("C", "C"), ("X", "X"), ("TARGET", "p"), ("T1", "size of T1"), ("T2", "size of T2"), ("B1", "size of B1"), ("B2", "size of B2")];
-    let places: Vec<(&str, &str)> = places.into_iter().chain([("B3", "size of B3")]).collect();
-    let arc = [
-        row("byte", places.iter().map(|(name, _)| number(&format!("ARC_{name}")).to_string()).collect()),
-        row("number", places.iter().map(|(_, name)| name.to_string()).collect()),
-    ];
-    assert!(arc.iter().all(|line| page.contains(line)), "{arc:?}");
-    println!("{} refusals, 7 words and {} fields", told.len(), fields.len() + places.len());
+    println!("{} refusals, 7 words and {} fields", told.len(), fields.len());
 }
 
 /// The lengths in the header, and the places of the label and of the limit in the state, as the page tells them.

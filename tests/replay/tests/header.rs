@@ -1,4 +1,4 @@
-//! The headers of include/ and README.md as a C programmer takes them: the examples, the lines that build a program, the stack.
+//! include/mindavehu.h and README.md as a C programmer takes them: the examples, the lines that build a program, the stack.
 use replay::programs::{folder, root};
 use std::process::Command;
 
@@ -13,9 +13,9 @@ fn read(name: &str) -> String {
     std::fs::read_to_string(root().join(name)).unwrap()
 }
 
-/// The pieces of a header's first comment that stand four columns further in than its text.
-fn pieces(header: &str) -> Vec<String> {
-    let header = read(header);
+/// The pieces of the header's first comment that stand four columns further in than its text.
+fn pieces() -> Vec<String> {
+    let header = read("include/mindavehu.h");
     let comment = header.split("*/").next().unwrap();
     let mut pieces = vec![];
     let mut piece = String::new();
@@ -34,19 +34,19 @@ fn pieces(header: &str) -> Vec<String> {
 #[test]
 fn the_examples() {
     let place = folder("header");
-    let pieces = [pieces("include/mindavehu.h"), pieces("include/mindavehu_arc.h")].concat();
+    let pieces = pieces();
     let starts: Vec<usize> = (0..pieces.len()).filter(|k| pieces[*k].starts_with("#include")).collect();
-    assert_eq!(starts.len(), 4, "complete programs in the headers");
+    assert_eq!(starts.len(), 3, "complete programs in the header");
     for k in starts {
         let source = place.join(format!("example{k}.c"));
         std::fs::write(&source, &pieces[k]).unwrap();
         let program = source.with_extension("");
         let mut command = Command::new("gcc");
         command.args(["-std=c99", "-Wall", "-Wextra", "-Werror", "-pedantic", "-I"]).arg(root().join("include")).arg(&source);
-        run(command.arg(root().join("target/staticlib/libmindavehu.a")).arg("-o").arg(&program));
+        run(command.arg(root().join("target/staticlib/libservice.a")).arg("-o").arg(&program));
         assert_eq!(run(&mut Command::new(&program)), pieces[k + 1], "{}", pieces[k]);
     }
-    println!("four programs of the headers print what these say");
+    println!("three programs of the header print what it says");
 }
 
 /// The lines of README.md for the C programmer, without the first, which proves: they run as they stand and write under target/ alone.
@@ -54,7 +54,7 @@ fn the_examples() {
 fn the_lines_of_readme() {
     let readme = read("README.md");
     let lines: Vec<&str> = readme.split("```sh\n").nth(1).unwrap().split("```").next().unwrap().lines().collect();
-    assert_eq!(lines[0], "./library");
+    assert_eq!(lines[0], "rt staticlib service");
     assert!(lines.len() == 3 && read(".gitignore").lines().any(|line| line == "target/"), "{lines:?}");
     let output = lines[1].split(" -o ").nth(1).unwrap();
     assert!(output.starts_with("target/") && lines[2].starts_with(&format!("./{output}")), "{lines:?}");
@@ -71,7 +71,7 @@ fn the_stack() {
     let program = folder("stack-of-calls").join("stack");
     let mut command = Command::new("gcc");
     command.args(["-O1", "-I"]).arg(root().join("include")).arg(root().join("bench/service/stack.c"));
-    run(command.arg(root().join("target/staticlib/libmindavehu.a")).args(["-lpthread", "-o"]).arg(&program));
+    run(command.arg(root().join("target/staticlib/libservice.a")).args(["-lpthread", "-o"]).arg(&program));
     let header = read("include/mindavehu.h");
     let most: u64 = header.lines().find_map(|line| line.strip_prefix("#define MINDAVEHU_STACK ")).unwrap().parse().unwrap();
     let written = run(&mut Command::new(&program));

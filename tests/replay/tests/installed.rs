@@ -58,7 +58,6 @@ fn what_is_there() {
         "bin/replay",
         "bin/exam",
         "include/mindavehu.h",
-        "include/mindavehu_arc.h",
         "lib/libmindavehu.a",
         "lib/pkgconfig/mindavehu.pc",
         "libexec/mindavehu/replay_cli",
@@ -171,10 +170,10 @@ fn from_c_by_pkg_config() {
     let flags = pkg_config(&["--cflags", "--libs"]);
     assert!(flags.contains("-lmindavehu") && !flags.contains("staticlib"), "{flags}");
     let place = folder("by-pkg-config");
-    for name in ["expect.h", "week.c", "box.c", "arc.c"] {
+    for name in ["expect.h", "week.c", "box.c"] {
         std::fs::copy(root().join("tests/c").join(name), place.join(name)).unwrap();
     }
-    for name in ["week", "box", "arc"] {
+    for name in ["week", "box"] {
         let line = format!("gcc -std=c99 -Wall -Wextra -Werror -pedantic {name}.c {flags} -o {name} && ./{name}");
         let done = Command::new("bash").args(["-e", "-c", &line]).current_dir(&place).output().unwrap();
         assert!(done.status.success() && !done.stdout.is_empty(), "{line}: {}{}", String::from_utf8_lossy(&done.stdout), String::from_utf8_lossy(&done.stderr));

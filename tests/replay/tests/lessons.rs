@@ -1,10 +1,20 @@
-//! Every lesson of lessons/: the proved program, the replay of this crate and the program of the states against the stored output. The lessons of D-ARC boxes
-//! are in arc.rs.
-use replay::programs::{fences, in_order, root, Lesson, Program, Writing, PLAIN};
-use replay::{is_arc, replay, states};
+//! Every lesson of lessons/: the proved program, the replay of this crate and the program of the states against the stored output.
+use replay::programs::{fences, root, Program, Writing, PLAIN};
+use replay::{replay, states};
+use std::path::PathBuf;
 
-fn lessons() -> Vec<Lesson> {
-    replay::programs::lessons().into_iter().filter(|(_, input, _)| !is_arc(input)).collect()
+/// The lessons' lists, each with its stored output. A list without one, or a stored output without its list, is a failure.
+fn lessons() -> Vec<(String, Vec<u8>, String)> {
+    let folder = root().join("lessons");
+    let mut files: Vec<PathBuf> = std::fs::read_dir(&folder).unwrap().map(|entry| entry.unwrap().path()).collect();
+    files.sort();
+    let with = |extension: &str| {
+        files.iter().filter(|file| file.extension().is_some_and(|found| found == extension)).map(|file| file.with_extension("")).collect::<Vec<_>>()
+    };
+    assert_eq!(with("txt"), with("expected"), "lists and stored outputs");
+    let read = |file: &PathBuf, extension: &str| std::fs::read(file.with_extension(extension)).unwrap();
+    let name = |file: &PathBuf| file.file_name().unwrap().to_str().unwrap().to_string();
+    with("txt").iter().map(|file| (name(file), read(file, "txt"), String::from_utf8(read(file, "expected")).unwrap())).collect()
 }
 
 #[test]
@@ -34,6 +44,12 @@ fn by_the_states() {
         assert_eq!(written, states::states(input, false), "{name}");
     }
     println!("{} lessons by the program of the states", lessons.len());
+}
+
+/// Whether all lines of a text stand in a page, in their order.
+fn in_order(page: &str, text: &str) -> bool {
+    let mut rest = page.lines();
+    text.lines().all(|line| rest.any(|found| found == line))
 }
 
 /// The lesson of a flush in parts: its list, which no replay takes, stands in its page with what the program of the states prints for it.

@@ -23,8 +23,7 @@ fn right_answers() {
     for entry in std::fs::read_dir(root().join("lessons")).unwrap() {
         let name = entry.unwrap().file_name().into_string().unwrap();
         let Some(lesson) = name.strip_suffix(".expected") else { continue };
-        // The key of a D-ARC box's list has the states too, which no candidate answers.
-        let key = replay::states::without_states(&key(&name));
+        let key = key(&name);
         let lines = key.lines().count();
         let right = (Some(0), format!("{lines} of {lines} lines are right\n"));
         for answers in [key.clone(), key.replace('\n', "\r\n"), key.replace('\n', "  \n"), key.trim_end().to_string(), key.replace('\n', "\n \n\r\n")] {
@@ -110,31 +109,6 @@ fn reasons() {
                \x20                 content 10 is stored in flash\n    state before  ";
     assert!(several.contains(why), "{several}");
     println!("reasons of a refused line, of line 1, and three of one line");
-}
-
-/// Of a D-ARC box the state before and after has the lists below the tables. A line of the list that begins as these do is a reason all the same.
-#[test]
-fn of_a_d_arc_box() {
-    let answers = replay::states::without_states(&key("arc-ghosts.expected")).replace("10 R 4 miss 1 0", "10 R 4 hit 0 0");
-    let expected = "The first difference is at line 11 of the list\n    the answer    10 R 4 hit 0 0\n    the key       10 R 4 miss 1 0\n    \
-                    why           R 4: address 4 is held, but its block, content 4, is not in flash: it comes from the disk\n                  \
-                    address 4 was in B1, which raises p from 0 to 1: it becomes the newest of T2\n                  \
-                    address 1, the oldest of T2, goes to B2\n                  \
-                    flash is full: content 1, the oldest that no address of T1 and T2 has, leaves\n                  \
-                    content 4 is stored in flash\n    \
-                    state before  1:1 2:2 3:3 4:4 5:5 6:6; blocks 1 2 3 6\n                  T1 6; T2 1 2 3; B1 4 5; B2 -; B3 -; p 0\n    \
-                    state after   1:1 2:2 3:3 5:5 6:6 4:4; blocks 2 3 6 4\n                  T1 6; T2 2 3 4; B1 5; B2 1; B3 -; p 1\n\
-                    14 of 15 lines are right\n";
-    assert_eq!(marked("mark-arc", answers.as_bytes(), "arc-ghosts.txt"), (Some(1), expected.to_string()));
-    let place = folder("mark-arc-line");
-    std::fs::write(place.join("list.txt"), "arc 64 8 2 0\nT1 5\n").unwrap();
-    std::fs::write(place.join("answers.txt"), "1 T 1 new 1 1\nreads 0 hits 0 flash 0 primary 0\n").unwrap();
-    let done = Command::new(root().join("replay")).args(["--mark", "answers.txt", "list.txt"]).current_dir(&place).output().unwrap();
-    let written = String::from_utf8(done.stdout).unwrap();
-    assert!(written.contains("    why           T1 5: a request begins with") && written.contains("    state before  the box is fresh\n"), "{written}");
-    let last = "    state after   none; blocks - -\n                  T1 -; T2 -; B1 -; B2 -; B3 -; p 0\n1 of 2 lines are right\n";
-    assert!(written.ends_with(last), "{written}");
-    println!("the answers to the ghost hits, and a line that begins as the lists do");
 }
 
 /// A box with all rows in use, whose states are long lines, and answers of any bytes.

@@ -1,8 +1,7 @@
 //! The proved program against the replay of this crate, byte for byte.
 use common::{Progress, Random};
 use replay::programs::{Program, Writing};
-use replay::lists::{random_arc_list, random_list};
-use replay::{cases::cases, list, malformed::KINDS, replay, DOCUMENT_LIST, DOCUMENT_OUTPUT};
+use replay::{cases::cases, list, lists::random_list, malformed::KINDS, replay, DOCUMENT_LIST, DOCUMENT_OUTPUT};
 use std::collections::BTreeMap;
 use std::io::{BufRead, BufReader, Write};
 use std::sync::mpsc::channel;
@@ -94,17 +93,6 @@ fn cases_by_hand() {
         assert_eq!(String::from_utf8_lossy(&program.run(input, Writing::Whole)), *output, "input {:?}", String::from_utf8_lossy(input));
     }
     println!("{} inputs with outputs written by hand", cases.len());
-}
-
-/// A replay has no D-ARC boxes: their line 1 is refused with 4, whatever its numbers are.
-#[test]
-fn lists_of_d_arc_boxes() {
-    let (program, mut random) = (Program::replay(), Random(62));
-    let lines = ["arc 64 8 2 0\nR 1\n", "arc 96 8 2 0\n", "arc 64 257 2 0\n", "arc 64 8 2\n"].map(|text| text.as_bytes().to_vec());
-    for input in lines.into_iter().chain((0..20).map(|_| random_arc_list(&mut random))) {
-        assert_eq!(String::from_utf8_lossy(&program.run(&input, Writing::Whole)), "0 refused 4\n", "input {:?}", String::from_utf8_lossy(&input));
-    }
-    println!("4 lists of D-ARC boxes by hand and 20 random ones from the seed 62");
 }
 
 #[test]

@@ -1,8 +1,8 @@
 //! Random D-ARC boxes in bytes: fresh ones, sound ones that no list of calls need reach, and each way of breaking one.
-use crate::boxes::{self, broken, bytes, pick, Contents, Damage, Shape, DAMAGES};
+use crate::boxes::{self, bytes, pick, Contents, Damage, Shape, DAMAGES};
 use common::Random;
-use model::arc::{ArcNumbers, Lists, B2, B3, T1, T2, WORD};
-use model::{read_tables, Call, Fingerprint, Kind, Lent, MOST_D, MOST_M, REPORT_CHECKS};
+use model::arc::{ArcLent, ArcNumbers, Lists, B2, B3, T1, T2, WORD};
+use model::{read_tables, Call, Fingerprint, Lent, Numbers, MOST_D, MOST_M, REPORT_CHECKS};
 use std::collections::HashSet;
 
 #[derive(Clone, Copy, Debug)]
@@ -27,12 +27,6 @@ impl ArcShape {
     pub fn tables(&self) -> Shape {
         Shape { b: self.b, p: self.p, m: self.m(), d: self.c }
     }
-
-    /// That of these tables.
-    pub fn of(tables: Shape) -> ArcShape {
-        let Shape { b, p, m, d } = tables;
-        ArcShape { b, p, c: d, x: m - 2 * d }
-    }
 }
 
 /// Numbers of a small box, with blocks of 64 bytes more often than not.
@@ -42,12 +36,13 @@ pub fn small(random: &mut Random) -> ArcShape {
 }
 
 /// A box of these tables and lists.
-fn with_lists(base: Lent, numbers: ArcNumbers, lists: Vec<u8>) -> Lent {
-    Lent { kind: Kind::Arc, state: numbers.to_bytes(), lists, ..base }
+fn with_lists(mut base: Lent, numbers: ArcNumbers, lists: Vec<u8>) -> ArcLent {
+    base.state = numbers.to_bytes();
+    ArcLent { base, lists }
 }
 
 /// A box to be opened under any label, with any limit: disk blocks from the pool, any bytes in flash, tables and lists; any other numbers before it.
-pub fn unopened(random: &mut Random, shape: ArcShape, contents: &Contents) -> Lent {
+pub fn unopened(random: &mut Random, shape: ArcShape, contents: &Contents) -> ArcLent {
     let base = boxes::unopened(random, shape.tables(), contents);
     let mut numbers = ArcNumbers::of(base.numbers(), &Lists::default());
     (numbers.adaptive, numbers.sizes) = (random.number(), std::array::from_fn(|_| random.number()));
@@ -55,12 +50,12 @@ pub fn unopened(random: &mut Random, shape: ArcShape, contents: &Contents) -> Le
 }
 
 /// A sound box, reachable or not: tables as those of `boxes::sound`, and any sound lists and p over them.
-pub fn sound(random: &mut Random, shape: ArcShape) -> Lent {
+pub fn sound(random: &mut Random, shape: ArcShape) -> ArcLent {
     sound_at(random, shape, None)
 }
 
 /// The same. With a place, most of its fingerprints differ in that byte alone.
-pub fn sound_at(random: &mut Random, shape: ArcShape, place: Option<usize>) -> Lent {
+pub fn sound_at(random: &mut Random, shape: ArcShape, place: Option<usize>) -> ArcLent {
     let base = boxes::sound_at(random, shape.tables(), place);
     let (rows, blocks) = read_tables(&base);
     let cached: HashSet<Fingerprint> = blocks.iter().filter(|row| row.used == 1).map(|row| row.fingerprint).collect();
@@ -105,7 +100,7 @@ pub fn damages() -> Vec<(ArcDamage, u32)> {
     ];
     let mut all = Vec::new();
     for (kind, number) in DAMAGES.into_iter().filter(|(kind, _)| ![Damage::M, Damage::D].contains(kind)) {
-        all.push((ArcDamage::Base(kind), Kind::Arc.check(number)));
+        all.push((ArcDamage::Base(kind), if number == 1 { 11 } else { number }));
         match kind {
             Damage::P => all.extend([(ArcDamage::C, 11), (ArcDamage::X, 11)]),
             Damage::LabelLength => all.push((ArcDamage::ListsLength, 2)),
@@ -136,30 +131,41 @@ pub fn number_of_report(given: &[ArcDamage]) -> u32 {
 fn first_number(checks: &[u32], given: &[ArcDamage], asked: impl Fn(Damage) -> bool) -> u32 {
     let applies = |kind: &ArcDamage| given.contains(kind) && if let ArcDamage::Base(damage) = kind { asked(*damage) } else { true };
     let numbers: Vec<u32> = damages().into_iter().filter(|(kind, _)| applies(kind)).map(|(_, number)| number).collect();
-    checks.iter().map(|number| Kind::Arc.check(*number)).find(|number| numbers.contains(number)).unwrap_or(0)
+    checks.iter().map(|number| if *number == 1 { 11 } else { *number }).find(|number| numbers.contains(number)).unwrap_or(0)
 }
 
-fn set(lent: &mut Lent, change: impl FnOnce(&mut ArcNumbers)) {
-    let mut numbers = lent.arc_numbers();
+/// Changes a box by a function for D-LRU boxes of the same tables.
+fn on_tables<T>(lent: &mut ArcLent, change: impl FnOnce(&mut Lent) -> T) -> T {
+    let before = lent.numbers();
+    let ArcNumbers { b, p, c, n, counters, label, t, .. } = before;
+    lent.base.state = Numbers { b, p, m: before.m() as u64, d: c, n, counters, label, t }.to_bytes();
+    let result = change(&mut lent.base);
+    let Numbers { b, p, n, counters, label, t, .. } = lent.base.numbers();
+    lent.base.state = ArcNumbers { b, p, n, counters, label, t, ..before }.to_bytes();
+    result
+}
+
+fn set(lent: &mut ArcLent, change: impl FnOnce(&mut ArcNumbers)) {
+    let mut numbers = lent.numbers();
     change(&mut numbers);
-    lent.state = numbers.to_bytes();
+    lent.base.state = numbers.to_bytes();
 }
 
 /// Makes the buffers of a broken C or X as long as the numbers ask, where that is not much memory.
-fn fit(random: &mut Random, lent: &mut Lent) {
-    let numbers = lent.arc_numbers();
+fn fit(random: &mut Random, lent: &mut ArcLent) {
+    let numbers = lent.numbers();
     if random.below(2) == 0 || numbers.m() > 3_000 {
         return;
     }
     let [b, c, m] = [numbers.b as usize, numbers.c as usize, numbers.m() as usize];
-    lent.flash.resize(c * b, 0);
-    lent.addresses.resize(m * model::ROW, 0);
-    lent.blocks.resize(c * model::ROW, 0);
+    lent.base.flash.resize(c * b, 0);
+    lent.base.addresses.resize(m * model::ROW, 0);
+    lent.base.blocks.resize(c * model::ROW, 0);
     lent.lists.resize(m * WORD, 0);
 }
 
-fn damage_numbers(random: &mut Random, lent: &mut Lent, kind: ArcDamage) {
-    let ArcNumbers { c, x, sizes, .. } = lent.arc_numbers();
+fn damage_numbers(random: &mut Random, lent: &mut ArcLent, kind: ArcDamage) {
+    let ArcNumbers { c, x, sizes, .. } = lent.numbers();
     let few = random.below(3) as u64;
     match kind {
         ArcDamage::C => {
@@ -199,12 +205,12 @@ fn damage_numbers(random: &mut Random, lent: &mut Lent, kind: ArcDamage) {
 }
 
 /// All addresses that the lists name, and their sizes.
-fn named(lent: &Lent) -> (Vec<u32>, [u64; 5]) {
-    let sizes = lent.arc_numbers().sizes;
+fn named(lent: &ArcLent) -> (Vec<u32>, [u64; 5]) {
+    let sizes = lent.numbers().sizes;
     (lent.words()[..sizes.iter().sum::<u64>() as usize].to_vec(), sizes)
 }
 
-fn set_names(lent: &mut Lent, names: &[u32]) {
+fn set_names(lent: &mut ArcLent, names: &[u32]) {
     let length = lent.lists.len();
     lent.lists = names.iter().flat_map(|name| name.to_le_bytes()).collect();
     lent.lists.resize(length, 0);
@@ -236,16 +242,16 @@ fn name_twice(random: &mut Random, names: &mut Vec<u32>, sizes: &mut [u64; 5]) {
     }
 }
 
-fn damage_names(random: &mut Random, lent: &mut Lent, kind: ArcDamage) -> bool {
+fn damage_names(random: &mut Random, lent: &mut ArcLent, kind: ArcDamage) -> bool {
     let (mut names, mut sizes) = named(lent);
     let (count, words) = (names.len(), lent.words().len());
-    let ArcNumbers { p, c, x, n, .. } = lent.arc_numbers();
+    let ArcNumbers { p, c, x, n, .. } = lent.numbers();
     let [c, x] = [c, x].map(|number| number as usize);
     match kind {
         ArcDamage::NotNamed if count > 0 => unname(random, &mut names, &mut sizes),
         ArcDamage::NamedTwice if count > 0 && count < words => name_twice(random, &mut names, &mut sizes),
         ArcDamage::NamesUnheld if count > 0 => {
-            let held: Vec<u32> = read_tables(lent).0[..n as usize].iter().map(|row| row.address).collect();
+            let held: Vec<u32> = read_tables(&lent.base).0[..n as usize].iter().map(|row| row.address).collect();
             let outside = pick(random, &[p as u32, u32::MAX, 1 << 31, p as u32 + 256]);
             let inside: Vec<u32> = (0..p as u32).filter(|address| !held.contains(address)).collect();
             let other = if inside.is_empty() || random.below(2) == 0 { outside } else { pick(random, &inside) };
@@ -267,14 +273,14 @@ fn damage_names(random: &mut Random, lent: &mut Lent, kind: ArcDamage) -> bool {
 }
 
 /// An address of T1 or T2 gets the place of one without its block, or its row another fingerprint.
-fn uncover(random: &mut Random, lent: &mut Lent) -> bool {
+fn uncover(random: &mut Random, lent: &mut ArcLent) -> bool {
     let (mut names, sizes) = named(lent);
     let tops = (sizes[T1] + sizes[T2]) as usize;
     if tops == 0 {
         return false;
     }
     let place = random.below(tops);
-    let (rows, blocks) = read_tables(lent);
+    let (rows, blocks) = read_tables(&lent.base);
     let cached: HashSet<Fingerprint> = blocks.iter().filter(|row| row.used == 1).map(|row| row.fingerprint).collect();
     let row = |name: u32| rows.iter().position(|row| row.address == name).unwrap();
     let without: Vec<usize> = (0..names.len()).filter(|k| !cached.contains(&rows[row(names[*k])].fingerprint)).collect();
@@ -286,14 +292,14 @@ fn uncover(random: &mut Random, lent: &mut Lent) -> bool {
     let at = row(names[place]);
     let mut other = rows[at].fingerprint;
     other[pick(random, &[0, 8, 31])] ^= 1 << random.below(8);
-    lent.addresses[at * model::ROW + 4..at * model::ROW + 36].copy_from_slice(&other);
+    lent.base.addresses[at * model::ROW + 4..at * model::ROW + 36].copy_from_slice(&other);
     !cached.contains(&other)
 }
 
 /// Breaks a sound box in one way, or its address. Answers false where the box cannot be broken so.
-pub fn damage(random: &mut Random, lent: &mut Lent, address: &mut u32, kind: ArcDamage) -> bool {
+pub fn damage(random: &mut Random, lent: &mut ArcLent, address: &mut u32, kind: ArcDamage) -> bool {
     match kind {
-        ArcDamage::Base(kind) => boxes::damage(random, lent, address, kind),
+        ArcDamage::Base(kind) => on_tables(lent, |base| boxes::damage(random, base, address, kind)),
         ArcDamage::C | ArcDamage::X => {
             damage_numbers(random, lent, kind);
             fit(random, lent);
@@ -322,11 +328,17 @@ pub fn damage(random: &mut Random, lent: &mut Lent, address: &mut u32, kind: Arc
 }
 
 /// A sound box with these damages, made of as many boxes as it takes; the address is of the box unless the damage is there.
-pub fn damaged(random: &mut Random, given: &[ArcDamage], shape: fn(&mut Random) -> ArcShape) -> (Lent, u32) {
-    let in_order: Vec<ArcDamage> = damages().into_iter().map(|(kind, _)| kind).filter(|kind| given.contains(kind)).collect();
-    let any = |random: &mut Random| {
+pub fn damaged(random: &mut Random, given: &[ArcDamage], shape: fn(&mut Random) -> ArcShape) -> (ArcLent, u32) {
+    let mut in_order: Vec<ArcDamage> = damages().into_iter().map(|(kind, _)| kind).filter(|kind| given.contains(kind)).collect();
+    // From the last check to the first.
+    in_order.reverse();
+    for _ in 0..2_000 {
         let shape = shape(random);
-        sound(random, shape)
-    };
-    broken(random, &in_order, any, damage)
+        let mut lent = sound(random, shape);
+        let mut address = random.below(shape.p) as u32;
+        if in_order.iter().all(|kind| damage(random, &mut lent, &mut address, *kind)) {
+            return (lent, address);
+        }
+    }
+    panic!("no box can be broken by {given:?}");
 }

@@ -3,7 +3,6 @@ use common::Random;
 use model::{fingerprint, read_tables, AddressRow, BlockRow, Call, Fingerprint, Folder, Label, Lent, Numbers};
 use model::{ANSWER, BLOCK_SIZES, LABEL, MANY_ANSWER, MOST_COUNTED, REPORT_CHECKS, ROW, STATE_LIMIT, ZEROS};
 use std::collections::HashSet;
-use std::fmt::Debug;
 
 pub fn fill(random: &mut Random, bytes: &mut [u8]) {
     for part in bytes.chunks_mut(8) {
@@ -15,16 +14,6 @@ pub fn bytes(random: &mut Random, length: usize) -> Vec<u8> {
     let mut bytes = vec![0; length];
     fill(random, &mut bytes);
     bytes
-}
-
-/// Changes one of these bytes: in one bit, to a small number or to any. It may be what it was.
-pub fn change_byte(random: &mut Random, bytes: &mut [u8]) {
-    let place = random.below(bytes.len());
-    match random.below(3) {
-        0 => bytes[place] ^= 1 << random.below(8),
-        1 => bytes[place] = random.below(3) as u8,
-        _ => bytes[place] = random.number() as u8,
-    }
 }
 
 pub fn pick<T: Copy>(random: &mut Random, list: &[T]) -> T {
@@ -150,7 +139,6 @@ pub fn unopened(random: &mut Random, shape: Shape, contents: &Contents) -> Lent 
         block: bytes(random, b),
         answer: bytes(random, ANSWER),
         label: any_label(random).to_vec(),
-        ..Lent::default()
     }
 }
 
@@ -559,33 +547,20 @@ pub fn small(random: &mut Random) -> Shape {
     Shape::below(random, Shape { b, p: 10, m: 6, d: 5 })
 }
 
-/// A sound box with these damages, which are given in the order of the checks, made of as many boxes as it takes; the address is of the box unless the damage
-/// is there. `sound` makes a box, and `damage` breaks it and says whether it could.
-pub fn broken<D: Copy + Debug>(
-    random: &mut Random,
-    in_order: &[D],
-    sound: impl Fn(&mut Random) -> Lent,
-    damage: fn(&mut Random, &mut Lent, &mut u32, D) -> bool,
-) -> (Lent, u32) {
-    for _ in 0..2_000 {
-        let mut lent = sound(random);
-        let mut address = random.below(lent.numbers().p as usize) as u32;
-        // From the last check to the first.
-        if in_order.iter().rev().all(|kind| damage(random, &mut lent, &mut address, *kind)) {
+/// A sound box with these damages, made of as many boxes as it takes; the address is of the box unless the damage is there.
+pub fn damaged(random: &mut Random, damages: &[Damage], shape: fn(&mut Random) -> Shape) -> (Lent, u32) {
+    for _ in 0..1_000 {
+        let shape = shape(random);
+        let mut lent = sound(random, shape);
+        let mut address = random.below(shape.p) as u32;
+        // From the last check to the first, as DAMAGES says.
+        let mut in_order: Vec<Damage> = DAMAGES.iter().map(|(kind, _)| *kind).filter(|kind| damages.contains(kind)).collect();
+        in_order.reverse();
+        if in_order.iter().all(|kind| damage(random, &mut lent, &mut address, *kind)) {
             return (lent, address);
         }
     }
-    panic!("no box can be broken by {in_order:?}");
-}
-
-/// The same for a D-LRU box, with these damages in any order.
-pub fn damaged(random: &mut Random, damages: &[Damage], shape: fn(&mut Random) -> Shape) -> (Lent, u32) {
-    let in_order: Vec<Damage> = DAMAGES.iter().map(|(kind, _)| *kind).filter(|kind| damages.contains(kind)).collect();
-    let any = |random: &mut Random| {
-        let shape = shape(random);
-        sound(random, shape)
-    };
-    broken(random, &in_order, any, damage)
+    panic!("no box can be broken by {damages:?}");
 }
 
 /// Any numbers and any bytes: small tables, lengths that fit more often than not.
@@ -620,7 +595,6 @@ pub fn noise(random: &mut Random) -> Lent {
         block: bytes(random, lengths[4]),
         answer: bytes(random, ANSWER),
         label: bytes(random, lengths[5]),
-        ..Lent::default()
     };
     // Half of the time each row is brought near to a sound one, or no box would come past 6.
     if random.below(2) == 0 {

@@ -1,7 +1,6 @@
-//! The service's C functions, on boxes in bytes. Those for D-ARC boxes are in `arc_calls`; `Lent::kind` says which are called.
-use crate::arc_calls as arc;
+//! The service's C functions, on boxes in bytes.
 use model::exam::Question;
-use model::{Call, Folder, Kind, Lent, Report};
+use model::{Call, Folder, Lent, Report};
 
 type P = *const u8;
 type M = *mut u8;
@@ -35,17 +34,18 @@ extern "C" {
     fn mindavehu_scores(b: usize, p: usize, m: usize, d: usize, t: usize, l: P, ll: usize, disk: P, dl: usize, k: usize, c: M, cl: usize) -> u32;
 }
 
-/// The buffers of a call in their order: state, disk, flash, address table, block table and lists, and behind them what the call takes besides. A call on a
-/// D-LRU box is not lent the lists.
+/// The buffers of a call in their order: state, disk, flash, address table, block table, lent block, answer and, where a box has all of its own, the label
+/// that is lent to an opening.
 pub type Buffers<'a, const COUNT: usize> = [&'a mut [u8]; COUNT];
 
-/// With the lent block, the answer and the label that is lent to an opening.
-pub fn on_slices(kind: Kind, call: Call, address: u32, mut buffers: Buffers<9>) -> u32 {
-    if kind == Kind::Arc {
-        return arc::on_slices(call, address, buffers);
-    }
-    let [s, d, f, a, b, _, k, w, l] = buffers.each_mut().map(|bytes| bytes.as_mut_ptr());
-    let [sl, dl, fl, al, bl, _, kl, wl, ll] = buffers.map(|bytes| bytes.len());
+fn buffers(lent: &mut Lent) -> Buffers<'_, 8> {
+    let Lent { state, disk, flash, addresses, blocks, block, answer, label } = lent;
+    [state, disk, flash, addresses, blocks, block, answer, label]
+}
+
+pub fn on_slices(call: Call, address: u32, mut buffers: Buffers<8>) -> u32 {
+    let [s, d, f, a, b, k, w, l] = buffers.each_mut().map(|bytes| bytes.as_mut_ptr());
+    let [sl, dl, fl, al, bl, kl, wl, ll] = buffers.map(|bytes| bytes.len());
     // SAFETY: each pointer comes with the length of its own slice.
     unsafe {
         match call {
@@ -61,24 +61,18 @@ pub fn on_slices(kind: Kind, call: Call, address: u32, mut buffers: Buffers<9>) 
     }
 }
 
-/// With the folder's buffer and its answer.
-fn many_on_slices(kind: Kind, asked: &[u32], mut buffers: Buffers<8>) -> u32 {
-    if kind == Kind::Arc {
-        return arc::many_on_slices(asked, buffers);
-    }
-    let [s, d, f, a, b, _, k, w] = buffers.each_mut().map(|bytes| bytes.as_mut_ptr());
-    let [sl, dl, fl, al, bl, _, kl, wl] = buffers.map(|bytes| bytes.len());
+/// With the folder's buffer and answer in the places of the lent block and the answer.
+fn many_on_slices(asked: &[u32], mut buffers: Buffers<7>) -> u32 {
+    let [s, d, f, a, b, k, w] = buffers.each_mut().map(|bytes| bytes.as_mut_ptr());
+    let [sl, dl, fl, al, bl, kl, wl] = buffers.map(|bytes| bytes.len());
     // SAFETY: each pointer comes with the length of its own slice.
     unsafe { mindavehu_read_many(s, sl, asked.as_ptr(), asked.len(), d, dl, f, fl, a, al, b, bl, k, kl, w, wl) }
 }
 
-/// With the report. Every buffer is given as one that may be written to, so that it can be looked at afterwards.
-fn report_on_slices(kind: Kind, report: Report, mut buffers: Buffers<7>) -> u32 {
-    if kind == Kind::Arc {
-        return arc::report_on_slices(report, buffers);
-    }
-    let [s, d, f, a, b, _, r] = buffers.each_mut().map(|bytes| bytes.as_mut_ptr());
-    let [sl, dl, fl, al, bl, _, rl] = buffers.map(|bytes| bytes.len());
+/// With the report in the place of the answer. Every buffer is given as one that may be written to, so that it can be looked at afterwards.
+fn report_on_slices(report: Report, mut buffers: Buffers<6>) -> u32 {
+    let [s, d, f, a, b, r] = buffers.each_mut().map(|bytes| bytes.as_mut_ptr());
+    let [sl, dl, fl, al, bl, rl] = buffers.map(|bytes| bytes.len());
     // SAFETY: each pointer comes with the length of its own slice.
     unsafe {
         match report {
@@ -88,18 +82,15 @@ fn report_on_slices(kind: Kind, report: Report, mut buffers: Buffers<7>) -> u32 
     }
 }
 
-/// With the area and the answer. Flash, block table and lists are given as if they may be written to, as above.
-pub fn save_on_slices(kind: Kind, mut buffers: Buffers<8>) -> u32 {
-    if kind == Kind::Arc {
-        return arc::save_on_slices(buffers);
-    }
-    let [s, d, f, a, b, _, r, w] = buffers.each_mut().map(|bytes| bytes.as_mut_ptr());
-    let [sl, dl, fl, al, bl, _, rl, wl] = buffers.map(|bytes| bytes.len());
+/// With the area before the answer. Flash and block table are given as if they may be written to, as above.
+pub fn save_on_slices(mut buffers: Buffers<7>) -> u32 {
+    let [s, d, f, a, b, r, w] = buffers.each_mut().map(|bytes| bytes.as_mut_ptr());
+    let [sl, dl, fl, al, bl, rl, wl] = buffers.map(|bytes| bytes.len());
     // SAFETY: each pointer comes with the length of its own slice.
     unsafe { mindavehu_save(s, sl, d, dl, f, fl, a, al, b, bl, r, rl, w, wl) }
 }
 
-/// Of either kind: state, area, address table, block table and lists.
+/// State, area, address table, block table and lists.
 pub fn restore_on_slices(mut buffers: Buffers<5>) -> u32 {
     let [s, r, a, b, l] = buffers.each_mut().map(|bytes| bytes.as_mut_ptr());
     let [sl, rl, al, bl, ll] = buffers.map(|bytes| bytes.len());
@@ -109,20 +100,31 @@ pub fn restore_on_slices(mut buffers: Buffers<5>) -> u32 {
 
 /// Calls the service on a box. The address is not used by an opening and a flush.
 pub fn call(call: Call, address: u32, lent: &mut Lent) -> u32 {
-    let Lent { kind, state, disk, flash, addresses, blocks, lists, block, answer, label } = lent;
-    on_slices(*kind, call, address, [state, disk, flash, addresses, blocks, lists, block, answer, label])
+    on_slices(call, address, buffers(lent))
 }
 
 /// One call for a folder. The box's own block and answer, and the label of an opening, are not lent to it.
 pub fn call_many(lent: &mut Lent, folder: &mut Folder) -> u32 {
-    let Lent { kind, state, disk, flash, addresses, blocks, lists, .. } = lent;
-    many_on_slices(*kind, &folder.asked, [state, disk, flash, addresses, blocks, lists, &mut folder.buffer, &mut folder.answer])
+    let Lent { state, disk, flash, addresses, blocks, .. } = lent;
+    many_on_slices(&folder.asked, [state, disk, flash, addresses, blocks, &mut folder.buffer, &mut folder.answer])
 }
 
 /// A report into these bytes.
 pub fn call_report(report: Report, lent: &mut Lent, bytes: &mut [u8]) -> u32 {
-    let Lent { kind, state, disk, flash, addresses, blocks, lists, .. } = lent;
-    report_on_slices(*kind, report, [state, disk, flash, addresses, blocks, lists, bytes])
+    let Lent { state, disk, flash, addresses, blocks, .. } = lent;
+    report_on_slices(report, [state, disk, flash, addresses, blocks, bytes])
+}
+
+/// A save into this area.
+pub fn call_save(lent: &mut Lent, area: &mut [u8]) -> u32 {
+    let Lent { state, disk, flash, addresses, blocks, answer, .. } = lent;
+    save_on_slices([state, disk, flash, addresses, blocks, area, answer])
+}
+
+/// A restore from this area into the state and the tables of a box, which lends nothing else.
+pub fn call_restore(lent: &mut Lent, area: &mut [u8], lists: &mut [u8]) -> u32 {
+    let Lent { state, addresses, blocks, .. } = lent;
+    restore_on_slices([state, area, addresses, blocks, lists])
 }
 
 fn question_on_slices(q: &Question, label: &[u8], disk: &[u8], counts: &mut [u8]) -> u32 {
@@ -142,13 +144,13 @@ pub fn call_question(q: &mut Question) -> u32 {
 const GUARD: usize = 32;
 
 /// Buffers copied to places `shift` bytes (below 32) off, between bytes that must keep their values.
-struct Lifted {
+pub(crate) struct Lifted {
     wide: Vec<Vec<u8>>,
     inside: Vec<std::ops::Range<usize>>,
 }
 
 impl Lifted {
-    fn new<const COUNT: usize>(buffers: &Buffers<COUNT>, shift: usize) -> Lifted {
+    pub(crate) fn new<const COUNT: usize>(buffers: &Buffers<COUNT>, shift: usize) -> Lifted {
         let mut lifted = Lifted { wide: Vec::new(), inside: Vec::new() };
         for (k, bytes) in buffers.iter().enumerate() {
             let start = GUARD + (shift + 3 * k) % GUARD;
@@ -160,13 +162,13 @@ impl Lifted {
         lifted
     }
 
-    fn slices<const COUNT: usize>(&mut self) -> Buffers<'_, COUNT> {
+    pub(crate) fn slices<const COUNT: usize>(&mut self) -> Buffers<'_, COUNT> {
         let mut slices = self.wide.iter_mut().zip(&self.inside).map(|(wide, inside)| &mut wide[inside.clone()]);
         std::array::from_fn(|_| slices.next().unwrap())
     }
 
     /// Copies the bytes back, and looks at those around them.
-    fn put_back<const COUNT: usize>(self, buffers: Buffers<COUNT>, name: &str) {
+    pub(crate) fn put_back<const COUNT: usize>(self, buffers: Buffers<COUNT>, name: &str) {
         for (k, bytes) in buffers.into_iter().enumerate() {
             let (wide, inside) = (&self.wide[k], self.inside[k].clone());
             let outside = wide[..inside.start].iter().chain(&wide[inside.end..]);
@@ -176,54 +178,63 @@ impl Lifted {
     }
 }
 
-/// Makes a call with every buffer lifted.
-fn guarded<const COUNT: usize>(own: Buffers<COUNT>, shift: usize, name: &str, call: impl FnOnce(Buffers<COUNT>) -> u32) -> u32 {
-    let mut lifted = Lifted::new(&own, shift);
-    let number = call(lifted.slices());
-    lifted.put_back(own, name);
-    number
-}
-
 /// The same as `call` with every buffer lifted.
 pub fn call_guarded(call: Call, address: u32, lent: &mut Lent, shift: usize) -> u32 {
-    let Lent { kind, state, disk, flash, addresses, blocks, lists, block, answer, label } = lent;
-    let own: Buffers<9> = [state, disk, flash, addresses, blocks, lists, block, answer, label];
-    guarded(own, shift, &format!("{call:?}"), |buffers| on_slices(*kind, call, address, buffers))
+    let mut lifted = Lifted::new(&buffers(lent), shift);
+    let number = on_slices(call, address, lifted.slices());
+    lifted.put_back(buffers(lent), &format!("{call:?}"));
+    number
 }
 
 /// The same as `call_many` with every buffer lifted. The addresses stay at a multiple of four bytes, between others that the box has not.
 pub fn call_many_guarded(lent: &mut Lent, folder: &mut Folder, shift: usize) -> u32 {
-    let Lent { kind, state, disk, flash, addresses, blocks, lists, .. } = lent;
-    let own: Buffers<8> = [state, disk, flash, addresses, blocks, lists, &mut folder.buffer, &mut folder.answer];
+    let Lent { state, disk, flash, addresses, blocks, .. } = lent;
+    let own: Buffers<7> = [state, disk, flash, addresses, blocks, &mut folder.buffer, &mut folder.answer];
+    let mut lifted = Lifted::new(&own, shift);
     let start = 1 + shift % 4;
     let wide = [&vec![u32::MAX; start][..], &folder.asked, &[u32::MAX; 4]].concat();
-    let asked = &wide[start..start + folder.asked.len()];
-    guarded(own, shift, "one call for a folder", |buffers| many_on_slices(*kind, asked, buffers))
+    let number = many_on_slices(&wide[start..start + folder.asked.len()], lifted.slices());
+    lifted.put_back(own, "one call for a folder");
+    number
 }
 
 /// The same as `call_report` with every buffer lifted.
 pub fn call_report_guarded(report: Report, lent: &mut Lent, bytes: &mut [u8], shift: usize) -> u32 {
-    let Lent { kind, state, disk, flash, addresses, blocks, lists, .. } = lent;
-    let own: Buffers<7> = [state, disk, flash, addresses, blocks, lists, bytes];
-    guarded(own, shift, &format!("the report {report:?}"), |buffers| report_on_slices(*kind, report, buffers))
+    let Lent { state, disk, flash, addresses, blocks, .. } = lent;
+    let own: Buffers<6> = [state, disk, flash, addresses, blocks, bytes];
+    let mut lifted = Lifted::new(&own, shift);
+    let number = report_on_slices(report, lifted.slices());
+    lifted.put_back(own, &format!("the report {report:?}"));
+    number
 }
 
-/// A save into this area, with every buffer lifted.
+/// The same as `call_save` with every buffer lifted.
 pub fn call_save_guarded(lent: &mut Lent, area: &mut [u8], shift: usize) -> u32 {
-    let Lent { kind, state, disk, flash, addresses, blocks, lists, answer, .. } = lent;
-    let own: Buffers<8> = [state, disk, flash, addresses, blocks, lists, area, answer];
-    guarded(own, shift, "a save", |buffers| save_on_slices(*kind, buffers))
+    let Lent { state, disk, flash, addresses, blocks, answer, .. } = lent;
+    let own: Buffers<7> = [state, disk, flash, addresses, blocks, area, answer];
+    let mut lifted = Lifted::new(&own, shift);
+    let number = save_on_slices(lifted.slices());
+    lifted.put_back(own, "a save");
+    number
 }
 
-/// A restore from this area into the state, the tables and the lists of a box, which lends nothing else; with every buffer lifted.
-pub fn call_restore_guarded(lent: &mut Lent, area: &mut [u8], shift: usize) -> u32 {
-    let Lent { state, addresses, blocks, lists, .. } = lent;
-    guarded([state, area, addresses, blocks, lists], shift, "a restore", restore_on_slices)
+/// The same as `call_restore` with every buffer lifted.
+pub fn call_restore_guarded(lent: &mut Lent, area: &mut [u8], lists: &mut [u8], shift: usize) -> u32 {
+    let Lent { state, addresses, blocks, .. } = lent;
+    let own: Buffers<5> = [state, area, addresses, blocks, lists];
+    let mut lifted = Lifted::new(&own, shift);
+    let number = restore_on_slices(lifted.slices());
+    lifted.put_back(own, "a restore");
+    number
 }
 
 /// The same as `call_question` with every buffer lifted.
 pub fn call_question_guarded(q: &mut Question, shift: usize) -> u32 {
     let given = q.clone();
     let own: Buffers<3> = [&mut q.label, &mut q.disk, &mut q.counts];
-    guarded(own, shift, "an exam question", |[label, disk, counts]| question_on_slices(&given, label, disk, counts))
+    let mut lifted = Lifted::new(&own, shift);
+    let [label, disk, counts] = lifted.slices();
+    let number = question_on_slices(&given, label, disk, counts);
+    lifted.put_back(own, "an exam question");
+    number
 }

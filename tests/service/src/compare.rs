@@ -1,7 +1,7 @@
-//! One call on the service and on the model, of either kind of box, with every byte compared.
+//! One call on the service and on the model, with every byte compared.
 use crate::calls::{call_guarded, call_many_guarded, call_report_guarded, call_restore_guarded, call_save_guarded};
 use model::image::{carry_out_restore, carry_out_save};
-use model::{carry_out, carry_out_many, carry_out_report, Call, Folder, Kind, Lent, Report, STATE, STATE_COUNTERS, STATE_LABEL};
+use model::{carry_out, carry_out_many, carry_out_report, Call, Folder, Lent, Numbers, Report, STATE, ZEROS};
 
 /// Carries a call out on the service and on the model's copy of the box. Gives the number on which both agree.
 pub fn compare(call: Call, address: u32, lent: &mut Lent, shift: usize, context: &dyn Fn() -> String) -> u32 {
@@ -14,12 +14,10 @@ pub fn compare(call: Call, address: u32, lent: &mut Lent, shift: usize, context:
         panic!("after {call:?} {address} with number {number}: {place}, {}", context());
     }
     if number != 0 {
-        // Said again without the model: a refused call keeps every byte, a refused opening sets n and the label to zeros, and p and the sizes of the lists.
+        // Said again without the model: a refused call keeps every byte, a refused opening sets n and the label to zeros.
         let mut kept = before;
-        if call == Call::Open && kept.state.len() == kept.kind.state() {
-            kept.state[32..40].fill(0);
-            kept.state[STATE_LABEL].fill(0);
-            kept.state[STATE..].fill(0);
+        if call == Call::Open && kept.state.len() == STATE {
+            kept.state = Numbers { n: 0, label: ZEROS, ..kept.numbers() }.to_bytes();
         }
         if let Some(place) = lent.difference(&kept) {
             panic!("refused {call:?} {address} with number {number}: {place}, {}", context());
@@ -79,23 +77,22 @@ pub fn compare_save(lent: &mut Lent, area: &mut [u8], shift: usize, context: &dy
     given
 }
 
-/// The same for a restore, which is lent the state, the tables and the lists of a box.
-pub fn compare_restore(lent: &mut Lent, area: &mut [u8], shift: usize, context: &dyn Fn() -> String) -> u32 {
-    let (mut kept, kept_area) = (lent.clone(), area.to_vec());
+/// The same for a restore, which is lent the state and the tables of a box. The bytes of the lists are kept.
+pub fn compare_restore(lent: &mut Lent, area: &mut [u8], lists: &mut [u8], shift: usize, context: &dyn Fn() -> String) -> u32 {
+    let (mut kept, kept_area, kept_lists) = (lent.clone(), area.to_vec(), lists.to_vec());
     let (mut expected, mut expected_area) = (kept.clone(), kept_area.clone());
-    let number = carry_out_restore(&mut expected, &mut expected_area);
-    let given = call_restore_guarded(lent, area, shift);
+    let number = carry_out_restore(&mut expected, &mut expected_area, lists.len());
+    let given = call_restore_guarded(lent, area, lists, shift);
     assert_eq!(given, number, "number of a restore from {} bytes, {}", area.len(), context());
     if let Some(place) = lent.difference(&expected).or(place(area, &expected_area).map(|k| format!("area: byte {k}"))) {
         panic!("after a restore with number {number}: {place}, {}", context());
     }
+    assert!(lists == kept_lists, "the lists after a restore with number {number}, {}", context());
     if number != 0 {
-        // Said again without the model: a refused restore keeps every byte but the record, which is zeros; the counters are no part of it. A state that does
-        // not go with the lists is kept too.
-        let kind = if kept.lists.is_empty() { Kind::Lru } else { Kind::Arc };
-        if kept.state.len() == kind.state() {
-            kept.state[..STATE_COUNTERS.start].fill(0);
-            kept.state[STATE_COUNTERS.end..].fill(0);
+        // Said again without the model: a refused restore keeps every byte but the record, which is zeros; the counters are no part of it.
+        if kept.state.len() == STATE {
+            kept.state[..40].fill(0);
+            kept.state[72..].fill(0);
         }
         if let Some(place) = lent.difference(&kept).or(place(area, &kept_area).map(|k| format!("area: byte {k}"))) {
             panic!("refused restore with number {number}: {place}, {}", context());

@@ -1,61 +1,182 @@
-//! The engine with maps, the engine of D-ARC boxes and the search in plain Rust, behind the service's C names.
-use engines::{arc, maps};
+//! The engine with maps, and the search in plain Rust, behind the service's C names.
 use std::slice::{from_raw_parts, from_raw_parts_mut};
 
-/// C names of functions, each with what it takes: bytes that it writes (`w`) or reads (`r`) and a list of addresses (`list`), which are a pointer and a length,
-/// or a number. A name takes one of these at a time from the list, with names of their own for pointer and length.
-macro_rules! c_names {
-    (@ $name:ident $function:path, [$($taken:tt)*] [$($given:tt)*]) => {
+type P = *const u8;
+type M = *mut u8;
+
+#[no_mangle]
+unsafe extern "C" fn mindavehu_open(s: M, sl: usize, l: P, ll: usize, d: P, dl: usize, f: P, fl: usize, a: M, al: usize, b: M, bl: usize) -> u32 {
+    engines::maps::open(
+        from_raw_parts_mut(s, sl),
+        from_raw_parts(l, ll),
+        from_raw_parts(d, dl),
+        from_raw_parts(f, fl),
+        from_raw_parts_mut(a, al),
+        from_raw_parts_mut(b, bl),
+    )
+}
+
+#[no_mangle]
+unsafe extern "C" fn mindavehu_read(
+    s: M, sl: usize, address: u32, d: M, dl: usize, f: M, fl: usize, a: M, al: usize, b: M, bl: usize, k: M, kl: usize, w: M, wl: usize,
+) -> u32 {
+    engines::maps::read(
+        from_raw_parts_mut(s, sl),
+        address,
+        from_raw_parts_mut(d, dl),
+        from_raw_parts_mut(f, fl),
+        from_raw_parts_mut(a, al),
+        from_raw_parts_mut(b, bl),
+        from_raw_parts_mut(k, kl),
+        from_raw_parts_mut(w, wl),
+    )
+}
+
+#[no_mangle]
+unsafe extern "C" fn mindavehu_read_many(
+    s: M, sl: usize, asked: *const u32, count: usize, d: M, dl: usize, f: M, fl: usize, a: M, al: usize, b: M, bl: usize, k: M, kl: usize, w: M, wl: usize,
+) -> u32 {
+    engines::maps::read_many(
+        from_raw_parts_mut(s, sl),
+        from_raw_parts(asked, count),
+        from_raw_parts_mut(d, dl),
+        from_raw_parts_mut(f, fl),
+        from_raw_parts_mut(a, al),
+        from_raw_parts_mut(b, bl),
+        from_raw_parts_mut(k, kl),
+        from_raw_parts_mut(w, wl),
+    )
+}
+
+macro_rules! writes {
+    ($($name:ident $function:ident $flash:ident $slice:ident;)*) => { $(
         #[no_mangle]
-        unsafe extern "C" fn $name($($taken)*) -> u32 {
-            $function($($given)*)
+        unsafe extern "C" fn $name(
+            s: M, sl: usize, address: u32, seat: u16, d: M, dl: usize, f: $flash, fl: usize, a: M, al: usize, b: M, bl: usize, k: P, kl: usize, w: M, wl: usize,
+        ) -> u32 {
+            engines::maps::$function(
+                from_raw_parts_mut(s, sl),
+                address,
+                seat,
+                from_raw_parts_mut(d, dl),
+                $slice(f, fl),
+                from_raw_parts_mut(a, al),
+                from_raw_parts_mut(b, bl),
+                from_raw_parts(k, kl),
+                from_raw_parts_mut(w, wl),
+            )
         }
-    };
-    (@ $name:ident $function:path, [$($taken:tt)*] [$($given:tt)*] w $($more:ident)*) => {
-        c_names! { @ $name $function, [$($taken)* p: *mut u8, l: usize,] [$($given)* from_raw_parts_mut(p, l),] $($more)* }
-    };
-    (@ $name:ident $function:path, [$($taken:tt)*] [$($given:tt)*] r $($more:ident)*) => {
-        c_names! { @ $name $function, [$($taken)* p: *const u8, l: usize,] [$($given)* from_raw_parts(p, l),] $($more)* }
-    };
-    (@ $name:ident $function:path, [$($taken:tt)*] [$($given:tt)*] list $($more:ident)*) => {
-        c_names! { @ $name $function, [$($taken)* p: *const u32, l: usize,] [$($given)* from_raw_parts(p, l),] $($more)* }
-    };
-    (@ $name:ident $function:path, [$($taken:tt)*] [$($given:tt)*] $number:ident $($more:ident)*) => {
-        c_names! { @ $name $function, [$($taken)* n: $number,] [$($given)* n,] $($more)* }
-    };
-    ($($name:ident $function:path, $($takes:ident)*;)*) => { $(c_names! { @ $name $function, [] [] $($takes)* })* };
+    )* };
 }
 
-c_names! {
-    mindavehu_open maps::open, w r r r w w;
-    mindavehu_read maps::read, w u32 w w w w w w;
-    mindavehu_read_many maps::read_many, w list w w w w w w;
-    mindavehu_write_through maps::write_through, w u32 u16 w w w w r w;
-    mindavehu_write_back maps::write_back, w u32 u16 w w w w r w;
-    mindavehu_write_invalidate maps::write_invalidate, w u32 u16 w r w w r w;
-    mindavehu_flush maps::flush, w w r w r w;
-    mindavehu_flush_some maps::flush_some, w usize w r w r w;
-    mindavehu_look maps::look, r u32 r r r r w;
-    mindavehu_manager_report maps::manager_report, r r r r r w;
-    mindavehu_desk_report maps::desk_report, r r r r r w;
-    mindavehu_save maps::save, w w r w r w w;
-    mindavehu_restore maps::restore, w w w w w;
-    mindavehu_scores scores, usize usize usize usize usize r r usize w;
-    mindavehu_arc_open arc::open, w r r r w w w;
-    mindavehu_arc_read arc::read, w u32 w w w w w w w;
-    mindavehu_arc_read_many arc::read_many, w list w w w w w w w;
-    mindavehu_arc_write_through arc::write_through, w u32 u16 w w w w w r w;
-    mindavehu_arc_write_back arc::write_back, w u32 u16 w w w w w r w;
-    mindavehu_arc_write_invalidate arc::write_invalidate, w u32 u16 w w w w w r w;
-    mindavehu_arc_flush arc::flush, w w r w r r w;
-    mindavehu_arc_flush_some arc::flush_some, w usize w r w r r w;
-    mindavehu_arc_look arc::look, r u32 r r r r r w;
-    mindavehu_arc_manager_report arc::manager_report, r r r r r r w;
-    mindavehu_arc_desk_report arc::desk_report, r r r r r r w;
-    mindavehu_arc_save arc::save, w w r w r r w w;
+writes! {
+    mindavehu_write_through write_through M from_raw_parts_mut;
+    mindavehu_write_back write_back M from_raw_parts_mut;
+    mindavehu_write_invalidate write_invalidate P from_raw_parts;
 }
 
-#[allow(clippy::too_many_arguments)]
-fn scores(b: usize, p: usize, m: usize, d: usize, t: usize, label: &[u8], disk: &[u8], k: usize, counts: &mut [u8]) -> u32 {
-    engines::scores::scores([b, p, m, d, t], label, disk, k, counts)
+#[no_mangle]
+unsafe extern "C" fn mindavehu_flush(s: M, sl: usize, d: M, dl: usize, f: P, fl: usize, a: M, al: usize, b: P, bl: usize, w: M, wl: usize) -> u32 {
+    engines::maps::flush(
+        from_raw_parts_mut(s, sl),
+        from_raw_parts_mut(d, dl),
+        from_raw_parts(f, fl),
+        from_raw_parts_mut(a, al),
+        from_raw_parts(b, bl),
+        from_raw_parts_mut(w, wl),
+    )
+}
+
+#[no_mangle]
+unsafe extern "C" fn mindavehu_flush_some(
+    s: M,
+    sl: usize,
+    most: usize,
+    d: M,
+    dl: usize,
+    f: P,
+    fl: usize,
+    a: M,
+    al: usize,
+    b: P,
+    bl: usize,
+    w: M,
+    wl: usize,
+) -> u32 {
+    engines::maps::flush_some(
+        from_raw_parts_mut(s, sl),
+        most,
+        from_raw_parts_mut(d, dl),
+        from_raw_parts(f, fl),
+        from_raw_parts_mut(a, al),
+        from_raw_parts(b, bl),
+        from_raw_parts_mut(w, wl),
+    )
+}
+
+#[no_mangle]
+unsafe extern "C" fn mindavehu_look(s: P, sl: usize, address: u32, d: P, dl: usize, f: P, fl: usize, a: P, al: usize, b: P, bl: usize, w: M, wl: usize) -> u32 {
+    engines::maps::look(
+        from_raw_parts(s, sl),
+        address,
+        from_raw_parts(d, dl),
+        from_raw_parts(f, fl),
+        from_raw_parts(a, al),
+        from_raw_parts(b, bl),
+        from_raw_parts_mut(w, wl),
+    )
+}
+
+macro_rules! reports {
+    ($($name:ident $function:ident;)*) => { $(
+        #[no_mangle]
+        unsafe extern "C" fn $name(s: P, sl: usize, d: P, dl: usize, f: P, fl: usize, a: P, al: usize, b: P, bl: usize, r: M, rl: usize) -> u32 {
+            engines::maps::$function(
+                from_raw_parts(s, sl),
+                from_raw_parts(d, dl),
+                from_raw_parts(f, fl),
+                from_raw_parts(a, al),
+                from_raw_parts(b, bl),
+                from_raw_parts_mut(r, rl),
+            )
+        }
+    )* };
+}
+
+reports! {
+    mindavehu_manager_report manager_report;
+    mindavehu_desk_report desk_report;
+}
+
+#[no_mangle]
+unsafe extern "C" fn mindavehu_save(
+    s: M, sl: usize, d: M, dl: usize, f: P, fl: usize, a: M, al: usize, b: P, bl: usize, r: M, rl: usize, w: M, wl: usize,
+) -> u32 {
+    engines::maps::save(
+        from_raw_parts_mut(s, sl),
+        from_raw_parts_mut(d, dl),
+        from_raw_parts(f, fl),
+        from_raw_parts_mut(a, al),
+        from_raw_parts(b, bl),
+        from_raw_parts_mut(r, rl),
+        from_raw_parts_mut(w, wl),
+    )
+}
+
+#[no_mangle]
+unsafe extern "C" fn mindavehu_restore(s: M, sl: usize, r: M, rl: usize, a: M, al: usize, b: M, bl: usize, l: M, ll: usize) -> u32 {
+    engines::maps::restore(
+        from_raw_parts_mut(s, sl),
+        from_raw_parts_mut(r, rl),
+        from_raw_parts_mut(a, al),
+        from_raw_parts_mut(b, bl),
+        from_raw_parts(l, ll),
+    )
+}
+
+#[no_mangle]
+unsafe extern "C" fn mindavehu_scores(
+    b: usize, p: usize, m: usize, d: usize, t: usize, l: P, ll: usize, disk: P, dl: usize, k: usize, c: M, cl: usize,
+) -> u32 {
+    engines::scores::scores([b, p, m, d, t], from_raw_parts(l, ll), from_raw_parts(disk, dl), k, from_raw_parts_mut(c, cl))
 }

@@ -18,7 +18,6 @@ pub fn unopened(b: usize, p: usize, m: usize, d: usize, t: u64) -> Lent {
         block: vec![0xDD; b],
         answer: vec![0xEE; ANSWER],
         label: OFFICE.to_vec(),
-        ..Lent::default()
     }
 }
 

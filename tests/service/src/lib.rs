@@ -1,6 +1,12 @@
 //! The proved service as Rust calls it, random boxes to lend to it, and what the tests have in common.
+#[cfg(feature = "double")]
 pub mod arc_boxes;
-mod arc_calls;
+#[cfg(feature = "double")]
+pub mod arc_calls;
+#[cfg(feature = "double")]
+pub mod arc_compare;
+#[cfg(feature = "double")]
+mod arc_double;
 pub mod areas;
 pub mod asked;
 pub mod boxes;
@@ -9,6 +15,5 @@ pub mod compare;
 #[cfg(feature = "double")]
 mod double;
 pub mod fresh;
-pub mod kinds;
 pub mod mapped;
 pub mod progress;

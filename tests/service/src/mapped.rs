@@ -1,14 +1,12 @@
 //! A file that src/saver.rs has mapped while it saves, and that outlives it: what it holds when that program is killed is every store made so far.
 use crate::boxes::Shape;
-use model::arc::WORD;
 use model::image::{room, WRITE};
-use model::{Kind, ROW};
+use model::{ROW, STATE};
 use std::fs::OpenOptions;
 use std::os::fd::AsRawFd;
 use std::path::Path;
 use std::sync::atomic::{fence, AtomicU64, Ordering};
 
-/// Of the box of either kind.
 pub const SHAPE: Shape = Shape { b: 64, p: 1_200, m: 1_024, d: 256 };
 /// The area's bytes before a save, in its header too, which is no image; some of them are behind the fill.
 pub const OLD: u8 = 0xDD;
@@ -30,20 +28,14 @@ pub struct Parts<'a> {
     pub state: &'a mut [u8],
     pub addresses: &'a mut [u8],
     pub blocks: &'a mut [u8],
-    pub lists: &'a mut [u8],
 }
 
 /// The phase is the file's first number, and the parts follow. The area has pages of its own, behind them.
 const PHASE: usize = 8;
 
-fn lengths(kind: Kind) -> [usize; 7] {
+fn lengths() -> [usize; 6] {
     let Shape { b, p, m, d } = SHAPE;
-    let lists = if kind == Kind::Arc { m * WORD } else { 0 };
-    [p * b, d * b, p * b, kind.state(), m * ROW, d * ROW, lists]
-}
-
-fn area_length(kind: Kind) -> usize {
-    room(kind, SHAPE.m, SHAPE.d) + BEHIND
+    [p * b, d * b, p * b, STATE, m * ROW, d * ROW]
 }
 
 fn page() -> usize {
@@ -52,24 +44,24 @@ fn page() -> usize {
 }
 
 /// The border of a page at which write `at` of an area starts, counted from the header, which is write 0.
-fn border(kind: Kind, at: usize) -> usize {
-    (PHASE + lengths(kind).iter().sum::<usize>()).next_multiple_of(page()) + (at * WRITE).next_multiple_of(page())
+fn border(at: usize) -> usize {
+    (PHASE + lengths().iter().sum::<usize>()).next_multiple_of(page()) + (at * WRITE).next_multiple_of(page())
 }
 
-pub fn length(kind: Kind) -> usize {
-    border(kind, 0) + area_length(kind).next_multiple_of(page()) + page()
+pub fn length() -> usize {
+    border(0) + (room(SHAPE.m, SHAPE.d) + BEHIND).next_multiple_of(page()) + page()
 }
 
 /// The parts, with the area where its write `at` starts a page.
-pub fn parts(kind: Kind, bytes: &mut [u8], at: usize) -> Parts<'_> {
-    let (before, behind) = bytes.split_at_mut(border(kind, at) - at * WRITE);
+pub fn parts(bytes: &mut [u8], at: usize) -> Parts<'_> {
+    let (before, behind) = bytes.split_at_mut(border(at) - at * WRITE);
     let mut rest = &mut before[PHASE..];
-    let [disk, flash, plain, state, addresses, blocks, lists] = lengths(kind).map(|length| {
+    let [disk, flash, plain, state, addresses, blocks] = lengths().map(|length| {
         let (part, behind) = std::mem::take(&mut rest).split_at_mut(length);
         rest = behind;
         part
     });
-    Parts { area: &mut behind[..area_length(kind)], disk, flash, plain, state, addresses, blocks, lists }
+    Parts { area: &mut behind[..room(SHAPE.m, SHAPE.d) + BEHIND], disk, flash, plain, state, addresses, blocks }
 }
 
 extern "C" {
@@ -83,21 +75,17 @@ const READ_AND_WRITE: i32 = 3;
 const SHARED: i32 = 1;
 
 /// Closes the mapping from write `at` of the area on: the first store to it ends the program.
-///
-/// # Safety
-/// `start` is that of a mapping by `map` of a file of this kind.
-pub unsafe fn close(kind: Kind, start: *mut u8, at: usize) {
-    let border = border(kind, at);
+pub fn close(start: *mut u8, at: usize) {
     // SAFETY: whole pages of the mapping, which can still be read.
-    assert_eq!(unsafe { mprotect(start.add(border), length(kind) - border, READ) }, 0, "pages cannot be closed");
+    assert_eq!(unsafe { mprotect(start.add(border(at)), length() - border(at), READ) }, 0, "pages cannot be closed");
 }
 
 /// Maps the file for as long as this program runs. Its phase, and its bytes, which are the other program's while that runs.
-pub fn map(kind: Kind, path: &Path) -> (&'static AtomicU64, *mut u8) {
+pub fn map(path: &Path) -> (&'static AtomicU64, *mut u8) {
     let file = OpenOptions::new().read(true).write(true).open(path).unwrap();
-    assert_eq!(file.metadata().unwrap().len(), length(kind) as u64, "the file's length");
+    assert_eq!(file.metadata().unwrap().len(), length() as u64, "the file's length");
     // SAFETY: a new mapping of the whole file.
-    let start = unsafe { mmap(std::ptr::null_mut(), length(kind), READ_AND_WRITE, SHARED, file.as_raw_fd(), 0) };
+    let start = unsafe { mmap(std::ptr::null_mut(), length(), READ_AND_WRITE, SHARED, file.as_raw_fd(), 0) };
     assert!(!start.is_null() && start as isize != -1, "the file cannot be mapped");
     // SAFETY: the mapping starts at a page and is never taken away; both programs use its first number through an atomic alone.
     (unsafe { AtomicU64::from_ptr(start.cast()) }, start)

@@ -2,11 +2,11 @@
 //! after every call.
 use common::Random;
 use model::arc::worked::play;
-use model::arc::{B1, B2, T1, T2};
-use model::{Answer, Cache, Call, Lent, BLOCK_SIZES, REPORTS};
+use model::arc::{ArcLent, B1, B2, T1, T2};
+use model::{Answer, Cache, Call, BLOCK_SIZES, REPORTS};
 use service::arc_boxes::{unopened, ArcShape};
+use service::arc_calls::{call, call_many, call_report};
 use service::boxes::{any_seat, bytes, folder, folder_count, most, office, pick, Contents};
-use service::calls::{call, call_many, call_report};
 use service::progress::{count, seed, Progress};
 
 #[test]
@@ -90,7 +90,7 @@ fn choose(random: &mut Random, shape: ArcShape) -> (Call, u32) {
 
 /// A box of the service beside the model's cache.
 struct Beside {
-    lent: Lent,
+    lent: ArcLent,
     cache: Cache,
 }
 
@@ -119,7 +119,7 @@ fn open_folder(random: &mut Random, shape: ArcShape, both: &mut Beside, met: &mu
         }
     }
     assert_eq!(many.difference(&expected), None, "{}", context());
-    assert_eq!(both.cache.difference(&both.lent), None, "{}", context());
+    assert_eq!(both.cache.difference_arc(&both.lent), None, "{}", context());
     met.refused[number as usize] += 1;
     met.calls += 1;
 }
@@ -138,7 +138,7 @@ fn report(random: &mut Random, both: &mut Beside, met: &mut Met, context: &str) 
         assert_eq!((call_report(kind, lent, &mut given), &given), (0, &cache.report(kind)), "{kind:?}, {context}");
         met.reports += 1;
     }
-    assert_eq!(cache.difference(lent), None, "after the report {kind:?}, {context}");
+    assert_eq!(cache.difference_arc(lent), None, "after the report {kind:?}, {context}");
 }
 
 /// One call on both, with a block that now and then has another length.
@@ -152,16 +152,16 @@ fn step(random: &mut Random, shape: ArcShape, contents: &Contents, both: &mut Be
         _ => {}
     }
     let Beside { lent, cache } = both;
-    lent.block.clone_from(&block);
-    let (answer, before) = (lent.answer.clone(), if shape.m() < 100 { Some(cache.clone()) } else { None });
+    lent.base.block.clone_from(&block);
+    let (answer, before) = (lent.base.answer.clone(), if shape.m() < 100 { Some(cache.clone()) } else { None });
     let number = call(kind, address, lent);
     match cache.call(kind, address, &mut block) {
         Err(expected) => {
             assert_eq!(number, expected, "{context}");
-            assert_eq!(lent.answer, answer, "answer of a refused call, {context}");
+            assert_eq!(lent.base.answer, answer, "answer of a refused call, {context}");
         }
         Ok(expected) => {
-            assert_eq!((number, Answer::from_bytes(&lent.answer)), (0, expected), "{context}");
+            assert_eq!((number, Answer::from_bytes(&lent.base.answer)), (0, expected), "{context}");
             met.words[expected.word as usize] += 1;
             met.flash_writes += if kind == Call::Look { 0 } else { expected.first };
             met.written_back += if matches!(kind, Call::Read | Call::Back(_)) { expected.second } else { 0 };
@@ -169,8 +169,8 @@ fn step(random: &mut Random, shape: ArcShape, contents: &Contents, both: &mut Be
         }
     }
     met.refused[number as usize] += 1;
-    assert!(lent.block == block, "lent block, {context}");
-    if let Some(name) = cache.difference(lent) {
+    assert!(lent.base.block == block, "lent block, {context}");
+    if let Some(name) = cache.difference_arc(lent) {
         panic!("{name} differs after {context}");
     }
     if random.below(4) == 0 {
@@ -191,11 +191,11 @@ fn list(random: &mut Random, shape: ArcShape, length: usize, met: &mut Met) {
     };
     let contents = Contents::new(random, b, pool);
     let mut lent = unopened(random, shape, &contents);
-    let cache = Cache::fresh_arc(b, p, c, x, lent.arc_numbers().t as usize, office(&lent), lent.disk.clone(), lent.flash.clone());
-    let (block, answer) = (lent.block.clone(), lent.answer.clone());
+    let cache = Cache::fresh_arc(b, p, c, x, lent.numbers().t as usize, office(&lent.base), lent.base.disk.clone(), lent.base.flash.clone());
+    let (block, answer) = (lent.base.block.clone(), lent.base.answer.clone());
     assert_eq!(call(Call::Open, 0, &mut lent), 0, "opening {shape:?}");
-    assert_eq!(cache.difference(&lent), None, "opening {shape:?}");
-    assert!(lent.block == block && lent.answer == answer);
+    assert_eq!(cache.difference_arc(&lent), None, "opening {shape:?}");
+    assert!(lent.base.block == block && lent.base.answer == answer);
     met.lists += 1;
     let mut both = Beside { lent, cache };
     for turn in 0..length {

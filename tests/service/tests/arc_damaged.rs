@@ -1,10 +1,10 @@
 //! D-ARC boxes that must be refused: the number is right and every byte is kept.
 use common::Random;
-use model::arc::ARC_STATE;
-use model::{Call, Lent, CALLS, MANY_CHECKS, REPORTS, STATE_LABEL};
+use model::arc::{ArcLent, ARC_STATE};
+use model::{Call, CALLS, MANY_CHECKS, REPORTS, STATE_LABEL};
 use service::arc_boxes::{damaged, damages, number_of, number_of_report, small, sound, ArcDamage, ArcShape};
-use service::boxes::{any_seat, bytes, change_byte, fill, folder, pick, pick_call, Counts, Damage};
-use service::compare::{compare, compare_many, compare_report};
+use service::arc_compare::{compare, compare_many, compare_report};
+use service::boxes::{any_seat, bytes, fill, folder, pick, pick_call, Counts, Damage};
 use service::progress::{count, seed, Progress};
 
 const NUMBERS: [usize; 10] = [11, 12, 2, 10, 3, 6, 7, 8, 13, 9];
@@ -30,8 +30,8 @@ impl Tried {
 }
 
 /// The bytes of a report, or some other number of them where m is no number of a box.
-fn report_length(random: &mut Random, lent: &Lent, row: usize) -> usize {
-    let m = lent.arc_numbers().m().min(2_000) as usize;
+fn report_length(random: &mut Random, lent: &ArcLent, row: usize) -> usize {
+    let m = lent.numbers().m().min(2_000) as usize;
     let right = m * row;
     if random.below(10) == 0 {
         right + pick(random, &[1, 5, 7])
@@ -41,8 +41,8 @@ fn report_length(random: &mut Random, lent: &Lent, row: usize) -> usize {
 }
 
 /// Folders of one to three addresses of the box, now and then of none, of 65 or beyond the disk. Gives the number that its own part alone has.
-fn try_folder(random: &mut Random, lent: &Lent, given: &[ArcDamage], tried: &mut Tried, context: &dyn Fn() -> String) {
-    let numbers = lent.arc_numbers();
+fn try_folder(random: &mut Random, lent: &ArcLent, given: &[ArcDamage], tried: &mut Tried, context: &dyn Fn() -> String) {
+    let numbers = lent.numbers();
     let p = numbers.p.clamp(1, 65_536) as usize;
     let some: Vec<u32> = (0..3).map(|_| random.below(p) as u32).collect();
     let number = number_of(Call::Flush, given);
@@ -76,7 +76,7 @@ fn try_all(random: &mut Random, given: &[ArcDamage], shape: fn(&mut Random) -> A
         let number = compare_report(report, &mut lent.clone(), &mut into, random.below(32), &context);
         let wanted = number_of_report(given);
         // A report into other bytes is refused with 2, unless 11 or 12 comes first.
-        let right = length as u128 == lent.arc_numbers().m() * report.row() as u128;
+        let right = length as u128 == lent.numbers().m() * report.row() as u128;
         assert_eq!(number, if right || [11, 12].contains(&wanted) { wanted } else { 2 }, "{report:?} with {given:?}, seed {seed}");
         tried.numbers[number as usize] += 1;
     }
@@ -148,7 +148,7 @@ fn in_large_boxes() {
 }
 
 /// One call, folder or report on a box of which nothing is known, by the model alone.
-fn try_any(random: &mut Random, mut lent: Lent, shape: ArcShape, tried: &mut Tried, context: &dyn Fn() -> String) {
+fn try_any(random: &mut Random, mut lent: ArcLent, shape: ArcShape, tried: &mut Tried, context: &dyn Fn() -> String) {
     let number = match random.below(8) {
         0 => {
             let address = random.below(shape.p + 1) as u32;
@@ -179,15 +179,20 @@ fn changed_bytes() {
         let mut lent = sound(&mut random, shape);
         for _ in 0..1 + random.below(3) {
             let buffer = match random.below(9) {
-                0 => &mut lent.state[..STATE_LABEL.start],
+                0 => &mut lent.base.state[..STATE_LABEL.start],
                 // The limit, p and the sizes, often a low byte of one of them.
-                1 => &mut lent.state[STATE_LABEL.end..],
-                2 => &mut lent.state[STATE_LABEL.end + 8 * random.below(7)..][..1],
+                1 => &mut lent.base.state[STATE_LABEL.end..],
+                2 => &mut lent.base.state[STATE_LABEL.end + 8 * random.below(7)..][..1],
                 3..=5 => &mut lent.lists[..],
-                6 => &mut lent.addresses[..],
-                _ => &mut lent.blocks[..],
+                6 => &mut lent.base.addresses[..],
+                _ => &mut lent.base.blocks[..],
             };
-            change_byte(&mut random, buffer);
+            let place = random.below(buffer.len());
+            match random.below(3) {
+                0 => buffer[place] ^= 1 << random.below(8),
+                1 => buffer[place] = random.below(3) as u8,
+                _ => buffer[place] = random.number() as u8,
+            }
         }
         try_any(&mut random, lent, shape, &mut tried, &|| format!("turn {turn}, {shape:?}, seed {seed}"));
         progress.at(turn);
@@ -210,7 +215,7 @@ fn any_numbers() {
             let place = pick(&mut random, &[0, 8, 16, 24, 32, 40, 48, 56, 64, 136, 136, 144, 144, 152, 160, 168, 176, 184]);
             let few = random.below(6) as u64;
             let number = if random.below(3) == 0 { few } else { pick(&mut random, &edges) };
-            lent.state[place..place + 8].copy_from_slice(&number.to_le_bytes());
+            lent.base.state[place..place + 8].copy_from_slice(&number.to_le_bytes());
         }
         if random.below(4) == 0 {
             let (one, two) = (random.below(shape.m()) * 4, random.below(shape.m()) * 4);
@@ -233,10 +238,10 @@ fn other_lengths_of_state_and_answer() {
         let (mut lent, address) = damaged(&mut random, &given, small);
         let state = random.below(2) == 0;
         if state {
-            lent.state.resize(pick(&mut random, &[0, 1, 8, 72, 136, 143, 144, 144, 152, 184, 191, 193, 200, 384]), 0);
+            lent.base.state.resize(pick(&mut random, &[0, 1, 8, 72, 136, 143, 144, 144, 152, 184, 191, 193, 200, 384]), 0);
         } else {
-            lent.answer.resize(pick(&mut random, &[0, 1, 8, 16, 23, 25, 32, 144, 192]), 0);
-            fill(&mut random, &mut lent.answer);
+            lent.base.answer.resize(pick(&mut random, &[0, 1, 8, 16, 23, 25, 32, 144, 192]), 0);
+            fill(&mut random, &mut lent.base.answer);
         }
         let context = || format!("damages {given:?}, seed {seed}");
         for call in CALLS.into_iter().filter(|call| state || *call != Call::Open) {
@@ -250,7 +255,7 @@ fn other_lengths_of_state_and_answer() {
         }
     }
     let (sound, _) = damaged(&mut random, &[], small);
-    let mut many = folder(&mut random, &[0], sound.arc_numbers().b as usize, 2);
+    let mut many = folder(&mut random, &[0], sound.numbers().b as usize, 2);
     many.answer.pop();
     assert_eq!(compare_many(&mut sound.clone(), &mut many, 0, &|| "an answer of 31 bytes".to_string()), 2);
     assert_eq!((ARC_STATE, number_of(Call::Read, &[ArcDamage::Base(Damage::Address)])), (192, 3));

@@ -1,7 +1,7 @@
 //! The service in every state that lists of reads, writes and flushes reach in small D-ARC boxes: every byte is the model's.
 use model::arc::search::{fresh, reached, steps};
 use model::{Call, Folder, MANY_ANSWER};
-use service::compare::{compare, compare_many};
+use service::arc_compare::{compare, compare_many};
 use service::progress::count;
 
 #[test]
@@ -15,13 +15,13 @@ fn every_state() {
         let (found, all) = reached(fresh(c, x, t, disk), &steps(p, contents), count(4_000), |before, (call, a, content), after| {
             let context = || format!("C {c}, X {x}, t {t}, disk {disk:?}");
             let mut lent = before.clone();
-            lent.block.fill(content);
+            lent.base.block.fill(content);
             assert_eq!(compare(call, a, &mut lent, calls % 32, &context), 0);
             assert_eq!(lent.difference(after), None, "{call:?} {a}, {}", context());
             if call == Call::Read {
                 assert_eq!(compare(Call::Look, a, &mut before.clone(), calls % 32, &context), 0);
                 let asked = vec![a, (a + 1) % p, a];
-                let mut folder = Folder { buffer: vec![0; asked.len() * lent.block.len()], asked, answer: vec![0; MANY_ANSWER] };
+                let mut folder = Folder { buffer: vec![0; asked.len() * lent.base.block.len()], asked, answer: vec![0; MANY_ANSWER] };
                 assert_eq!(compare_many(&mut before.clone(), &mut folder, calls % 32, &context), 0);
                 calls += 2;
             }

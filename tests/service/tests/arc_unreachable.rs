@@ -1,11 +1,11 @@
 //! Sound D-ARC boxes that no list of calls need reach, served: every byte is the model's, for a few calls from each. Their lists, sizes and p are any that are
 //! sound, B3 among them, which is empty in every box that a list reaches.
 use common::Random;
-use model::arc::{B1, B2, B3, T1, T2};
-use model::{read_tables, Cache, Call, Lent, CALLS, REPORTS};
+use model::arc::{ArcLent, B1, B2, B3, T1, T2};
+use model::{read_tables, Cache, Call, CALLS, REPORTS};
 use service::arc_boxes::{damage, sound, sound_at, ArcDamage, ArcShape};
+use service::arc_compare::{compare, compare_many, compare_report};
 use service::boxes::{any_seat, bytes, folder, most, pick, pick_call};
-use service::compare::{compare, compare_many, compare_report};
 use service::progress::{count, seed, Progress};
 
 /// How many requests came from each list, and boxes had what lists from fresh boxes do not show.
@@ -22,12 +22,12 @@ struct Had {
     lowered: usize,
 }
 
-fn load(lent: &Lent) -> Cache {
-    Cache::load(&mut lent.clone())
+fn load(lent: &ArcLent) -> Cache {
+    Cache::load_arc(&mut lent.clone())
 }
 
 impl Had {
-    fn see(&mut self, lent: &Lent) {
+    fn see(&mut self, lent: &ArcLent) {
         let cache = load(lent);
         let lists = cache.lists.as_ref().unwrap();
         self.boxes += 1;
@@ -48,16 +48,16 @@ impl Had {
 }
 
 /// Makes a box usable again once a counter has passed its largest.
-fn reset(lent: &mut Lent, number: u32) {
+fn reset(lent: &mut ArcLent, number: u32) {
     // 9 comes once a counter has passed its largest; the box is used on with other counters.
     assert!(number == 0 || number == 9, "number {number}");
     if number == 9 {
-        lent.state[40..72].fill(0);
+        lent.base.state[40..72].fill(0);
     }
 }
 
 /// A call on a sound box. The block lent comes from the box, so that it is cached often.
-fn call_on(random: &mut Random, shape: ArcShape, lent: &mut Lent, had: &mut Had, context: &dyn Fn() -> String) {
+fn call_on(random: &mut Random, shape: ArcShape, lent: &mut ArcLent, had: &mut Had, context: &dyn Fn() -> String) {
     let call = match random.below(14) {
         0..=3 => Call::Read,
         4..=5 => Call::Through(any_seat(random)),
@@ -67,20 +67,20 @@ fn call_on(random: &mut Random, shape: ArcShape, lent: &mut Lent, had: &mut Had,
         12 => Call::FlushSome(most(random, shape.m())),
         _ => Call::Look,
     };
-    let n = lent.arc_numbers().n as usize;
+    let n = lent.numbers().n as usize;
     let address = match random.below(3) {
-        0 | 1 if n > 0 => read_tables(lent).0[random.below(n)].address,
+        0 | 1 if n > 0 => read_tables(&lent.base).0[random.below(n)].address,
         _ => random.below(shape.p) as u32,
     };
-    let source = if random.below(2) == 0 { &lent.disk } else { &lent.flash };
+    let source = if random.below(2) == 0 { &lent.base.disk } else { &lent.base.flash };
     let place = random.below(source.len() / shape.b) * shape.b;
-    lent.block = source[place..place + shape.b].to_vec();
+    lent.base.block = source[place..place + shape.b].to_vec();
     if random.below(8) == 0 {
-        lent.block[0] ^= 1;
+        lent.base.block[0] ^= 1;
     }
-    let (from, p) = (load(lent).lists.unwrap().holding(address).unwrap_or(5), lent.arc_numbers().adaptive);
+    let (from, p) = (load(lent).lists.unwrap().holding(address).unwrap_or(5), lent.numbers().adaptive);
     let number = compare(call, address, lent, random.below(32), context);
-    let q = lent.arc_numbers().adaptive;
+    let q = lent.numbers().adaptive;
     had.from[from] += (number == 0 && call.takes_block()) as usize;
     had.raised += (q > p) as usize;
     had.lowered += (q < p) as usize;
@@ -89,13 +89,13 @@ fn call_on(random: &mut Random, shape: ArcShape, lent: &mut Lent, had: &mut Had,
 }
 
 /// Some calls, one after the other, on a box, with a report after each and folders among them.
-fn calls_from(random: &mut Random, shape: ArcShape, lent: &mut Lent, length: usize, had: &mut Had, seed: u64) {
+fn calls_from(random: &mut Random, shape: ArcShape, lent: &mut ArcLent, length: usize, had: &mut Had, seed: u64) {
     had.see(lent);
     for turn in 0..length {
         let context = || format!("call {turn}, {shape:?}, seed {seed}");
         if random.below(8) == 0 {
             let some: Vec<u32> = (0..3).map(|_| random.below(shape.p) as u32).collect();
-            let held = if lent.arc_numbers().n > 0 { pick(random, &read_tables(lent).0[..lent.arc_numbers().n as usize]).address } else { 0 };
+            let held = if lent.numbers().n > 0 { pick(random, &read_tables(&lent.base).0[..lent.numbers().n as usize]).address } else { 0 };
             let size = 1 + random.below(8);
             let mut many = folder(random, &[&some[..], &[held]].concat(), shape.b, size);
             let number = compare_many(lent, &mut many, random.below(32), &context);

@@ -1,7 +1,7 @@
 //! Boxes that must be refused: the number is right and every byte is kept.
 use common::Random;
 use model::{Call, CALLS, STATE_LABEL, STATE_LIMIT};
-use service::boxes::{any_seat, change_byte, damaged, fill, noise, number_of, pick, pick_call, small, sound, Counts, Damage, Shape, DAMAGES};
+use service::boxes::{any_seat, damaged, fill, noise, number_of, pick, pick_call, small, sound, Counts, Damage, Shape, DAMAGES};
 use service::compare::compare;
 use service::progress::{count, seed, Progress};
 
@@ -104,7 +104,12 @@ fn changed_bytes() {
                 3 | 4 => &mut lent.addresses[..],
                 _ => &mut lent.blocks[..],
             };
-            change_byte(&mut random, buffer);
+            let place = random.below(buffer.len());
+            match random.below(3) {
+                0 => buffer[place] ^= 1 << random.below(8),
+                1 => buffer[place] = random.below(3) as u8,
+                _ => buffer[place] = random.number() as u8,
+            }
         }
         let address = random.below(shape.p + 1) as u32;
         let call = pick_call(&mut random, &CALLS);

@@ -2,10 +2,10 @@
 //! which the saved box is restored, or which is refused with 15; and the disk is the plain disk's, if a byte of the image was written.
 //! A killed program leaves every store made so far, so the header may be found half written, which no power cut leaves by document 02; all else must hold then.
 use common::Random;
-use model::image::{room, writes, Write, HEADER, WRITE};
+use model::image::{room, writes, HEADER, WRITE};
 use model::machines::PlainDisk;
-use model::{Call, Kind, Lent, ANSWER, LABEL};
-use service::areas::{cold, counters, with_counters};
+use model::{Call, Lent, ANSWER};
+use service::areas::{cold, with_counters};
 use service::boxes::pick;
 use service::calls::call;
 use service::compare::compare_restore;
@@ -29,17 +29,17 @@ impl Drop for Running {
     }
 }
 
-fn saver(random: &mut Random, kind: Kind, path: &Path) -> Command {
+fn saver(random: &mut Random, path: &Path) -> Command {
     let mut command = Command::new(env!("CARGO_BIN_EXE_saver"));
-    command.arg(format!("{kind}")).arg(path).arg(random.number().to_string());
+    command.arg(path).arg(random.number().to_string());
     command
 }
 
 /// Starts the program on a new file, and kills it some time after a save of it has begun. Gives the file's phase and its bytes.
-fn killed(random: &mut Random, kind: Kind, path: &Path) -> (u64, Vec<u8>) {
-    std::fs::write(path, vec![0; length(kind)]).unwrap();
-    let (phase, _) = map(kind, path);
-    let mut running = Running(saver(random, kind, path).spawn().unwrap());
+fn killed(random: &mut Random, path: &Path) -> (u64, Vec<u8>) {
+    std::fs::write(path, vec![0; length()]).unwrap();
+    let (phase, _) = map(path);
+    let mut running = Running(saver(random, path).spawn().unwrap());
     let begun = Instant::now();
     while phase.load(Ordering::SeqCst) != SAVING {
         let ended = running.0.try_wait().unwrap();
@@ -74,47 +74,37 @@ fn all(bytes: &[u8], byte: u8) -> bool {
     bytes.iter().all(|other| *other == byte)
 }
 
-/// What the file says besides the area: the box that is saved, as its flush leaves it, and the plain disk.
-fn told(kind: Kind, parts: &Parts) -> (Lent, PlainDisk) {
-    let Parts { disk, flash, plain, state, addresses, blocks, lists, .. } = parts;
-    let [disk, flash, state, addresses, blocks, lists] = [disk, flash, state, addresses, blocks, lists].map(|bytes| bytes.to_vec());
-    let (block, answer, label) = (vec![0; SHAPE.b], vec![0; ANSWER], vec![0; LABEL]);
-    (Lent { kind, state, disk, flash, addresses, blocks, lists, block, answer, label }, PlainDisk::new(plain, SHAPE.b))
-}
-
-/// What a save has left of its body: the writes are new, at most one is partly new, and those behind it are old. Gives how many are new.
-fn body_left(area: &[u8], body: &[Write], phase: u64, context: &dyn Fn() -> String) -> usize {
-    let end = HEADER + body.len() * WRITE;
-    let parts: Vec<&[u8]> = area[HEADER..end].chunks(WRITE).collect();
-    let new = parts.iter().zip(body).take_while(|(part, (_, bytes))| **part == bytes).count();
-    assert!(all(&area[end..], OLD), "bytes behind the image, {}", context());
-    if phase == SAVING {
-        assert!(all(&area[HEADER..], OLD) || !area[..HEADER].contains(&OLD), "the header is not cleared before the body, {}", context());
-        for (k, part) in parts.iter().enumerate().skip(new) {
-            let partly = k == new && part.iter().zip(body[k].1).all(|(byte, new)| *byte == new || *byte == OLD);
-            assert!(partly || all(part, OLD), "write {k} of a body whose first {new} writes are new, {}", context());
-        }
-    }
-    new
-}
-
-/// What the file of a box of this kind holds, with the area where it is for this write. Gives how many writes of the body are new.
-fn look_at(random: &mut Random, kind: Kind, phase: u64, mut file: Vec<u8>, at: usize, met: &mut Met, context: &dyn Fn() -> String) -> usize {
-    let parts = parts(kind, &mut file, at);
-    let (saved, plain) = told(kind, &parts);
-    let area = parts.area;
+/// What the file holds, with the area where it is for this write. Gives how many writes of the body are new.
+fn look_at(random: &mut Random, phase: u64, mut file: Vec<u8>, at: usize, met: &mut Met, context: &dyn Fn() -> String) -> usize {
+    let Parts { area, disk, flash, plain, state, addresses, blocks } = parts(&mut file, at);
+    let [disk, flash, state, addresses, blocks] = [disk, flash, state, addresses, blocks].map(|bytes| bytes.to_vec());
+    let saved = Lent { state, disk, flash, addresses, blocks, block: vec![0; SHAPE.b], answer: vec![0; ANSWER], label: vec![0; 64] };
+    let plain = PlainDisk::new(plain, SHAPE.b);
     // Of zeros and old bytes there is no image.
     let no_image = area[..HEADER].iter().all(|byte| [0, OLD].contains(byte));
+    let mut warm = cold(random, &saved);
+    let counters = warm.numbers().counters;
     if phase == CALLING {
         assert!(no_image, "the header between saves, {}", context());
-        assert_eq!(compare_restore(&mut cold(random, &saved), area, 1, context), 15, "{}", context());
+        assert_eq!(compare_restore(&mut warm, area, &mut [], 1, context), 15, "{}", context());
         met.calling += 1;
         return 0;
     }
     let writes = writes(&saved);
     let (body, last) = (&writes[1..writes.len() - 1], writes[writes.len() - 1].1);
-    let new = body_left(area, body, phase, context);
+    let end = room(SHAPE.m, SHAPE.d);
+    let parts: Vec<&[u8]> = area[HEADER..end].chunks(WRITE).collect();
+    let new = parts.iter().zip(body).take_while(|(part, (_, bytes))| **part == bytes).count();
+    assert!(all(&area[end..], OLD), "bytes behind the image, {}", context());
     let touched = !all(&area[HEADER..], OLD);
+    if phase == SAVING {
+        assert!(!touched || !area[..HEADER].contains(&OLD), "the header is not cleared before the body, {}", context());
+        // Rising: new writes, at most one that is partly new, old ones.
+        for (k, part) in parts.iter().enumerate().skip(new) {
+            let partly = k == new && part.iter().zip(body[k].1).all(|(byte, new)| *byte == new || *byte == OLD);
+            assert!(partly || all(part, OLD), "write {k} of a body whose first {new} writes are new, {}", context());
+        }
+    }
     if !no_image {
         assert_eq!(new, body.len(), "new writes under a header, phase {phase}, {}", context());
         assert!(area[..HEADER].iter().zip(last).all(|(byte, new)| *byte == 0 || *byte == new), "the header, {}", context());
@@ -123,38 +113,28 @@ fn look_at(random: &mut Random, kind: Kind, phase: u64, mut file: Vec<u8>, at: u
         assert!(plain.is(&saved.disk), "the disk, phase {phase}, {new} new writes, {}", context());
         met.disks += 1;
     }
-    match (area[..HEADER] == last, no_image) {
-        (true, _) => met.whole += 1,
-        (false, true) if touched && phase == SAVING => met.within += 1,
-        (false, true) => met.before += 1,
+    let whole = area[..HEADER] == last;
+    let number = compare_restore(&mut warm, area, &mut [], 1, context);
+    match (whole, no_image) {
+        (true, _) => {
+            assert_eq!(number, 0, "a whole image, {}", context());
+            assert_eq!(warm.difference(&with_counters(&saved, counters)), None, "the restored box, {}", context());
+            read_some(random, with_counters(&warm, [0; 4]), &plain, context);
+            met.whole += 1;
+        }
+        (false, true) => {
+            assert_eq!(number, 15, "no image, {}", context());
+            if touched {
+                let mut anew = saved.clone();
+                assert_eq!(call(Call::Open, 0, &mut anew), 0);
+                read_some(random, anew, &plain, context);
+            }
+            met.within += (touched && phase == SAVING) as usize;
+            met.before += !(touched && phase == SAVING) as usize;
+        }
         (false, false) => met.torn += 1,
     }
-    start_again(random, &saved, &plain, area, (area[..HEADER] == last).then_some(0).or(no_image.then_some(15)), touched, context);
     new
-}
-
-/// A restore from the area, of which the number may be known; then, where the disk is the plain disk's, reads by the box, restored or opened anew.
-fn start_again(
-    random: &mut Random,
-    saved: &Lent,
-    plain: &PlainDisk,
-    area: &mut [u8],
-    known: Option<u32>,
-    touched: bool,
-    context: &dyn Fn() -> String,
-) {
-    let mut warm = cold(random, saved);
-    let before = counters(&warm);
-    let number = compare_restore(&mut warm, area, 1, context);
-    assert_eq!(number, known.unwrap_or(number), "a restore, {}", context());
-    if known == Some(0) {
-        assert_eq!(warm.difference(&with_counters(saved, &before)), None, "the restored box, {}", context());
-        read_some(random, with_counters(&warm, &[0; 32]), plain, context);
-    } else if known == Some(15) && touched {
-        let mut anew = saved.clone();
-        assert_eq!(call(Call::Open, 0, &mut anew), 0);
-        read_some(random, anew, plain, context);
-    }
 }
 
 /// Reads by the box are the plain disk's.
@@ -171,66 +151,49 @@ fn place(name: &str) -> PathBuf {
 }
 
 /// Ended at the first store to a write or to what is behind it: the flush is done, the header is cleared, the writes before that one are new and no other is.
-fn ends_at_a_write(kind: Kind, seed: u64) {
-    let path = place(&format!("ended-{kind}"));
+#[test]
+fn a_program_that_ends_at_a_write() {
+    let (seed, path) = (seed(922), place("ended"));
     let mut random = Random(seed);
-    let last = room(kind, SHAPE.m, SHAPE.d) / WRITE - 1;
+    let last = room(SHAPE.m, SHAPE.d) / WRITE - 1;
     let chosen: Vec<usize> = [0, 1, 2, 3, last - 1, last].into_iter().chain((0..24).map(|_| random.below(last + 1))).collect();
     for at in &chosen {
-        let context = || format!("{kind}, write {at} of {last}, seed {seed}");
-        std::fs::write(&path, vec![0; length(kind)]).unwrap();
-        let ended = saver(&mut random, kind, &path).arg(at.to_string()).status().unwrap();
+        let context = || format!("write {at} of {last}, seed {seed}");
+        std::fs::write(&path, vec![0; length()]).unwrap();
+        let ended = saver(&mut random, &path).arg(at.to_string()).status().unwrap();
         assert_eq!(ended.signal(), Some(SEGMENTATION_FAULT), "{ended}, {}", context());
         let mut file = std::fs::read(&path).unwrap();
         let phase = u64::from_le_bytes(file[..8].try_into().unwrap());
         assert_eq!(phase, SAVING, "{}", context());
-        let Parts { area, disk, plain, .. } = parts(kind, &mut file, *at);
+        let Parts { area, disk, plain, .. } = parts(&mut file, *at);
         assert!(disk == plain, "the flush is not done, {}", context());
         assert!(all(&area[..HEADER], if *at == 0 { OLD } else { 0 }), "the header, {}", context());
         assert!(all(&area[(at * WRITE).max(HEADER)..], OLD), "what is behind, {}", context());
-        let new = look_at(&mut random, kind, phase, file, *at, &mut Met::default(), &context);
+        let new = look_at(&mut random, phase, file, *at, &mut Met::default(), &context);
         assert_eq!(new, at.saturating_sub(1), "new writes of the body, {}", context());
     }
     std::fs::remove_file(&path).unwrap();
-    println!("{} saves that end at a write of their {}: all writes before it are new, none behind it ({kind}, seed {seed})", chosen.len(), last + 2);
+    println!("{} saves that end at a write of their {}: all writes before it are new, none behind it (seed {seed})", chosen.len(), last + 2);
 }
 
 #[test]
-fn a_program_that_ends_at_a_write() {
-    ends_at_a_write(Kind::Lru, seed(922));
-}
-
-#[test]
-fn a_program_that_ends_at_a_write_of_a_d_arc_box() {
-    ends_at_a_write(Kind::Arc, seed(924));
-}
-
-fn saves_until_killed(kind: Kind, seed: u64, total: usize) {
+fn a_program_that_saves() {
+    let (seed, total) = (seed(921), count(150).max(100));
     let mut random = Random(seed);
     let mut met = Met::default();
     let mut progress = Progress::new("kills", total);
-    let path = place(&format!("killed-{kind}"));
+    let path = place("killed");
     for kill in 0..total {
-        let (phase, file) = killed(&mut random, kind, &path);
-        look_at(&mut random, kind, phase, file, 0, &mut met, &|| format!("{kind}, kill {kill}, phase {phase}, seed {seed}"));
+        let (phase, file) = killed(&mut random, &path);
+        look_at(&mut random, phase, file, 0, &mut met, &|| format!("kill {kill}, phase {phase}, seed {seed}"));
         progress.at(kill);
     }
     std::fs::remove_file(&path).unwrap();
     let Met { calling, before, within, torn, whole, disks } = met;
     println!(
-        "{total} kills of a program that saves ({kind}, seed {seed}, {:.1} s): {whole} leave the saved box, {within} a part of it that is refused with 15,",
+        "{total} kills of a program that saves (seed {seed}, {:.1} s): {whole} leave the saved box, {within} a part of it that is refused with 15,",
         progress.seconds()
     );
     println!("  {torn} a part of a header, {before} nothing of an image, {calling} were between saves; {disks} disks are the plain disk's");
     assert_eq!(calling + before + within + torn + whole, total);
-}
-
-#[test]
-fn a_program_that_saves() {
-    saves_until_killed(Kind::Lru, seed(921), count(150).max(100));
-}
-
-#[test]
-fn a_program_that_saves_a_d_arc_box() {
-    saves_until_killed(Kind::Arc, seed(923), count(80).max(50));
 }

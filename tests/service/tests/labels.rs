@@ -114,7 +114,6 @@ fn under(label: Label, b: usize) -> Lent {
         block: vec![9; b],
         answer: vec![0; 24],
         label: label.to_vec(),
-        ..Lent::default()
     };
     assert_eq!([(Call::Open, 0), (Call::Through(1), 0), (Call::Read, 1), (Call::Read, 2)].map(|(kind, a)| call(kind, a, &mut lent)), [0; 4]);
     lent

@@ -323,7 +323,6 @@ fn largest_boxes() {
         block: vec![0; b],
         answer: vec![0; 24],
         label: bytes(&mut random, LABEL),
-        ..Lent::default()
     };
     let mut cache = Cache::fresh(b, p, m, d, m, office(&lent), vec![0; p * b], vec![0; d * b]);
     assert_eq!(call(Call::Open, 0, &mut lent), 0);

@@ -34,7 +34,6 @@ fn made(p: usize, m: usize, d: usize, held: &[(u32, u8, u8)], used: &[(u8, u8)])
         block: vec![],
         answer: vec![],
         label: vec![],
-        ..Lent::default()
     }
 }
 

@@ -66,8 +66,7 @@ fn opened(q: &Question) -> Lent {
     let numbers = Numbers { b: q.b as u64, p: q.p as u64, m: q.m as u64, d: q.d as u64, n: 7, counters: [7; 4], label, t: q.t as u64 };
     let [flash, addresses, blocks] = [q.d * q.b, q.m * ROW, q.d * ROW].map(|length| vec![0xA5; length]);
     let disk = q.disk.clone();
-    let (state, block, answer, label) = (numbers.to_bytes(), vec![0; q.b], vec![0; ANSWER], q.label.clone());
-    let mut lent = Lent { state, disk, flash, addresses, blocks, block, answer, label, ..Lent::default() };
+    let mut lent = Lent { state: numbers.to_bytes(), disk, flash, addresses, blocks, block: vec![0; q.b], answer: vec![0; ANSWER], label: q.label.clone() };
     assert_eq!(call(Call::Open, 0, &mut lent), 0);
     lent
 }

@@ -28,7 +28,7 @@ returns-2 c =
     let start = t.before.before in
     let a = start.args in (
       p.put8.ensures ∙ rw (ne_eqb a.number 0 t.if1.false) refl,
-      ap length p.put8.ensures ∙ length-put8 32 a.held a.state.now (omega (arith, start.requires)),
+      ap length p.put8.ensures ∙ length-put8 32 a.held a.state.now (omega (arith, start.requires)) ∙ start.requires,
     )
 
 pub put-opening-spec : {M : Type 1} → statement M

@@ -6,9 +6,8 @@ use borrow.Author.Tests.{not-true, not-false}
 use Rattle.paper.specs.Lent.{Ask}
 use Rattle.parts.specs.declared.BoxRecord.{BoxRecord}
 use Rattle.fields.specs.Fields.{record_in, fitting}
-use Rattle.left.specs.Left.{leaves}
-use Rattle.fields.specs.FieldLaws.{lengths}
-use Rattle.service.proofs.Noting.{unchanged}
+use Rattle.service.specs.Left.{leaves}
+use Rattle.service.proofs.Noting.{lengths, unchanged}
 use Rattle.service.proofs.mindavehu_flush.Statement.{statement}
 use Rattle.service.proofs.mindavehu_flush.Tie as tie
 

@@ -10,7 +10,7 @@ use Rattle.paper.specs.RowBytes.{Bytes}
 use Rattle.policy.specs.CallLaws.{all-bytes}
 use Rattle.fields.specs.Fields.{fitting}
 use Rattle.fields.specs.FieldLaws.{get8-below}
-use Rattle.fields.specs.FieldLaws.{lengths}
+use Rattle.service.proofs.Noting.{lengths}
 use Rattle.service.proofs.Looked.{not-looked, starts-below, looked, looked-shows}
 use Rattle.service.proofs.mindavehu_look.Statement.{statement}
 use Rattle.service.proofs.mindavehu_look.Tie as tie

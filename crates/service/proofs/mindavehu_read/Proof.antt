@@ -5,8 +5,7 @@ use borrow.Author.Rules.{rules}
 use borrow.Author.Tests.{not-true, not-false}
 use Rattle.paper.specs.Lent.{Ask}
 use Rattle.fields.specs.Fields.{fitting}
-use Rattle.fields.specs.FieldLaws.{lengths}
-use Rattle.service.proofs.Noting.{unchanged, changed}
+use Rattle.service.proofs.Noting.{lengths, unchanged, changed}
 use Rattle.service.proofs.mindavehu_read.Statement.{statement}
 use Rattle.service.proofs.mindavehu_read.Tie as tie
 

@@ -4,8 +4,7 @@ use mathlib.Core.Bool.{true}
 use borrow.Author.Rules.{rules}
 use borrow.Author.Tests.{not-true, not-false}
 use Rattle.fields.specs.Fields.{fitting}
-use Rattle.fields.specs.FieldLaws.{lengths}
-use Rattle.service.proofs.Noting.{many-unchanged, many-changed}
+use Rattle.service.proofs.Noting.{lengths, many-unchanged, many-changed}
 use Rattle.service.proofs.mindavehu_read_many.Statement.{statement}
 use Rattle.service.proofs.mindavehu_read_many.Tie as tie
 

@@ -5,7 +5,7 @@ use Prim.Native.Nat.{ℕ}
 use borrow.Author.Rules.{rules}
 use Rattle.exam.specs.Contract.{Counted}
 use Rattle.fields.specs.Fields.{counts_after}
-use Rattle.left.specs.Left.{LeftScores, leaves_scores}
+use Rattle.service.specs.Left.{LeftScores, leaves_scores}
 use Rattle.service.proofs.mindavehu_scores.Statement.{statement}
 use Rattle.service.proofs.mindavehu_scores.Tie as tie
 

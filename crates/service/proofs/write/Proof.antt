@@ -6,8 +6,7 @@ use borrow.Author.Tests.{not-true, not-false}
 use Rattle.policy.specs.Contract.{ask_of}
 use Rattle.policy.specs.CallLaws.{asks_write}
 use Rattle.fields.specs.Fields.{fitting}
-use Rattle.fields.specs.FieldLaws.{lengths}
-use Rattle.service.proofs.Noting.{unchanged, changed}
+use Rattle.service.proofs.Noting.{lengths, unchanged, changed}
 use Rattle.service.proofs.write.Statement.{statement}
 use Rattle.service.proofs.write.Tie as tie
 

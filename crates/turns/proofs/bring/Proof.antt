@@ -9,7 +9,7 @@ use borrow.Author.Tests.{lt-ltb, le-ltb}
 use Rattle.block.specs.Blocks.{part, splice}
 use Rattle.block.specs.Laws.{product-fits}
 use Rattle.parts.specs.CopyLaws.{block-ends}
-use Rattle.turns.specs.ToldLaws.{paste-splice}
+use Rattle.turns.specs.TurnLaws.{paste-splice}
 use borrow.Author.Rules.{rules}
 use Rattle.turns.proofs.bring.Statement.{statement}
 use Rattle.turns.proofs.bring.Tie as tie

@@ -8,8 +8,7 @@ use lib.ListN.{length, take, drop}
 use Rattle.hash.specs.Laws.{size-whole}
 use Rattle.block.specs.Blocks.{part}
 use Rattle.block.specs.Laws.{product-fits, part-is, length_part, length-splice}
-use Rattle.turns.specs.ToldLaws.{put-part}
-use Rattle.turns.specs.TurnLaws.{table-lengths, turned-at}
+use Rattle.turns.specs.TurnLaws.{put-part, table-lengths, turned-at}
 use borrow.Author.Rules.{rules}
 use Rattle.turns.proofs.land.Statement.{statement}
 use Rattle.turns.proofs.land.Tie as tie
@@ -56,10 +55,10 @@ summed-requires c κs =
     let k = p.2 in
     let m = p.0.m-most in
     let l = q.3 in
-    let w0 = q.4.told.few.0 in
-    let w1 = q.4.told.few.1 in
-    let w2 = q.4.told.few.2 in
-    let w3 = q.4.told.few.3 in
+    let w0 = q.4.few.0 in
+    let w1 = q.4.few.1 in
+    let w2 = q.4.few.2 in
+    let w3 = q.4.few.3 in
     let f = r.read_one.ensures.0.0 in
     let g = r.read_one.ensures.0.1 in
     (omega (arith, k, l, w0), omega (arith, k, l, w1), omega (arith, k, l, w2), omega (arith, k, l, w3), f, omega (arith, g, m))

@@ -6,8 +6,8 @@ use Rattle.turns.proofs.summed.Tie as tie
 
 returns : tie.Need-returns
 returns c =
-    let f = c.before.before.before.before in
-    let o = c.before.before.before.before.before in
+    let f = c.before.before.before.before.before.before in
+    let o = c.before.before.before.before.before.before.before in
     rw (o.one-if.ensures.0, f.fetch-if.ensures.0) refl
 
 pub summed-spec : {M : Type 1} → statement M

@@ -9,8 +9,7 @@ use lib.ListN.{length, get_or, take}
 use lib.Seq.{length-take-le}
 use Rattle.hash.specs.Laws.{size-whole}
 use Rattle.parts.specs.CopyLaws.{block-ends}
-use Rattle.turns.specs.ToldLaws.{as_long, lends}
-use Rattle.turns.specs.TurnLaws.{turned-brought, next_of}
+use Rattle.turns.specs.TurnLaws.{as_long, lends, turned-brought, next_of}
 use borrow.Author.Rules.{rules}
 use Rattle.turns.proofs.turn.Statement.{statement}
 use Rattle.turns.proofs.turn.Tie as tie
@@ -61,7 +60,7 @@ returns c =
     let long = as_long B a.k f.first_of.result a.buffer.now _ (ends s) g.bring.ensures in (
       λ z T w.
           let l = take a.k a.asked.now in
-          let b = lends a.b l z T a.t a.buffer.now w.told
+          let b = lends a.b l z T a.t a.disk.now a.flash.now a.addrs.now a.blocks.now a.buffer.now w
           (get_or a.asked.now a.k 0) a.k f.first_of.result ll (ends s) f.first_of.ensures.1 _ g.bring.ensures in
           let v = turned-brought a.b l z T a.t a.disk.now a.flash.now a.addrs.now a.blocks.now a.buffer.now a.k
           f.first_of.result ll (ends s) _ g.bring.ensures w in

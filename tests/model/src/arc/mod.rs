@@ -1,11 +1,12 @@
-//! D-ARC boxes (document 02, U5, and Algorithms 2 and 3 of source document 001): the five lists and the step here, their bytes in `lent`.
-//! A D-ARC box is a `Cache` with lists, whose m is 2 × C + X and whose d is C; all calls are those of the cache, but for the step.
+//! D-ARC boxes (document 02, U5, and Algorithms 2 and 3 of source document 001): the five lists and the step here, boxes in bytes in `lent`, images in
+//! `image`. A D-ARC box is a `Cache` with lists, whose m is 2 × C + X and whose d is C; all calls are those of the cache, but for the step.
+pub mod image;
 mod lent;
 pub mod search;
 pub mod worked;
 
-pub(crate) use lent::{eleven, lists_unsound, top_uncached};
-pub use lent::{ArcNumbers, ARC_STATE, STATE_ADAPTIVE, STATE_SIZES, WORD};
+pub use lent::{carry_out, carry_out_many, carry_out_report, refusal, refusal_many, refusal_report};
+pub use lent::{ArcLent, ArcNumbers, ARC_STATE, STATE_ADAPTIVE, STATE_SIZES, WORD};
 
 use crate::cache::{Cache, Held, Writes};
 use crate::{Fingerprint, Label};

@@ -2,7 +2,7 @@
 //!
 //! The content k is a block of bytes k. A row is `address:content`, with `*` where it is dirty and `/seat` where the seat is not 0; a used block row is
 //! `content@slot`. A folder's answer is hits, flash writes, primary writes and fetches.
-use super::{ArcNumbers, WORD};
+use super::{ArcLent, ArcNumbers, WORD};
 use crate::*;
 
 pub const B: usize = 64;
@@ -27,7 +27,7 @@ pub enum Asked {
 
 pub struct Example {
     pub name: &'static str,
-    pub from: Lent,
+    pub from: ArcLent,
     pub asked: Vec<Asked>,
     /// The text of the state after the last call.
     pub to: &'static str,
@@ -82,7 +82,7 @@ fn lists_of(state: &str) -> (Vec<u32>, [u64; 5], u64) {
 }
 
 /// The box of a state, `C 1 X 0 t 2` being its numbers.
-fn lent(line: &str, state: &str) -> Lent {
+fn lent(line: &str, state: &str) -> ArcLent {
     let [c, x, t] = ["C ", "X ", "t "].map(|name| line.split(name).nth(1).unwrap().split(' ').next().unwrap().parse::<usize>().unwrap());
     let m = 2 * c + x;
     let (named, sizes, adaptive) = lists_of(state);
@@ -95,8 +95,8 @@ fn lent(line: &str, state: &str) -> Lent {
     let [b, p, c, x, n, t] = [B, disk.len() / B, c, x, n, t].map(|number| number as u64);
     let state_bytes = ArcNumbers { b, p, c, x, n, counters: [0; 4], label: OFFICE, t, adaptive, sizes }.to_bytes();
     let blocks = block_rows(part(state, "free"), part(state, "used"));
-    let (block, answer, label) = (vec![0xDD; B], vec![0xEE; ANSWER], OFFICE.to_vec());
-    Lent { kind: Kind::Arc, state: state_bytes, disk, flash, addresses, blocks, lists, block, answer, label }
+    let base = Lent { state: state_bytes, disk, flash, addresses, blocks, block: vec![0xDD; B], answer: vec![0xEE; ANSWER], label: OFFICE.to_vec() };
+    ArcLent { base, lists }
 }
 
 fn asked(line: &str) -> Asked {
@@ -139,9 +139,9 @@ pub fn examples() -> Vec<Example> {
 }
 
 /// The text of a sound box of the label and the block size here.
-pub fn shown(lent: &Lent) -> String {
-    let numbers = lent.arc_numbers();
-    let (rows, blocks) = read_tables(lent);
+pub fn shown(lent: &ArcLent) -> String {
+    let numbers = lent.numbers();
+    let (rows, blocks) = read_tables(&lent.base);
     let content = |g: Fingerprint| (0..=255u8).find(|k| print_of(*k) == g).expect("the fingerprint of a content");
     let mut words = lent.words().into_iter();
     let mut lists = String::new();
@@ -164,27 +164,27 @@ pub fn shown(lent: &Lent) -> String {
         };
         bytes.chunks_exact(B).map(one).collect()
     };
-    format!("{lists}p {}; rows{rows}; free{free}; used{used}; flash{}; disk{}", numbers.adaptive, filled(&lent.flash), filled(&lent.disk))
+    format!("{lists}p {}; rows{rows}; free{free}; used{used}; flash{}; disk{}", numbers.adaptive, filled(&lent.base.flash), filled(&lent.base.disk))
 }
 
 /// Asks one call of a box and compares its answer, and the block that a read or a look returned.
-fn ask_one(lent: &mut Lent, said: &Said, name: &str, one: &mut impl FnMut(Call, u32, &mut Lent) -> u32) {
+fn ask_one(lent: &mut ArcLent, said: &Said, name: &str, one: &mut impl FnMut(Call, u32, &mut ArcLent) -> u32) {
     let Said { call, address, content, .. } = *said;
-    lent.block = vec![content; B];
+    lent.base.block = vec![content; B];
     assert_eq!(one(call, address, lent), 0, "{name}: {call:?} {address}");
-    let answer = Answer::from_bytes(&lent.answer);
+    let answer = Answer::from_bytes(&lent.base.answer);
     let writes = if call == Call::Look { (0, 0) } else { (answer.first, answer.second) };
     assert_eq!((word(answer.word), writes), (said.word.as_str(), (said.flash, said.primary)), "{name}: {call:?} {address}");
     let returned = match call {
-        Call::Look if answer.word == CACHE => &lent.flash[answer.first as usize..][..answer.second as usize],
-        Call::Look => &lent.disk[answer.first as usize..][..answer.second as usize],
-        _ => &lent.block,
+        Call::Look if answer.word == CACHE => &lent.base.flash[answer.first as usize..][..answer.second as usize],
+        Call::Look => &lent.base.disk[answer.first as usize..][..answer.second as usize],
+        _ => &lent.base.block,
     };
     // A write keeps its block.
     assert_eq!(returned, [said.returned.unwrap_or(content); B], "{name}: {call:?} {address}");
 }
 
-fn ask_many(lent: &mut Lent, asked: &[u32], answer: ManyAnswer, blocks: &[u8], many: &mut impl FnMut(&mut Lent, &mut Folder) -> u32) {
+fn ask_many(lent: &mut ArcLent, asked: &[u32], answer: ManyAnswer, blocks: &[u8], many: &mut impl FnMut(&mut ArcLent, &mut Folder) -> u32) {
     let mut folder = Folder { asked: asked.to_vec(), buffer: vec![0xEE; asked.len() * B], answer: vec![0; MANY_ANSWER] };
     assert_eq!(many(lent, &mut folder), 0, "{asked:?}");
     assert_eq!(ManyAnswer::from_bytes(&folder.answer), answer, "{asked:?}");
@@ -192,7 +192,7 @@ fn ask_many(lent: &mut Lent, asked: &[u32], answer: ManyAnswer, blocks: &[u8], m
 }
 
 /// Plays every example by an engine's calls, and compares its answers and the state that it leaves. Gives how many states and calls there were.
-pub fn play(mut one: impl FnMut(Call, u32, &mut Lent) -> u32, mut many: impl FnMut(&mut Lent, &mut Folder) -> u32) -> (usize, usize) {
+pub fn play(mut one: impl FnMut(Call, u32, &mut ArcLent) -> u32, mut many: impl FnMut(&mut ArcLent, &mut Folder) -> u32) -> (usize, usize) {
     let (mut states, mut calls) = (0, 0);
     for example in examples() {
         let mut lent = example.from.clone();

@@ -53,7 +53,7 @@ batched-requires c κs =
     let s = sound a.b a.disk.now a.flash.now a.addresses.now a.blocks.now k l f z x y in
     let g = found a.b a.disk.now a.flash.now a.addresses.now a.blocks.now k l f z in
     let w = v.ensures.0 s.0 k s.1 s.2 in
-    fitting a.c (length l) v.result.hits v.result.flashed v.result.primary g.counters g.count w.told.few.0 w.told.few.1 w.told.few.2
+    fitting a.c (length l) v.result.hits v.result.flashed v.result.primary g.counters g.count w.few.0 w.few.1 w.few.2
 
 returns-2 : tie.Need-returns-2
 returns-2 c =

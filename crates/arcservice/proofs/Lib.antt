@@ -1,4 +1,0 @@
-pub mod Noting
-pub mod Reporting
-pub mod Opening
-pub mod Looked

@@ -1,0 +1,69 @@
+-- A wrong length: `not_saved`. Else the record and the counters are read, the box is saved, and the outcome is written: `saved`. Assumes nothing.
+use mathlib.Core.Path.{◌≡◌, sym, ◌∙◌}
+use mathlib.Core.Bool.{true}
+use borrow.Author.Rules.{rules}
+use borrow.Author.Tests.{not-true, not-false}
+use Rattle.fields.specs.Fields.{fitting}
+use Rattle.service.proofs.Noting.{lengths}
+use Rattle.service.proofs.Warming.{not_saved, saved}
+use Rattle.service.proofs.warm.mindavehu_save.Statement.{statement}
+use Rattle.service.proofs.warm.mindavehu_save.Tie as tie
+
+abbrev start : tie.After-fit → tie.Start
+start c = c.before.before.before.before.before.before.before.before.before.before
+
+fits : (c : tie.Else1) → (let a = (start c.before).args in fitting 24 a.state.now a.answer.now ≡ true)
+fits c = sym c.before.fit.ensures ∙ not-false _ c.if1.false
+
+returns : tie.Need-returns
+returns c =
+    let a = (start c.before).args in
+    not_saved a.state.now a.disk.now a.flash.now a.addresses.now a.blocks.now a.area.now a.answer.now
+    (sym c.before.fit.ensures ∙ not-true _ c.if1.true)
+
+record-in-requires : tie.Need-record-in-requires
+record-in-requires c κs = (lengths _ _ _ (fits c.before)).0
+
+counters-in-requires : tie.Need-counters-in-requires
+counters-in-requires c κs = (lengths _ _ _ (fits c.before.before.before)).0
+
+-- the place after the save, and after the counters are read
+abbrev saved-at : tie.After-write-outcome-arg2 → tie.After-save
+saved-at c = c.before.before.before.before.before.before.before.before
+
+abbrev read_at : tie.After-save → tie.After-counters-in
+read_at c = c.before.before.before.before
+
+write-outcome-requires : tie.Need-write-outcome-requires
+write-outcome-requires c κs = lengths _ _ _ (fits (read_at (saved-at c)).before.before.before.before)
+
+returns-2 : tie.Need-returns-2
+returns-2 c =
+    let w = c.before.before.before.before in
+    let r = saved-at w.before in
+    let k = read_at r in
+    let b = k.before.before in
+    let e = b.before.before in
+    let a = (start e.before).args in
+    saved a.state.now a.disk.now a.flash.now a.addresses.now a.blocks.now a.area.now a.answer.now (fits e)
+    b.record-in.result k.counters-in.result b.record-in.ensures k.counters-in.ensures r.save.result
+    _ _ _ _ _ r.save.ensures _ _ _ w.write-outcome.ensures
+
+pub mindavehu-save-spec : {M : Type 1} → statement M
+mindavehu-save-spec =
+    tie.close
+    (tie.spec
+    (λ c κs. search rules)
+    (λ c. search rules)
+    (λ c. search rules)
+    returns
+    record-in-requires
+    counters-in-requires
+    (λ c κs. search rules)
+    write-outcome-requires
+    (λ c. search rules)
+    (λ c. search rules)
+    (λ c. search rules)
+    (λ c. search rules)
+    (λ c. search rules)
+    returns-2)

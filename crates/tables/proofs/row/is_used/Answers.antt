@@ -1,0 +1,12 @@
+-- The byte is that of the row. Assumes nothing.
+use native.Mathlib.Omega.{arith}
+use Rattle.tables.specs.RowLaws.{get_d-row_at}
+use Rattle.std.proofs.Common.{rules}
+use Rattle.tables.specs.Records.{read_block}
+use Rattle.tables.proofs.row.is_used.Goals as goal
+
+pub returns : goal.returns
+unfolding read_block
+returns c =
+    let a = c.args in
+    rw (get_d-row_at a.t.now a.k 36 (omega arith))
