@@ -3,9 +3,8 @@ use mathlib.Core.Path.{◌≡◌, refl, sym, ap, ◌∙◌}
 use mathlib.Core.Bool.{Bool, true, false, not, ◌&&◌, cond}
 use Prim.Native.Nat.{ℕ}
 use native.Mathlib.Omega.{arith}
-use borrow.Author.Rules.{rules}
-use Rattle.turns.proofs.fetch_if.Statement.{statement}
-use Rattle.turns.proofs.fetch_if.Tie as tie
+use Rattle.std.proofs.Common.{rules}
+use Rattle.turns.proofs.fetch_if.Goals as goal
 
 no-fetch : (f h : Bool) → h ≡ true → ◌≡◌ {A = ℕ} 0 (cond (f && not h) 1 0)
 no-fetch true h e = sym (ap {B = ℕ} (λ t. cond (not t) 1 0) e)
@@ -15,13 +14,17 @@ a-fetch : (f h : Bool) → h ≡ false → ◌≡◌ {A = ℕ} (cond f 1 0) (con
 a-fetch true h e = sym (ap {B = ℕ} (λ t. cond (not t) 1 0) e)
 a-fetch false h e = refl
 
-returns : tie.Need-returns
-returns c = (no-fetch c.before.args.first c.before.args.hit c.if1.true, omega arith)
+pub returns-then-hit : goal.returns-then-hit
+returns-then-hit c =
+    record {
+      value = no-fetch c.args.first c.args.hit c.if-hit.true;
+      upper_bound = omega arith;
+    }
 
-returns-2 : tie.Need-returns-2
-returns-2 c =
-    let a = c.before.before.args in
-    (c.one-if.ensures.0 ∙ a-fetch a.first a.hit c.before.if1.false, c.one-if.ensures.1)
-
-pub fetch-if-spec : {M : Type 1} → statement M
-fetch-if-spec = tie.close (tie.spec returns (λ c κs. search rules) returns-2)
+pub returns : goal.returns
+returns c =
+    let a = c.args in
+    record {
+      value = c.one_if.ensures.value ∙ a-fetch a.first a.hit c.if-hit.false;
+      upper_bound = c.one_if.ensures.upper_bound;
+    }
