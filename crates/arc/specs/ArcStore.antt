@@ -52,13 +52,16 @@ module _ {F X : Type 0} (H : Hashing F X) where
   top-known l [] = tt
   top-known l (r ∷ rs) =
       by-test (on_top l r.address)
-      (λ e. rw e (
+      (λ e. let is : top_rows l (r ∷ rs) ≡ r ∷ top_rows l rs = rw e refl in
+      subst (λ (q : List (AddressRow F)). All (λ x. on_top l x.address ≡ true → known H x.fingerprint q ≡ true) (r ∷ rs)) (sym is) (
         (λ y. or_left (H.same r.fingerprint r.fingerprint) (known H r.fingerprint (top_rows l rs)) (H.same_refl r.fingerprint)),
         all_map (λ x. on_top l x.address ≡ true → known H x.fingerprint (top_rows l rs) ≡ true)
             (λ x. on_top l x.address ≡ true → known H x.fingerprint (r ∷ top_rows l rs) ≡ true)
             (λ x y z. or_right (H.same x.fingerprint r.fingerprint) (known H x.fingerprint (top_rows l rs)) (y z)) rs (top-known l rs),
       ))
-      (λ e. rw e ((λ y. absurd (false≢true y)), top-known l rs))
+      (λ e. let is : top_rows l (r ∷ rs) ≡ top_rows l rs = rw e refl in
+      subst (λ (q : List (AddressRow F)). All (λ x. on_top l x.address ≡ true → known H x.fingerprint q ≡ true) (r ∷ rs)) (sym is)
+      ((λ y. absurd (false≢true (sym e ∙ y))), top-known l rs))
 
 module _ {F X : Type 0} (H : Hashing F X) (Z : Sizes) (a : ℕ) (g : F) (b : X) where
   pub record Stored (t u : Ran F X Lists) : Type 0 where

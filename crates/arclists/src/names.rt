@@ -58,7 +58,7 @@ pub fn row_named(addresses: &[u8], k: usize, seen: &[u8]) -> bool
 pub(crate) fn rows_named(addresses: &[u8], n: usize, seen: &[u8]) -> bool
     requires n_in_bounds { (table_bytes n ≤ length addresses.now) × (length seen.now ≡ 8192) }
     requires by_index { (k : ℕ) → k < n → row_address (row_at addresses.now k) < 65536 }
-    ensures* { λ r. ⌜ r ≡ all (λ r. eqb (bit_at seen.now (row_address r)) 1) (rows n addresses.now) ⌝ }
+    ensures { result ≡ all (λ r. eqb (bit_at seen.now (row_address r)) 1) (rows n addresses.now) }
 {
     let mut k = 0;
     while k < n {

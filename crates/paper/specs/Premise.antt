@@ -106,6 +106,9 @@ premise-met =
     two x y n b c (Memᴰ.tail (Memᴰ.head i)) (Memᴰ.head j) e
         = absurd (n (ap first_byte (sym j) ∙ ap (λ f. get_or f.0 0 0) (sym e) ∙ ap first_byte i))
     two x y n b c (Memᴰ.tail (Memᴰ.head i)) (Memᴰ.tail (Memᴰ.head j)) e = i ∙ sym j
+    two x y n b c (Memᴰ.head i) (Memᴰ.tail (Memᴰ.tail none)) e = elim none [ ]
+    two x y n b c (Memᴰ.tail (Memᴰ.head i)) (Memᴰ.tail (Memᴰ.tail none)) e = elim none [ ]
+    two x y n b c (Memᴰ.tail (Memᴰ.tail none)) _ e = elim none [ ]
 
 -- so that demand 3 says of this list that what its read returns is the plain disk's block
 pub read-shown : EachServed numbers (ShowsPlain numbers) (opened numbers memory) (split 64 1 (opened numbers memory).disk) asked

@@ -245,7 +245,8 @@ module _ {F X : Type 0} (H : Hashing F X) where
       let un : known H u.fingerprint rows ≡ false = oldest_unknown-some H rows (x ∷ xs) u e in
       let xs-star : has H.same (λ x. x) x.fingerprint star ≡ true
       = either (known-star g x.fingerprint rows star o k) (λ t. t)
-      (λ t. clash (rw (← t) (or_left (H.same x.fingerprint x.fingerprint) (cached H x.fingerprint xs) (H.same_refl x.fingerprint))) c) in
+      (λ t. clash (subst (λ (y : F). cached H y (x ∷ xs) ≡ true) t
+      (or_left (H.same x.fingerprint x.fingerprint) (cached H x.fingerprint xs) (H.same_refl x.fingerprint))) c) in
       let bad : has H.same (λ x. x) u.fingerprint star ≡ true → ⊥ = λ t. true≢false (sym (star-known g u.fingerprint rows star o t) ∙ un) in
       either v
       (λ y. newer x.fingerprint (prints xs) star u.fingerprint y.0 y.1 uc bad xs-star

@@ -1,6 +1,6 @@
 -- Refusals: each number is given exactly when its test is the first to hold, and a refused call keeps everything.
 use Rattle.std.specs.Prelude.{◌≡◌, refl, Bool, true, false, ◌&&◌, ◌||◌, cond, ◌↔◌, ◌≢◌, ℕ, eqb, take, drop}
-use Rattle.std.proofs.Common.{sym, ap, ◌∙◌, ne_eqb}
+use Rattle.std.proofs.Common.{sym, ap, ◌∙◌, ne_eqb, subst}
 use Rattle.std.proofs.lemmas.Bool.{false≢true}
 use mathlib.Core.List.{List, [], ◌∷◌, ◌++◌, map}
 use Rattle.tables.specs.Rows.{zeros}
@@ -36,8 +36,11 @@ pub in-first : (l : List Test) → one_of (first l) (0 ∷ test_numbers l) ≡ t
 in-first [] = refl
 in-first (x ∷ xs) =
     by-test x.holds
-    (λ e. rw e (or_right (eqb x.number 0) (one_of x.number (test_numbers (x ∷ xs))) (in-middle [] x xs)))
-    (λ e. rw e (either (or_cases (eqb (first xs) 0) (one_of (first xs) (test_numbers xs)) (in-first xs))
+    (λ e. let is : first (x ∷ xs) ≡ x.number = rw e refl in
+    subst (λ (n : ℕ). one_of n (0 ∷ test_numbers (x ∷ xs)) ≡ true) (sym is)
+    (or_right (eqb x.number 0) (one_of x.number (test_numbers (x ∷ xs))) (in-middle [] x xs)))
+    (λ e. let is : first (x ∷ xs) ≡ first xs = rw e refl in
+    subst (λ (n : ℕ). one_of n (0 ∷ test_numbers (x ∷ xs)) ≡ true) (sym is) (either (or_cases (eqb (first xs) 0) (one_of (first xs) (test_numbers xs)) (in-first xs))
     (λ y. or_left (eqb (first xs) 0) (one_of (first xs) (test_numbers (x ∷ xs))) y)
     (λ y. or_right (eqb (first xs) 0) (one_of (first xs) (test_numbers (x ∷ xs))) (or_right (eqb (first xs) x.number) (one_of (first xs) (test_numbers xs)) y))))
 

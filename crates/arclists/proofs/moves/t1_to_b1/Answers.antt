@@ -1,0 +1,21 @@
+-- T1's oldest goes behind B1's newest: a rotation. Assumes nothing.
+use mathlib.Core.Path.{refl, ap}
+use Prim.Native.Nat.{◌-◌}
+use native.Mathlib.Omega.{arith}
+use Rattle.std.proofs.Common.{rules}
+use Rattle.arclists.specs.MoveLaws.{holds-t1b1, holds-t1b1-none}
+use Rattle.arclists.proofs.moves.t1_to_b1.Goals as goal
+
+pub returns-then-s-eq0 : goal.returns-then-s-eq0
+returns-then-s-eq0 c =
+    record {
+      by_index = (λ m l h. holds-t1b1-none h c.if-s-eq0.true);
+      result_value = search rules;
+    }
+
+pub returns : goal.returns
+returns c =
+    record {
+      by_index = (λ m l h. holds-t1b1 h _ _ refl (ap (λ x. x - 1) c.start_b2.ensures) (omega arith) c.rotate_words.ensures);
+      result_value = (omega arith, (refl, refl));
+    }

@@ -1,0 +1,10 @@
+-- The two tests are those of the definition. Assumes nothing.
+use mathlib.Core.Path.{refl}
+use borrow.Author.Tests.{le-leb, lt-leb}
+use Rattle.refusals.proofs.within.Goals as goal
+
+pub returns-then-x-lt1 : goal.returns-then-x-lt1
+returns-then-x-lt1 c = rw (lt-leb 1 c.args.x c.if-x-lt1.true) refl
+
+pub returns : goal.returns
+returns c = rw (le-leb 1 c.args.x c.if-x-lt1.false) refl
