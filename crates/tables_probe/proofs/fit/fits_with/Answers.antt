@@ -1,0 +1,18 @@
+-- The two tests in turn. Assumes nothing.
+use borrow.Author.Tests.{eq-eqb, ne_eqb}
+use Rattle.tables_probe.proofs.Answers.{never}
+use Rattle.tables_probe.proofs.fit.fits_with.Goals as goal
+
+pub returns-then-g-ne32 : goal.returns-then-g-ne32
+returns-then-g-ne32 c =
+    record {
+      value = rw (ne_eqb _ _ c.if-g-ne32.true);
+      n_in_bounds = λ e. never e;
+    }
+
+pub returns : goal.returns
+returns c =
+    record {
+      value = rw (eq-eqb _ _ c.if-g-ne32.false) c.fits.ensures.value;
+      n_in_bounds = λ e. ((c.fits.ensures.n_bound e).1, c.if-g-ne32.false);
+    }

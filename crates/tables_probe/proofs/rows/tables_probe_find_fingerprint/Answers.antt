@@ -1,0 +1,13 @@
+-- What does not fit has no answer; what fits has that of the search. Assumes nothing.
+use mathlib.Core.Path.{refl, sym, ap, ◌∙◌}
+use Rattle.tables_probe.specs.Probe.{number}
+use Rattle.tables_probe.proofs.rows.tables_probe_find_fingerprint.Goals as goal
+
+pub returns-then-not-fits_with : goal.returns-then-not-fits_with
+returns-then-not-fits_with c = rw (sym c.fits_with.ensures.value ∙ c.if-not-fits_with.true) refl
+
+pub find_fingerprint-found-requires : goal.find_fingerprint-found-requires
+find_fingerprint-found-requires c = (c.fits_with.ensures.n_in_bounds (c.if-not-fits_with.false))
+
+pub returns : goal.returns
+returns c = rw (sym c.fits_with.ensures.value ∙ c.if-not-fits_with.false) (c.number.ensures ∙ ap number c.find_fingerprint-found.ensures)
