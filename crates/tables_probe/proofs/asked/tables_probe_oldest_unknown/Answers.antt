@@ -7,6 +7,7 @@ use Rattle.tables_probe.specs.Probe.{number, refused, if_sound}
 use Prim.Native.Nat.{ℕ}
 use lib.ListN.{length-replicate}
 use Rattle.tables.specs.SoundLaws.{filled-with}
+use Rattle.std.proofs.Common.{rules}
 use Rattle.tables_probe.proofs.asked.tables_probe_oldest_unknown.Goals as goal
 use Rattle.tables_probe.proofs.asked.tables_probe_oldest_unknown.Goals.{After-tables_refused-number, Else-number-ne0}
 

@@ -3,6 +3,7 @@ use Rattle.tables_probe.specs.Probe.{refused}
 use Prim.Native.Nat.{ℕ}
 use lib.ListN.{length-replicate}
 use Rattle.tables.specs.SoundLaws.{filled-with}
+use Rattle.std.proofs.Common.{rules}
 use Rattle.tables_probe.proofs.asked.tables_probe_refused.Goals as goal
 
 pub tables_refused-requires : goal.tables_refused-requires

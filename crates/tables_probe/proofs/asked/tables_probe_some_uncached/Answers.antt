@@ -9,6 +9,7 @@ use Rattle.table_laws.specs.Promises.{Passed, passed}
 use Rattle.tables_probe.specs.Probe.{refused, if_sound}
 use lib.ListN.{length-replicate}
 use Rattle.tables.specs.SoundLaws.{filled-with}
+use Rattle.std.proofs.Common.{rules}
 use Rattle.tables_probe.proofs.asked.tables_probe_some_uncached.Goals as goal
 use Rattle.tables_probe.proofs.asked.tables_probe_some_uncached.Goals.{After-tables_refused-number, Else-number-ne0}
 

@@ -4,6 +4,7 @@ use native.Mathlib.Omega.{arith}
 use borrow.Author.Tests.{eqb-true, le-leb, lt-leb}
 use Rattle.tables.specs.Sound.{blocks_fit}
 use Rattle.tables_probe.proofs.Answers.{never}
+use Rattle.std.proofs.Common.{rules}
 use Rattle.tables_probe.proofs.fit.blocks_fit.Goals as goal
 
 pub returns-then-d-gt256 : goal.returns-then-d-gt256

@@ -4,6 +4,7 @@ use native.Mathlib.Omega.{arith}
 use borrow.Author.Tests.{leb-true, le-leb, lt-leb}
 use Rattle.tables_probe.specs.Probe.{fits}
 use Rattle.tables_probe.proofs.Answers.{never}
+use Rattle.std.proofs.Common.{rules}
 use Rattle.tables_probe.proofs.fit.fits.Goals as goal
 
 pub returns-then-n-gt1024 : goal.returns-then-n-gt1024

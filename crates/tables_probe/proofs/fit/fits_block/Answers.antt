@@ -1,6 +1,7 @@
 -- The two tests in turn. Assumes nothing.
 use borrow.Author.Tests.{lt-ltb, le-ltb}
 use Rattle.tables_probe.proofs.Answers.{never}
+use Rattle.std.proofs.Common.{rules}
 use Rattle.tables_probe.proofs.fit.fits_block.Goals as goal
 
 pub returns-then-d-i : goal.returns-then-d-i

@@ -1,6 +1,7 @@
 -- The two tests in turn. Assumes nothing.
 use borrow.Author.Tests.{eq-eqb, ne_eqb}
 use Rattle.tables_probe.proofs.Answers.{never}
+use Rattle.std.proofs.Common.{rules}
 use Rattle.tables_probe.proofs.fit.fits_block_with.Goals as goal
 
 pub returns-then-g-ne32 : goal.returns-then-g-ne32

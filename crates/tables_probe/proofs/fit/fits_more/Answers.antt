@@ -2,6 +2,7 @@
 use mathlib.Core.Path.{refl}
 use borrow.Author.Tests.{eq-eqb, ne_eqb, leb-true, le-leb, lt-leb}
 use Rattle.tables_probe.proofs.Answers.{never}
+use Rattle.std.proofs.Common.{rules}
 use Rattle.tables_probe.proofs.fit.fits_more.Goals as goal
 
 pub returns-then-g-ne32 : goal.returns-then-g-ne32

@@ -1,6 +1,7 @@
 -- The two tests in turn. Assumes nothing.
 use borrow.Author.Tests.{lt-ltb, le-ltb}
 use Rattle.tables_probe.proofs.Answers.{never}
+use Rattle.std.proofs.Common.{rules}
 use Rattle.tables_probe.proofs.fit.fits_row.Goals as goal
 
 pub returns-then-n-i : goal.returns-then-n-i

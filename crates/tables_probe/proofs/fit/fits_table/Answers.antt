@@ -2,6 +2,7 @@
 use mathlib.Core.Path.{refl}
 use borrow.Author.Tests.{eqb-true, le-leb, lt-leb}
 use Rattle.tables_probe.proofs.Answers.{never}
+use Rattle.std.proofs.Common.{rules}
 use Rattle.tables_probe.proofs.fit.fits_table.Goals as goal
 
 pub returns-then-m-gt1024 : goal.returns-then-m-gt1024

@@ -1,5 +1,6 @@
 -- What does not fit stays; what fits is changed by the tables' own function. Assumes nothing.
 use mathlib.Core.Path.{refl, sym, ◌∙◌}
+use Rattle.std.proofs.Common.{rules}
 use Rattle.tables_probe.proofs.moves.tables_probe_fresh_blocks.Goals as goal
 
 pub fresh_blocks-requires : goal.fresh_blocks-requires

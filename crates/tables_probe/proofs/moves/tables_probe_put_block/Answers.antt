@@ -1,5 +1,6 @@
 -- What does not fit stays; what fits is changed by the tables' own function. Assumes nothing.
 use mathlib.Core.Path.{refl, sym, ◌∙◌}
+use Rattle.std.proofs.Common.{rules}
 use Rattle.tables_probe.proofs.moves.tables_probe_put_block.Goals as goal
 
 pub put_block-requires : goal.put_block-requires

@@ -1,6 +1,7 @@
 -- What does not fit stays; what fits is changed by the tables' own function. Assumes nothing.
 use mathlib.Core.Path.{refl, sym, ◌∙◌}
 use native.Mathlib.Omega.{arith}
+use Rattle.std.proofs.Common.{rules}
 use Rattle.tables_probe.proofs.moves.tables_probe_set_clean.Goals as goal
 
 pub set_clean-requires : goal.set_clean-requires

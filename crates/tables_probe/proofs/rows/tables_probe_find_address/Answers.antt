@@ -1,6 +1,8 @@
 -- What does not fit has no answer; what fits has that of the search. Assumes nothing.
 use mathlib.Core.Path.{refl, sym, ap, ◌∙◌}
+use borrow.Author.Tests.{not-true, not-false}
 use Rattle.tables_probe.specs.Probe.{number}
+use Rattle.std.proofs.Common.{rules}
 use Rattle.tables_probe.proofs.rows.tables_probe_find_address.Goals as goal
 
 pub returns-then-not-fits : goal.returns-then-not-fits

@@ -1,6 +1,8 @@
 -- What does not fit has no answer; what fits has that of the reader. Assumes nothing.
 use mathlib.Core.Path.{refl, sym, ◌∙◌}
 use native.Mathlib.Omega.{arith}
+use borrow.Author.Tests.{not-true, not-false}
+use Rattle.std.proofs.Common.{rules}
 use Rattle.tables_probe.proofs.rows.tables_probe_is_dirty.Goals as goal
 
 pub returns-then-not-fits_row : goal.returns-then-not-fits_row
