@@ -1,0 +1,10 @@
+-- A record of zeros. Assumes nothing.
+use mathlib.Core.Path.{ap, ◌∙◌}
+use Rattle.tables.specs.Rows.{zeros}
+use Rattle.restoring.specs.Given.{as_arc}
+use Rattle.std.proofs.Common.{rules}
+use Rattle.restoring.proofs.no_record.Goals as goal
+
+pub returns : goal.returns
+unfolding zeros
+returns c = c.as_arc.ensures ∙ ap as_arc c.empty_box.ensures

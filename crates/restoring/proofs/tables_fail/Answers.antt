@@ -1,0 +1,25 @@
+-- The tables have the lengths that their check asks for, and what it gives is the definition's. Assumes nothing.
+use Prim.Native.Nat.{ℕ}
+use lib.ListN.{length-replicate}
+use Rattle.tables.specs.SoundLaws.{filled-with}
+use Rattle.restoring.specs.FoundLaws as Laws
+use Rattle.std.proofs.Common.{rules}
+use Rattle.restoring.proofs.tables_fail.Reads as reads
+use Rattle.restoring.proofs.tables_fail.Lts as lts
+use Rattle.refusals.proofs.of_tables.Reads as of-tables-reads
+use Rattle.restoring.proofs.tables_fail.Goals as goal
+
+pub slice_bounds-of_tables-end : goal.slice_bounds-of_tables-end
+slice_bounds-of_tables-end c = search rules
+
+pub of_tables-requires : goal.of_tables-requires
+of_tables-requires c =
+    record {
+      blocks_bound = c.requires;
+      blank = (length-replicate {A = ℕ} 4353 0, filled-with 4353 0);
+    }
+
+pub returns : goal.returns
+returns c u w =
+    let a = c.args in
+    Laws.tables-fail a.b a.addresses.now a.blocks.now _ c.of_tables.ensures.value
