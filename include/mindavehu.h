@@ -1,6 +1,6 @@
 /* Mindavehu: a deduplicating flash cache with D-LRU replacement, in memory that the caller lends.
  *
- * Link with libservice.a (`rt staticlib service`), which an installed tree has as libmindavehu.a. The library keeps nothing between calls, allocates
+ * Link with libservice.a (`rt lib` in crates/service), which an installed tree has as libmindavehu.a. The library keeps nothing between calls, allocates
  * nothing and reads no clock: whatever a call needs and leaves is in the buffers below. Each call is proved to do what documents 01 and 02 say, on any bytes.
  *
  * The box: B bytes a block (64, 128, 256, 512, 1024, 2048 or 4096), P disk blocks (1 to 65536), at most m addresses held (1 to 1024),

@@ -1,4 +1,6 @@
 // SHA-256 under names that C and Rust can link, for tests/ and bench/ only.
+#![tactic(auto)]
+
 ghost use Rattle.std.specs.Prelude.{◌≡◌, true, cond, ◌++◌, length};
 ghost use Rattle.hash.specs.Sha256 as S;
 ghost use Rattle.hash.specs.LastChunk.{Size};

@@ -7,6 +7,10 @@ unfoldable pub hex : List ℕ → ℕ → List ℕ
 hex bytes zero = []
 hex bytes (suc n) = hex bytes n ++ last_digits 16 2 (get_or bytes n 0)
 
+-- a line: a text, two spaces, the name of what it is of, and the line's end
+abbrev pub line : (text name : List ℕ) → List ℕ
+line text name = text ++ (32 ∷ 32 ∷ []) ++ name ++ (10 ∷ [])
+
 -- "0aff10"
 example : hex (10 ∷ 255 ∷ 16 ∷ []) 3 ≡ 48 ∷ 97 ∷ 102 ∷ 102 ∷ 49 ∷ 48 ∷ []
 unfolding hex

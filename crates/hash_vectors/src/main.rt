@@ -1,9 +1,15 @@
 // Prints the SHA-256 digests of the standard's example messages, and the fingerprint of a block of each size of the cache, one to a line.
-ghost use Rattle.std.specs.Prelude.{◌≡◌, ◌++◌, ◌<◌, length, replicate};
+#![tactic(auto)]
+
+ghost use Rattle.std.specs.Prelude.{◌≡◌, ◌++◌, ◌<◌, length, replicate, OnOk};
+ghost use Rattle.std.specs.Io.KnownBytes.{Appends};
 ghost use Rattle.io.specs.Digits.{hex_digit_ascii as glyph_of};
 ghost use Rattle.hash.specs.Sha256 as S;
 ghost use Rattle.hash.specs.LastChunk.{Size};
 ghost use Rattle.hash_vectors.specs.Hex as Hex;
+
+use std::io;
+use std::io::Write;
 
 // The letter of a hexadecimal digit.
 fn glyph(x: u8) -> u8
@@ -49,37 +55,42 @@ fn of_block(label: [u8; 64], block: &[u8]) -> [u8; 64]
 }
 
 // Writes a line with a digest and the name of what it is of.
-fn line(text: [u8; 64], name: &[u8])
+fn line<W: Write>(out: &mut W, text: [u8; 64], name: &[u8]) -> io::Result<()>
     requires { 64 ≡ length text }
+    ensures { OnOk result (Appends (W.contents out.old) (W.contents out.new) (Hex.line text name.now)) }
 {
-    io::write_all(1, &text);
-    io::write_all(1, b"  ");
-    io::write_all(1, name);
-    io::write_all(1, b"\n");
+    out.write_all(&text)?;
+    out.write_all(b"  ")?;
+    out.write_all(name)?;
+    out.write_all(b"\n")
 }
 
 // Writes a line with a message's digest and its name.
-fn show(name: &[u8], message: &[u8]) {
-    line(of_message(message), name);
+fn show<W: Write>(out: &mut W, name: &[u8], message: &[u8]) -> io::Result<()>
+    ensures { OnOk result (Appends (W.contents out.old) (W.contents out.new) (Hex.line (Hex.hex (S.sha256 message.now) 32) name.now)) }
+{
+    line(out, of_message(message), name)
 }
 
 // Writes a line with a block's fingerprint under a label of 64 letters, and its name.
-fn show_block(name: &[u8], block: &[u8])
+fn show_block<W: Write>(out: &mut W, name: &[u8], block: &[u8]) -> io::Result<()>
     requires { Size (length block.now) }
+    ensures { OnOk result (Appends (W.contents out.old) (W.contents out.new)
+        (Hex.line (Hex.hex (S.sha256 (replicate 64 108 ++ block.now)) 32) name.now)) }
 {
-    line(of_block([b'l'; 64], block), name);
+    line(out, of_block([b'l'; 64], block), name)
 }
 
 // A block of each size, of letters, under the label.
-fn blocks() {
+fn blocks<W: Write>(out: &mut W) -> io::Result<()> {
     let letters = [b'a'; 4096];
-    show_block(b"l, 64 times, a, 64 times", &letters[0..64]);
-    show_block(b"l, 64 times, a, 128 times", &letters[0..128]);
-    show_block(b"l, 64 times, a, 256 times", &letters[0..256]);
-    show_block(b"l, 64 times, a, 512 times", &letters[0..512]);
-    show_block(b"l, 64 times, a, 1024 times", &letters[0..1024]);
-    show_block(b"l, 64 times, a, 2048 times", &letters[0..2048]);
-    show_block(b"l, 64 times, a, 4096 times", &letters[0..4096]);
+    show_block(out, b"l, 64 times, a, 64 times", &letters[0..64])?;
+    show_block(out, b"l, 64 times, a, 128 times", &letters[0..128])?;
+    show_block(out, b"l, 64 times, a, 256 times", &letters[0..256])?;
+    show_block(out, b"l, 64 times, a, 512 times", &letters[0..512])?;
+    show_block(out, b"l, 64 times, a, 1024 times", &letters[0..1024])?;
+    show_block(out, b"l, 64 times, a, 2048 times", &letters[0..2048])?;
+    show_block(out, b"l, 64 times, a, 4096 times", &letters[0..4096])
 }
 
 // A million letters. The length is what lending the array needs.
@@ -91,15 +102,16 @@ fn million() -> [u8; 1000000]
 }
 
 // The empty message, then the standard's messages of 24, 448 and 896 bits and of a million letters, then the blocks.
-fn main() {
-    show(b"empty", b"");
-    show(b"abc", b"abc");
+fn main(rt: HostRuntime) -> io::Result<()> {
+    let mut out = io::writer(&rt);
+    show(&mut out, b"empty", b"")?;
+    show(&mut out, b"abc", b"abc")?;
     let two_blocks = b"abcdbcdecdefdefgefghfghighijhijkijkljklmklmnlmnomnopnopq";
-    show(two_blocks, two_blocks);
+    show(&mut out, two_blocks, two_blocks)?;
     let two_full_blocks =
         b"abcdefghbcdefghicdefghijdefghijkefghijklfghijklmghijklmnhijklmnoijklmnopjklmnopqklmnopqrlmnopqrsmnopqrstnopqrstu";
-    show(two_full_blocks, two_full_blocks);
+    show(&mut out, two_full_blocks, two_full_blocks)?;
     let letters = million();
-    show(b"a, a million times", &letters);
-    blocks();
+    show(&mut out, b"a, a million times", &letters)?;
+    blocks(&mut out)
 }

@@ -1,5 +1,7 @@
-// Replays the list on standard input to standard output. No contract can name what C reads and writes: these speak of the buffer that a read filled, with the
-// count that it gave, and of the texts handed to the writes. `whole` says the run.
+// Replays the list on standard input to standard output. No contract can name what the system reads and writes: these speak of the buffer that a read filled,
+// with the count that it gave, and of the texts handed to the writes. `whole` says the run.
+#![tactic(auto)]
+
 ghost use Rattle.std.specs.Prelude.{◌≡◌, ◌&&◌, ◌≤◌, ltb, leb, length, take};
 ghost use Rattle.io.specs.Counts.{IsPrefixLen};
 ghost use Rattle.session.specs.Memory.{memory, fed, ended, after_of};
@@ -9,6 +11,7 @@ ghost use Rattle.replay_cli.specs.Reads.{Ran, Replayed};
 
 use replay::feed;
 use session::{Fed, Session};
+use std::io::{Error, Read, Write, writer};
 use tables::row;
 
 // The first bytes of the output.
@@ -19,27 +22,48 @@ fn text(out: &[u8], filled: usize) -> &[u8]
     &out[0..filled]
 }
 
+// Says on standard error what failed, and why in the system's words, without its number.
+fn say(rt: &(impl Eprint + AllocGlobal), what: &str, why: &Error) {
+    let _ = match format!(in rt.alloc(); "{why}") {
+        Ok(text) => {
+            let words = text.as_str();
+            match words.split_once(" (os error ") {
+                Some((reason, _)) => eprintln!(rt; "replay: {what}: {reason}"),
+                None => eprintln!(rt; "replay: {what}: {words}"),
+            }
+        }
+        Err(_) => eprintln!(rt; "replay: {what}"),
+    };
+}
+
 // Writes a text, and says so where it cannot be written.
-fn put(text: &[u8]) {
-    if !io::write_all(1, text) {
-        os::fail(b"replay: the output cannot be written");
+fn put(rt: &(impl Print + Eprint + AllocGlobal), text: &[u8]) {
+    if let Err(why) = writer(rt).write_all(text) {
+        say(rt, "the output cannot be written", &why);
     }
 }
 
 // Reads once, as many bytes as are there, and says so where the input cannot be read; that counts as its end.
-fn take(chunk: &mut [u8]) -> usize
+fn take(rt: &(impl Input + Eprint + AllocGlobal), chunk: &mut [u8]) -> usize
     ensures { IsPrefixLen result chunk.new }
 {
-    let got = libc::read(0, chunk);
-    if got < 0 {
-        os::fail(b"replay: the list cannot be read");
+    match rt.reader().read(chunk) {
+        Ok(n) => n,
+        Err(why) => {
+            say(rt, "the list cannot be read", &why);
+            0
+        }
     }
-    io::count(got, chunk)
 }
 
 // Puts a text behind the `n` bytes that wait in the page. Where it has no room there, these are written first; a text longer than the page is written at once.
 // How many bytes wait then.
-fn collect(page: &mut [u8], n: usize, text: &[u8]) -> usize
+fn collect(
+    rt: &(impl Print + Eprint + AllocGlobal),
+    page: &mut [u8],
+    n: usize,
+    text: &[u8],
+) -> usize
     requires { n ≤ length page.old }
     ensures upper_bound { result ≤ length page.new }
     ensures page_after { take result page.new ≡ waiting (length page.old) (take n page.old) text.now }
@@ -48,17 +72,18 @@ fn collect(page: &mut [u8], n: usize, text: &[u8]) -> usize
         block::put(text, page, n);
         return n + text.len();
     }
-    put(&page[0..n]);
+    put(rt, &page[0..n]);
     if text.len() <= page.len() {
         block::put(text, page, 0);
         return text.len();
     }
-    put(text);
+    put(rt, text);
     0
 }
 
 // The bytes of a chunk of the input. Their texts are written in pages.
 fn run(
+    rt: &(impl Print + Eprint + AllocGlobal),
     chunk: &[u8],
     s: Session,
     line: &mut [u8],
@@ -80,10 +105,10 @@ fn run(
         let x = chunk[i];
         i += 1;
         let f = feed::feed(x, t, line, disk, flash, addresses, blocks, out);
-        n = collect(&mut page, n, text(out, f.filled));
+        n = collect(rt, &mut page, n, text(out, f.filled));
         t = f.session;
     }
-    put(&page[0..n]);
+    put(rt, &page[0..n]);
     t
 }
 
@@ -96,6 +121,7 @@ struct Taken {
 
 // Reads once, and replays the bytes that came: as many as the read counts, from the start of the buffer that it filled.
 fn turn(
+    rt: &(impl Input + Print + Eprint + AllocGlobal),
     s: Session,
     chunk: &mut [u8],
     line: &mut [u8],
@@ -111,8 +137,18 @@ fn turn(
         ≡ fed_first chunk.new result.count
         (memory s line.old disk.old flash.old addresses.old blocks.old out.old) }
 {
-    let n = take(chunk);
-    let t = run(&chunk[0..n], s, line, disk, flash, addresses, blocks, out);
+    let n = take(rt, chunk);
+    let t = run(
+        rt,
+        &chunk[0..n],
+        s,
+        line,
+        disk,
+        flash,
+        addresses,
+        blocks,
+        out,
+    );
     Taken {
         count: n,
         session: t,
@@ -131,6 +167,7 @@ fn goes_on(n: usize, stage: u8) -> bool
 
 // The end of the input. Its text is written.
 fn last(
+    rt: &(impl Print + Eprint + AllocGlobal),
     s: Session,
     line: &[u8],
     disk: &mut [u8],
@@ -144,13 +181,14 @@ fn last(
         (memory s line.now disk.old flash.old addresses.old blocks.old out.old) }
 {
     let f = feed::finish(s, line, disk, flash, addresses, blocks, out);
-    put(text(out, f.filled));
+    put(rt, text(out, f.filled));
     f
 }
 
 // Replays the input to its end. A proved loop has to end, and nothing says that the input does, so the loop counts its turns down from a number
 // that no run uses up.
 fn all(
+    rt: &(impl Input + Print + Eprint + AllocGlobal),
     chunk: &mut [u8],
     line: &mut [u8],
     disk: &mut [u8],
@@ -168,7 +206,7 @@ fn all(
     let mut turns = u64::MAX;
     while 0 < turns && more {
         turns -= 1;
-        let t = turn(s, chunk, line, disk, flash, addresses, blocks, out);
+        let t = turn(rt, s, chunk, line, disk, flash, addresses, blocks, out);
         s = t.session;
         more = goes_on(t.count, s.stage);
     }
@@ -177,6 +215,7 @@ fn all(
 
 // The whole run, in memory that is ready: the input to its end, and the end. The texts handed to the writes are the replay of the bytes read.
 fn whole(
+    rt: &(impl Input + Print + Eprint + AllocGlobal),
     chunk: &mut [u8],
     line: &mut [u8],
     disk: &mut [u8],
@@ -190,12 +229,12 @@ fn whole(
         (memory first line.old disk.old flash.old addresses.old blocks.old out.old)
         (after_of result line.new disk.new flash.new addresses.new blocks.new out.new) }
 {
-    let s = all(chunk, line, disk, flash, addresses, blocks, out);
-    last(s, line, disk, flash, addresses, blocks, out)
+    let s = all(rt, chunk, line, disk, flash, addresses, blocks, out);
+    last(rt, s, line, disk, flash, addresses, blocks, out)
 }
 
 // Nothing is required of the program: what `whole` requires is shown of the arrays that are made here.
-fn main() {
+fn main(rt: HostRuntime) {
     let mut chunk = [0u8; 4096];
     let mut line = [0u8; 33];
     let mut disk = [0u8; 16384];
@@ -204,6 +243,7 @@ fn main() {
     let mut blocks = [0u8; 256 * row::BYTES];
     let mut out = [0u8; 256];
     whole(
+        &rt,
         &mut chunk,
         &mut line,
         &mut disk,

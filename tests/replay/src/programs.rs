@@ -30,10 +30,10 @@ pub enum Writing {
 const MOST_PAUSES: usize = 12;
 
 impl Program {
-    /// The proved program, which `rt check replay_cli` puts into target/bin/ of the repository.
+    /// The proved program, which `rt run` in crates/replay_cli puts into crates/replay_cli/out/.
     pub fn replay() -> Program {
-        let path = root().join("target/bin/replay_cli");
-        assert!(path.exists(), "target/bin/replay_cli is missing: `rt check replay_cli` builds it");
+        let path = root().join("crates/replay_cli/out/replay_cli");
+        assert!(path.exists(), "crates/replay_cli/out/replay_cli is missing: `rt run` in crates/replay_cli builds it");
         Program { path, words: vec![] }
     }
 
@@ -101,6 +101,14 @@ pub fn folder(name: &str) -> PathBuf {
     path
 }
 
+/// A fresh folder outside the repository, empty: `rt ci` refuses a crates.txt below its top. Who asks for it removes it.
+pub fn outside(name: &str) -> PathBuf {
+    let path = std::env::temp_dir().canonicalize().unwrap().join(format!("mindavehu-{name}-{}", std::process::id()));
+    let _ = std::fs::remove_dir_all(&path);
+    std::fs::create_dir_all(&path).unwrap();
+    path
+}
+
 /// A folder for PATH that has these commands of the machine and no other.
 pub fn commands(name: &str, names: &[&str]) -> PathBuf {
     let path = folder(name);
@@ -158,7 +166,7 @@ impl Build {
     fn path(&self) -> &Path {
         self.path.get_or_init(|| {
             let output = root().join("target/tests").join(self.name);
-            let library = root().join("target/staticlib/libservice.a");
+            let library = root().join("crates/service/out/libservice.a");
             let (built, said) = self.gcc(&root().join(self.source), &[&library], &output);
             assert!(built, "{} does not compile:\n{said}", self.source);
             output

@@ -43,7 +43,7 @@ fn the_examples() {
         let program = source.with_extension("");
         let mut command = Command::new("gcc");
         command.args(["-std=c99", "-Wall", "-Wextra", "-Werror", "-pedantic", "-I"]).arg(root().join("include")).arg(&source);
-        run(command.arg(root().join("target/staticlib/libservice.a")).arg("-o").arg(&program));
+        run(command.arg(root().join("crates/service/out/libservice.a")).arg("-o").arg(&program));
         assert_eq!(run(&mut Command::new(&program)), pieces[k + 1], "{}", pieces[k]);
     }
     println!("three programs of the header print what it says");
@@ -54,7 +54,7 @@ fn the_examples() {
 fn the_lines_of_readme() {
     let readme = read("README.md");
     let lines: Vec<&str> = readme.split("```sh\n").nth(1).unwrap().split("```").next().unwrap().lines().collect();
-    assert_eq!(lines[0], "rt staticlib service");
+    assert_eq!(lines[0], "mkdir -p target && (cd crates/service && rt lib)");
     assert!(lines.len() == 3 && read(".gitignore").lines().any(|line| line == "target/"), "{lines:?}");
     let output = lines[1].split(" -o ").nth(1).unwrap();
     assert!(output.starts_with("target/") && lines[2].starts_with(&format!("./{output}")), "{lines:?}");
@@ -71,7 +71,7 @@ fn the_stack() {
     let program = folder("stack-of-calls").join("stack");
     let mut command = Command::new("gcc");
     command.args(["-O1", "-I"]).arg(root().join("include")).arg(root().join("bench/service/stack.c"));
-    run(command.arg(root().join("target/staticlib/libservice.a")).args(["-lpthread", "-o"]).arg(&program));
+    run(command.arg(root().join("crates/service/out/libservice.a")).args(["-lpthread", "-o"]).arg(&program));
     let header = read("include/mindavehu.h");
     let most: u64 = header.lines().find_map(|line| line.strip_prefix("#define MINDAVEHU_STACK ")).unwrap().parse().unwrap();
     let written = run(&mut Command::new(&program));

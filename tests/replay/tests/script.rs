@@ -1,5 +1,5 @@
 //! The script ./replay, on programs that are built.
-use replay::programs::{commands, folder, root, PLAIN_COMMANDS};
+use replay::programs::{commands, folder, outside, root, PLAIN_COMMANDS};
 use std::fs::File;
 use std::os::unix::fs::{symlink, PermissionsExt};
 use std::path::Path;
@@ -198,23 +198,24 @@ fn the_version() {
 
 /// A checkout in which nothing is built: the script, what it compiles, and the crates by their names.
 fn unbuilt(name: &str) -> std::path::PathBuf {
-    let place = folder(name);
+    let place = outside(name);
     for file in ["replay", "exam", "crates.txt", "include/mindavehu.h", "trainer/states.c", "trainer/exam.c", "trainer/mark.c"] {
         std::fs::create_dir_all(place.join(file).parent().unwrap()).unwrap();
         std::fs::copy(root().join(file), place.join(file)).unwrap();
     }
     for line in stored("crates.txt").lines() {
         if let Some((name, _)) = line.split('#').next().unwrap().split_once(':') {
-            std::fs::create_dir_all(place.join("crates").join(name)).unwrap();
+            std::fs::create_dir_all(place.join("crates").join(name.split(' ').next().unwrap())).unwrap();
         }
     }
     place
 }
 
-/// A stand-in for the toolchain: it says that it has started, and brings what it is asked for.
+/// A stand-in for the toolchain: it says that it has started and in which folder, and brings what it is asked for.
 fn put_rt(path: &Path) {
-    let bring = |from: &str| format!("mkdir -p target/{from}; cp {}/* target/{from}/", root().join("target").join(from).display());
-    let text = format!("#!/usr/bin/env bash\necho \"rt: started $*\"\ncase $1 in\ncheck) {} ;;\nstaticlib) {} ;;\nesac\n", bring("bin"), bring("staticlib"));
+    let bring = |made: &str| format!("mkdir -p out; cp {} out/", root().join("crates").join(made).display());
+    let (program, library) = (bring("replay_cli/out/replay_cli"), bring("service/out/libservice.a"));
+    let text = format!("#!/usr/bin/env bash\necho \"rt: started $* in ${{PWD##*/}}\"\ncase $1 in\nrun) {program} ;;\nlib) {library} ;;\nesac\n");
     write_command(&path.join("rt"), &text);
 }
 
@@ -248,9 +249,10 @@ fn an_unbuilt_checkout() {
     // What takes minutes is said before it starts.
     let (status, written, said) = run(&["--states"]);
     let at = |text: &str| said.find(text).unwrap_or_else(|| panic!("{text:?} is not said: {said}"));
-    let start = at("proving and building the engine as a library, which all but plain answers need (rt staticlib service)");
-    assert!(start < at("started staticlib service") && said.contains("from nothing this takes some minutes") && status == Some(0), "{said}");
+    let start = at("proving and building the engine as a library, which all but plain answers need (rt lib in crates/service)");
+    assert!(start < at("started lib in service") && said.contains("from nothing this takes some minutes") && status == Some(0), "{said}");
     assert_eq!(written, replay::states::states(&std::fs::read(&list).unwrap(), false));
+    std::fs::remove_dir_all(place).unwrap();
     println!("an unbuilt checkout: no toolchain, no place to write, and built at the first --states");
 }
 
@@ -261,7 +263,7 @@ fn built_at_once() {
     let done = with_commands(&place.join("replay"), &path, &["--build"]);
     let said = String::from_utf8_lossy(&done.stderr);
     assert!(
-        done.status.success() && done.stdout.is_empty() && said.contains("started check replay_cli") && said.contains("started staticlib service"),
+        done.status.success() && done.stdout.is_empty() && said.contains("started run in replay_cli") && said.contains("started lib in service"),
         "{said}"
     );
     std::fs::remove_file(path.join("rt")).unwrap();
@@ -272,6 +274,7 @@ fn built_at_once() {
     }
     let done = with_commands(&place.join("exam"), &path, &["64", "2", "1", "1", "2"]);
     assert!(done.status.success() && done.stderr.is_empty() && !done.stdout.is_empty(), "exam: {}", String::from_utf8_lossy(&done.stderr));
+    std::fs::remove_dir_all(place).unwrap();
     println!("--build, and nothing is left to prove then");
 }
 
@@ -281,7 +284,7 @@ fn two_at_once() {
     let (place, path) = (unbuilt("unbuilt-twice"), commands("building-twice", &BUILDING));
     put_rt(&path);
     let rt = std::fs::read_to_string(path.join("rt")).unwrap();
-    write_command(&path.join("rt"), &rt.replace("case $1 in", "echo started >> target/starts\nsleep 2\ncase $1 in"));
+    write_command(&path.join("rt"), &rt.replace("case $1 in", &format!("echo started >> {}/target/starts\nsleep 2\ncase $1 in", place.display())));
     let list = root().join("lessons/week.txt");
     let said: Vec<String> = std::thread::scope(|scope| {
         let one = || {
@@ -295,6 +298,7 @@ fn two_at_once() {
     });
     assert_eq!(std::fs::read_to_string(place.join("target/starts")).unwrap(), "started\n");
     assert_eq!(said.iter().filter(|said| said.contains("another replay is building the engine: waiting for it")).count(), 1, "{said:?}");
+    std::fs::remove_dir_all(place).unwrap();
     println!("two replays at once in an unbuilt checkout: one builds, the other waits");
 }
 
