@@ -1,4 +1,6 @@
 // The calls of a D-ARC box that make its step, on lent bytes: each takes any numbers, any slices and any counters.
+#![tactic(auto)]
+
 ghost use Rattle.std.specs.Prelude.{◌≡◌, ◌+◌, ◌<◌, ◌^◌};
 ghost use Rattle.std.proofs.Math.Option.{Option};
 ghost use Rattle.paper.specs.Lent.{Ask};

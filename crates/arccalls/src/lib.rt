@@ -1,4 +1,6 @@
 // The calls of a D-ARC box that don't make its step: opening, flush and look, on lent bytes.
+#![tactic(auto)]
+
 pub mod flushes;
 pub mod looks;
 pub mod opening;

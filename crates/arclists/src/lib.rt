@@ -1,5 +1,7 @@
 // "its lists T1, T2, B1, B2, B3, oldest first, end to end in m × 4 bytes, little-endian, zeros after": the moves of Algorithm 3 on them, and their part of
 // refusal 6.
+#![tactic(auto)]
+
 pub mod adapt;
 pub mod ghosts;
 pub mod leave;

@@ -1,4 +1,6 @@
 // The refusals of a D-ARC box, in the documents' order: 11, 12, 2, 3, 6, 7, 8, 13, 9.
+#![tactic(auto)]
+
 pub mod calls;
 pub mod many;
 pub mod report;

@@ -1,4 +1,6 @@
 // Save of a D-ARC box: a flush, then its image in a lent area.
+#![tactic(auto)]
+
 ghost use Rattle.std.specs.Prelude.{◌≡◌, ◌≤◌};
 ghost use Rattle.tables.specs.Index.{Blank, Indexed};
 ghost use Rattle.refusals.specs.Given.{counters_of};

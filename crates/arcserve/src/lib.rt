@@ -1,4 +1,6 @@
 // The calls of a D-ARC box that make its step, not refused, on the bytes of a paper box and its lists.
+#![tactic(auto)]
+
 pub mod reads;
 pub mod writes;
 

@@ -1,4 +1,6 @@
 // The step of one request of a D-ARC box, on lent bytes: the rows, the blocks and the five lists of a paper box that runs through the parts of the step.
+#![tactic(auto)]
+
 pub mod ends;
 pub mod evict;
 pub mod insert;

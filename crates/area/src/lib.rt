@@ -1,4 +1,6 @@
 // The writes of a save on a lent area, and the mark that a restore looks for.
+#![tactic(auto)]
+
 ghost use Rattle.std.specs.Prelude.{◌≡◌, ◌∷◌, [], ◌+◌, ◌*◌, ◌<◌, ◌≤◌, length, take, drop, get_or};
 ghost use Rattle.tables.specs.Rows.{flat};
 ghost use Rattle.tables.specs.Records.{bytes4};

@@ -1,4 +1,6 @@
 // Copies between lent slices, and the blocks of the flash and of the disk.
+#![tactic(auto)]
+
 ghost use Rattle.std.specs.Prelude.{◌≡◌, ◌+◌, ◌*◌, ◌≤◌, length};
 ghost use Rattle.block.specs.Blocks.{part, splice};
 

@@ -1,4 +1,6 @@
 // The counters, and a thin function that adds to them in place.
+#![tactic(auto)]
+
 ghost use Rattle.std.specs.Prelude.{◌≡◌, ◌+◌, ◌<◌, ◌^◌};
 ghost use Rattle.counters.specs.Added.{added};
 

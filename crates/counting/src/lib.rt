@@ -1,1 +1,2 @@
 // U9: hits told from a list of reads alone, by counting: definitions and laws, no code.
+#![tactic(auto)]

@@ -1,4 +1,6 @@
 // U12: exam questions. How many lists of reads have each number of hits.
+#![tactic(auto)]
+
 pub mod content;
 pub mod search;
 

@@ -1,4 +1,6 @@
 // Numbers in bytes: the fields of the state and of an answer.
+#![tactic(auto)]
+
 ghost use Rattle.std.specs.Prelude.{◌≡◌, ◌+◌, ◌*◌, ◌≤◌, ◌<◌, ◌^◌, cond, eqb, length};
 ghost use Rattle.refusals.specs.Given.{counters_of};
 ghost use Rattle.policy.specs.Contract.{word_of, answer_of, many_answer_of};

@@ -1,4 +1,6 @@
 // SHA-256 (FIPS 180-4) of a slice of bytes. The names are the standard's, and `specs/Sha256.antt` has its definitions.
+#![tactic(auto)]
+
 mod constants;
 pub mod fingerprint;
 

@@ -1,4 +1,6 @@
 // The form of a line of a list.
+#![tactic(auto)]
+
 mod numbers;
 pub mod parse;
 mod words;

@@ -1,4 +1,6 @@
 // Look: the answer, and the block itself as a part of the flash or of the disk. Nothing is moved or counted.
+#![tactic(auto)]
+
 ghost use Rattle.std.specs.Prelude.{◌≡◌};
 ghost use Rattle.paper.specs.Cache.{Counters};
 ghost use Rattle.paper.specs.Lent.{Ask, calling, refusal, call};

@@ -1,4 +1,6 @@
 // Opening: lent memory made a fresh box.
+#![tactic(auto)]
+
 ghost use Rattle.std.specs.Prelude.{◌≡◌, length};
 ghost use Rattle.parts.specs.Rep.{empty_box, relabelled};
 ghost use Rattle.refusals.specs.Given.{counters_of};

@@ -1,4 +1,6 @@
 // The parts of a step: what it asks of the rows, and the blocks that it copies, on the bytes of a paper box.
+#![tactic(auto)]
+
 pub mod copy;
 pub mod limit;
 pub mod rows;

@@ -1,4 +1,6 @@
 // The cache on lent bytes.
+#![tactic(auto)]
+
 pub mod calls;
 pub mod many;
 

@@ -1,4 +1,6 @@
 // What a line prints, put into the output. Each function gives the index after its text.
+#![tactic(auto)]
+
 ghost use Rattle.std.specs.Prelude.{◌++◌, ◌+◌, ◌≤◌, length};
 ghost use Rattle.lines.specs.Text.{ascii, decimal as decimal_of};
 ghost use Rattle.refusals.specs.Given.{counters_of};

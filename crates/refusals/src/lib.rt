@@ -1,4 +1,6 @@
 // The refusals, in the documents' order.
+#![tactic(auto)]
+
 pub mod many;
 pub mod report;
 

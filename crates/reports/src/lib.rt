@@ -1,4 +1,6 @@
 // The reports of the held rows, for the manager and for the desk.
+#![tactic(auto)]
+
 ghost use Rattle.std.specs.Prelude.{◌≡◌, ◌*◌, ◌≤◌, length};
 ghost use Rattle.tables.specs.Rows.{table_bytes, HasRow};
 ghost use Rattle.paper.specs.Cache.{Counters};

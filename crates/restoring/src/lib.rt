@@ -1,4 +1,6 @@
 // A restore: what it refuses an area with, and the box, of either kind, that it finds there.
+#![tactic(auto)]
+
 mod arc_body;
 
 ghost use Rattle.std.specs.Prelude.{◌≡◌, false, ◌+◌, ◌*◌, ◌≤◌, length, take, drop};

@@ -1,1 +1,2 @@
 // Replays computed from the definition: inputs beside their whole outputs; no code.
+#![tactic(auto)]

@@ -1,4 +1,6 @@
 // Save: a flush, then the image of the box in a lent area.
+#![tactic(auto)]
+
 ghost use Rattle.std.specs.Prelude.{◌≡◌, ◌≤◌};
 ghost use Rattle.tables.specs.Index.{Blank, Indexed};
 ghost use Rattle.parts.specs.Rep.{numbers_of};

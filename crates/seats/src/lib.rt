@@ -1,1 +1,2 @@
 // U7: what the desk sees does not depend on seat numbers: definitions and laws, no code.
+#![tactic(auto)]

@@ -1,4 +1,6 @@
 // The calls that are not refused, on the bytes of a paper box.
+#![tactic(auto)]
+
 ghost use Rattle.std.specs.Prelude.{◌≡◌, List, ℕ, ◌+◌, ◌*◌, ◌<◌, ◌≤◌, length, get_or};
 ghost use Rattle.std.proofs.Math.Option.{Option};
 ghost use Rattle.hash.specs.LastChunk.{Size};

@@ -1,5 +1,7 @@
 // The service that C calls: numbers and byte slices. Each call reads the box record and the counters in the state's bytes,
 // does the cache's call, and writes what it tells into the state and the answer.
+#![tactic(auto)]
+
 pub mod warm;
 
 ghost use Rattle.std.specs.Prelude.{◌≡◌, true};

@@ -1,4 +1,6 @@
 // A replay between two bytes of its input, and what a line does.
+#![tactic(auto)]
+
 pub mod line;
 
 use counters::Counters;

@@ -1,1 +1,2 @@
 // What holds of the tables beside what their functions promise: laws and examples, no code.
+#![tactic(auto)]

@@ -1,4 +1,6 @@
 // Tables of rows in lent bytes.
+#![tactic(auto)]
+
 pub mod distinct;
 pub mod find;
 pub mod fresh;
