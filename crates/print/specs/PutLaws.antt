@@ -1,5 +1,5 @@
 -- Texts put one after the other, by the laws of `take` and `drop` over `◌++◌`. Assumes nothing.
-use Rattle.std.specs.Prelude.{◌≡◌, List, [], ◌++◌, ℕ, ◌+◌, ◌≤◌, length, take, drop}
+use Rattle.std.specs.Prelude.{List, [], ◌++◌, ℕ, ◌+◌, ◌≤◌, length, take, drop}
 use Rattle.std.proofs.Common.{sym, ap, ap₂, ◌∙◌, add-zero, add_assoc, length-append, take-append-drop}
 use Rattle.block.specs.Blocks.{splice}
 use Rattle.block.specs.Laws.{splice-next}

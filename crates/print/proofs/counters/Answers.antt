@@ -1,0 +1,18 @@
+-- The texts one after the other. Assumes nothing.
+use Rattle.print.specs.Texts.{counters_text}
+use native.Mathlib.Omega.{arith}
+use Rattle.print.specs.PutLaws.{put_next}
+use Rattle.print.proofs.counters.Goals as goal
+
+pub returns : goal.returns
+unfolding counters_text
+returns c =
+    let a = c.named-i.ensures in
+    let b = c.named-j.ensures in
+    let d = c.named-k.ensures in
+    let e = c.named-l.ensures in
+    let f = c.text.ensures in
+    record {
+      upper_bound = omega arith;
+      put = put_next _ _ _ _ _ _ _ _ (omega arith) (put_next _ _ _ _ _ _ _ _ (omega arith) (put_next _ _ _ _ _ _ _ _ (omega arith) (put_next _ _ _ _ _ _ _ _ (omega arith) a.put b.put) d.put) e.put) f;
+    }

@@ -1,0 +1,14 @@
+-- The texts one after the other. Assumes nothing.
+use native.Mathlib.Omega.{arith}
+use Rattle.print.specs.PutLaws.{put_next}
+use Rattle.print.proofs.refused.Goals as goal
+
+pub returns : goal.returns
+returns c =
+    let f = c.decimal-a.ensures in
+    let p = c.named-b.ensures in
+    let e = c.text.ensures in
+    record {
+      upper_bound = omega arith;
+      put = put_next _ _ _ _ _ _ _ _ (omega arith) (put_next _ _ _ _ _ _ _ _ (omega arith) f.put p.put) e;
+    }
