@@ -1,0 +1,17 @@
+-- The first k blocks are filled. Assumes nothing.
+use mathlib.Core.Path.{◌≡◌, refl, sym, ap, ◌∙◌, subst}
+use Prim.Native.Nat.{◌+◌, ◌-◌, ◌*◌, ◌≤◌}
+use native.Mathlib.Nat.{zero-mul}
+use native.Mathlib.Omega.{arith}
+use lib.ListN.{length, take}
+use Rattle.std.proofs.Common.{rules}
+use Rattle.block.specs.Laws.{product-fits}
+use Rattle.answers.specs.Replay.{start_disk}
+use Rattle.answers.proofs.Filling.{block_in_lem, disk-next, length-mid, disk-done}
+use Rattle.answers.proofs.start.fill_disk.Given as goal
+
+abbrev pub invariant-loop-k : goal.invariant-loop-k
+invariant-loop-k l = (l.k ≤ l.blocks) × (length l.disk ≡ length l.initial.disk) × (take (l.k * l.size) l.disk ≡ start_disk l.size l.k)
+
+abbrev pub decreases-loop-k : goal.decreases-loop-k
+decreases-loop-k l = l.blocks - l.k
