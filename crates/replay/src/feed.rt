@@ -7,7 +7,7 @@ ghost use Rattle.print.specs.Texts.{counters_text};
 ghost use Rattle.session.specs.Bytewise.{end_line, keep, quiet, last_line};
 ghost use Rattle.session.specs.Memory.{memory, Sized, Holds, fits, state_in, stored, fed, ended, after_of};
 
-use crate::checks;
+use crate::fitting;
 use counters::Counters;
 use session::{Fed, Session, line};
 
@@ -49,7 +49,7 @@ fn fit(
     ensures { result ≡ fits (memory s line.now disk.now flash.now addresses.now blocks.now
         out.now) }
 {
-    if !checks::lengths_fit(
+    if !fitting::lengths_fit(
         line.len(),
         disk.len(),
         flash.len(),
@@ -60,7 +60,7 @@ fn fit(
         return false;
     }
     let b = s.box_record;
-    if !checks::numbers_fit(b) {
+    if !fitting::numbers_fit(b) {
         return false;
     }
     s.kept <= 33
