@@ -15,7 +15,7 @@ use Rattle.refusals.specs.Given.{counters_of}
 use Rattle.print.specs.Put.{Put}
 use Rattle.print.specs.Texts.{counters_text}
 use Rattle.session.specs.Bytewise.{State, quiet, keep, first_line, later_line, end_line, last_line, at_end}
-use Rattle.session.specs.Memory.{Buffers, Held, Memory, FedMemory, over, state_in, stored}
+use Rattle.session.specs.Memory.{Buffers, Held, Memory, FedMemory, state_in, stored}
 use Rattle.session.specs.declared.Session.{Session}
 use Rattle.block.specs.Laws.{splice-next}
 use Rattle.session.specs.BufferLaws.{splice-first, over-same}

@@ -1,2 +1,4 @@
+#![tactic(auto)]
+
 // Replays computed from the definition: inputs beside their whole outputs; no code.
 #![tactic(auto)]

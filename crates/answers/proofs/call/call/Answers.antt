@@ -1,6 +1,5 @@
 -- By the form of the line. Assumes nothing.
 use mathlib.Core.Path.{refl}
-use Rattle.std.proofs.Common.{rules}
 use Rattle.answers.specs.Replay.{asked, doing}
 use Rattle.answers.proofs.Doing.{call-done}
 use Rattle.answers.proofs.call.call.Goals as goal
@@ -39,4 +38,3 @@ returns-in-Box-clause-blocks_after c = rw (c.in-Box.is, c.unformed.ensures) refl
 pub returns-in-Unformed-clause-blocks_after : goal.returns-in-Unformed-clause-blocks_after
 unfolding asked doing
 returns-in-Unformed-clause-blocks_after c = rw (c.in-Unformed.is, c.unformed-in-Unformed.ensures) refl
-

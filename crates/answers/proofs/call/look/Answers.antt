@@ -1,7 +1,6 @@
 -- A look's answer, and that nothing lent changes. Assumes nothing.
 use mathlib.Core.Path.{refl}
 use native.Mathlib.Omega.{arith}
-use Rattle.std.proofs.Common.{rules}
 use Rattle.refusals.specs.Given.{counters_of}
 use Rattle.policy.specs.CallLaws.{all-bytes}
 use Rattle.answers.proofs.Doing.{look-done}

@@ -1,6 +1,5 @@
 -- The call of the policy, with a block of zeros. Assumes nothing.
 use mathlib.Core.Path.{ap}
-use Rattle.std.proofs.Common.{rules}
 use Rattle.paper.specs.Lent.{Ask}
 use Rattle.answers.proofs.Doing.{call-done, block-filled}
 use Rattle.answers.proofs.call.read.Goals as goal

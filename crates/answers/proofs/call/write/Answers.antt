@@ -2,7 +2,6 @@
 use mathlib.Core.Path.{ap}
 use mathlib.Core.List.{List}
 use Prim.Native.Nat.{ℕ}
-use Rattle.std.proofs.Common.{rules}
 use Rattle.policy.specs.Contract.{ask_of}
 use Rattle.answers.proofs.Doing.{call-done, block-filled}
 use Rattle.answers.proofs.call.write.Goals as goal

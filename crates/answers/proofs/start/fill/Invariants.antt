@@ -1,9 +1,7 @@
 -- The first i bytes are filled. Assumes nothing.
-use mathlib.Core.Path.{◌≡◌, refl}
+use mathlib.Core.Path.{◌≡◌}
 use Prim.Native.Nat.{◌-◌, ◌≤◌}
-use native.Mathlib.Omega.{arith}
-use lib.ListN.{length, take, replicate, length-set}
-use Rattle.answers.proofs.Filling.{fill-next, fill_done}
+use lib.ListN.{length, take, replicate}
 use Rattle.answers.proofs.start.fill.Given as goal
 
 abbrev pub invariant-loop-i : goal.invariant-loop-i

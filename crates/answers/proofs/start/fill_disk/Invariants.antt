@@ -1,13 +1,8 @@
 -- The first k blocks are filled. Assumes nothing.
-use mathlib.Core.Path.{◌≡◌, refl, sym, ap, ◌∙◌, subst}
-use Prim.Native.Nat.{◌+◌, ◌-◌, ◌*◌, ◌≤◌}
-use native.Mathlib.Nat.{zero-mul}
-use native.Mathlib.Omega.{arith}
+use mathlib.Core.Path.{◌≡◌}
+use Prim.Native.Nat.{◌-◌, ◌*◌, ◌≤◌}
 use lib.ListN.{length, take}
-use Rattle.std.proofs.Common.{rules}
-use Rattle.block.specs.Laws.{product-fits}
 use Rattle.answers.specs.Replay.{start_disk}
-use Rattle.answers.proofs.Filling.{block_in_lem, disk-next, length-mid, disk-done}
 use Rattle.answers.proofs.start.fill_disk.Given as goal
 
 abbrev pub invariant-loop-k : goal.invariant-loop-k

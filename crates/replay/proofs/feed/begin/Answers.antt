@@ -1,6 +1,5 @@
 -- The record is that of no box; the rest is as written. Assumes nothing.
 use mathlib.Core.Path.{refl}
-use Rattle.std.proofs.Common.{rules}
 use Rattle.replay.proofs.feed.begin.Goals as goal
 
 pub returns : goal.returns

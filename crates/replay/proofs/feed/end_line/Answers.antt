@@ -8,7 +8,6 @@ use Rattle.lines.specs.Lines.{parsed}
 use Rattle.session.specs.Bytewise.{first_line, later_line}
 use Rattle.session.specs.Memory.{memory, state_in, stored}
 use Rattle.replay.proofs.Feeding.{quiet_same, end-first, end_later, end-over}
-use Rattle.std.proofs.Common.{rules}
 use Rattle.replay.proofs.feed.end_line.Goals as goal
 
 pub returns-then-s-eq0 : goal.returns-then-s-eq0

@@ -1,10 +1,9 @@
 -- By whether the memory fits, and the byte. Assumes nothing.
 use mathlib.Core.Path.{refl, sym, ◌∙◌}
-use borrow.Author.Tests.{eq-eqb, ne_eqb, not-true, not-false}
+use borrow.Author.Tests.{eq-eqb, ne_eqb}
 use Rattle.session.specs.Bytewise.{byte_in}
 use Rattle.session.specs.Memory.{memory, fed}
 use Rattle.session.specs.MemoryLaws.{fitting}
-use Rattle.std.proofs.Common.{rules}
 use Rattle.replay.proofs.feed.feed.Goals as goal
 
 pub returns-then-not-fit : goal.returns-then-not-fit

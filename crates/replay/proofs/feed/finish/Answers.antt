@@ -1,10 +1,8 @@
 -- The last line, and the counters after it. Assumes nothing.
 use mathlib.Core.Path.{refl, sym, ◌∙◌}
-use borrow.Author.Tests.{not-true, not-false}
 use Rattle.session.specs.Memory.{memory, ended, after_of}
 use Rattle.session.specs.MemoryLaws.{fitting}
 use Rattle.replay.proofs.Feeding.{end_is}
-use Rattle.std.proofs.Common.{rules}
 use Rattle.replay.proofs.feed.finish.Goals as goal
 
 pub returns-then-not-fit : goal.returns-then-not-fit

@@ -1,8 +1,6 @@
 -- Each test in turn is one of the definition. Assumes nothing.
 use mathlib.Core.Path.{refl, sym, ◌∙◌}
-use borrow.Author.Tests.{not-true, not-false}
 use Rattle.session.specs.Memory.{fits}
-use Rattle.std.proofs.Common.{rules}
 use Rattle.replay.proofs.feed.fit.Goals as goal
 
 pub returns-then-not-lengths_fit : goal.returns-then-not-lengths_fit

@@ -1,7 +1,6 @@
 -- By whether there is room. Assumes nothing.
 use Rattle.session.specs.Memory.{memory}
 use Rattle.replay.proofs.Feeding.{kept_more, kept_full}
-use Rattle.std.proofs.Common.{rules}
 use Rattle.replay.proofs.feed.keep_byte.Goals as goal
 
 pub returns-then-kept-lt33 : goal.returns-then-kept-lt33

@@ -5,7 +5,6 @@ use native.Mathlib.Omega.{arith}
 use lib.Seq.{length-take-le}
 use Rattle.session.specs.Memory.{memory, state_in, stored}
 use Rattle.replay.proofs.Feeding.{quiet_same, last-first, last_none, last_some}
-use Rattle.std.proofs.Common.{rules}
 use Rattle.replay.proofs.feed.last_line.Goals as goal
 
 pub returns-then-s-eq0 : goal.returns-then-s-eq0

@@ -1,6 +1,5 @@
 -- Each test in turn is one of the definition. Assumes nothing.
 use mathlib.Core.Path.{refl}
-use Rattle.std.proofs.Common.{rules}
 use borrow.Author.Tests.{eq-eqb, ne_eqb}
 use Rattle.session.specs.Memory.{lengths_fit}
 use Rattle.replay.proofs.fitting.lengths_fit.Goals as goal

@@ -1,5 +1,5 @@
 -- The call made in the first parts of the buffers, and those put back. Assumes nothing.
-use Rattle.std.proofs.Common.{ap, ◌∙◌, rules}
+use Rattle.std.proofs.Common.{ap, ◌∙◌}
 use Rattle.parts.specs.Rep.{numbers_of}
 use Rattle.refusals.specs.Given.{counters_of}
 use Rattle.answers.specs.Replay.{Done, asked, doing}

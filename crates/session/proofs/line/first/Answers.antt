@@ -1,5 +1,5 @@
 -- By line 1's number. Assumes nothing.
-use Rattle.std.proofs.Common.{[], sym, refl, ap, ◌∙◌, subst, arith, rules}
+use Rattle.std.proofs.Common.{[], sym, refl, ap, ◌∙◌, subst, arith}
 use Rattle.block.specs.Blocks.{splice}
 use Rattle.parts.specs.Rep.{numbers_of}
 use Rattle.refusals.specs.Given.{counters_of}

@@ -1,5 +1,5 @@
 -- The call, and its answer printed. Assumes nothing.
-use Rattle.std.proofs.Common.{[], ◌∙◌, ap₂, arith, rules}
+use Rattle.std.proofs.Common.{[], ◌∙◌, ap₂, arith}
 use Rattle.parts.specs.Rep.{numbers_of}
 use Rattle.refusals.specs.Given.{counters_of}
 use Rattle.policy.specs.Contract.{answer_of}

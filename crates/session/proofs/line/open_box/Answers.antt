@@ -1,5 +1,5 @@
 -- The box started in the first parts of the buffers, and those put back. Assumes nothing.
-use Rattle.std.proofs.Common.{◌*◌, arith, rules}
+use Rattle.std.proofs.Common.{◌*◌, arith}
 use Rattle.parts.specs.Rep.{numbers_of}
 use Rattle.refusals.specs.Given.{counters_of}
 use Rattle.answers.specs.Replay.{started}
