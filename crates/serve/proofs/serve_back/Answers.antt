@@ -52,16 +52,16 @@ limit_rows-more-requires c =
         blocks = c.step-d.new.blocks;
       });
     }) (after b (stepped s x)) = λ s x h sd ex.
-        let f = (engine b).hash x in
-        let ef = c.fingerprint_of-g.ensures x ex in
-        c.step-d.ensures.blocks_after s f x (dirtied (engine b) f (row_of a.a.0 s.rows)) h sd ef ex
-        (c.dirty_value-w.ensures (numbers_of b) s.rows f h.rows_are ef) in
+    let f = (engine b).hash x in
+    let ef = c.fingerprint_of-g.ensures x ex in
+    c.step-d.ensures.blocks_after s f x (dirtied (engine b) f (row_of a.a.0 s.rows)) h sd ef ex
+    (c.dirty_value-w.ensures (numbers_of b) s.rows f h.rows_are ef) in
     let left-rep : (s : Box (Fixed 32) (Fixed b.size)) (x : Fixed b.size) → Rep b a.disk.now a.flash.now a.addrs.now a.blocks.now s → Sure b s
     → x.0 ≡ a.block.now → Rep (with_held b c.step-d.result.held) c.step-d.new.disk c.step-d.new.flash c.step-d.new.addrs c.step-d.new.blocks
     (stepped s x).box = λ s x h sd ex.
-        let p = c.requires.disk_len.1 in
-        step-rep b (stepped s x) c.step-d.result.held c.step-d.result.flashed c.step-d.result.primary _ _ _ _
-        (sound-step (engine b) (numbers_of b) s (asked s x) sd p.0 p.1 p.3) h.rows_are.small h.blocks-are.small (left_is s x h sd ex) in
+    let p = c.requires.disk_len.1 in
+    step-rep b (stepped s x) c.step-d.result.held c.step-d.result.flashed c.step-d.result.primary _ _ _ _
+    (sound-step (engine b) (numbers_of b) s (asked s x) sd p.0 p.1 p.3) h.rows_are.small h.blocks-are.small (left_is s x h sd ex) in
     let p = c.requires.disk_len.1 in
     let q = c.requires.lent_sound in
     let x : Fixed a.b.size = (a.block.now, p.2) in
@@ -98,16 +98,16 @@ returns c =
         blocks = c.step-d.new.blocks;
       });
     }) (after b (stepped s x)) = λ s x h sd ex.
-        let f = (engine b).hash x in
-        let ef = c.fingerprint_of-g.ensures x ex in
-        c.step-d.ensures.blocks_after s f x (dirtied (engine b) f (row_of a.a.0 s.rows)) h sd ef ex
-        (c.dirty_value-w.ensures (numbers_of b) s.rows f h.rows_are ef) in
+    let f = (engine b).hash x in
+    let ef = c.fingerprint_of-g.ensures x ex in
+    c.step-d.ensures.blocks_after s f x (dirtied (engine b) f (row_of a.a.0 s.rows)) h sd ef ex
+    (c.dirty_value-w.ensures (numbers_of b) s.rows f h.rows_are ef) in
     let left-rep : (s : Box (Fixed 32) (Fixed b.size)) (x : Fixed b.size) → Rep b a.disk.now a.flash.now a.addrs.now a.blocks.now s → Sure b s
     → x.0 ≡ a.block.now → Rep (with_held b c.step-d.result.held) c.step-d.new.disk c.step-d.new.flash c.step-d.new.addrs c.step-d.new.blocks
     (stepped s x).box = λ s x h sd ex.
-        let p = c.requires.disk_len.1 in
-        step-rep b (stepped s x) c.step-d.result.held c.step-d.result.flashed c.step-d.result.primary _ _ _ _
-        (sound-step (engine b) (numbers_of b) s (asked s x) sd p.0 p.1 p.3) h.rows_are.small h.blocks-are.small (left_is s x h sd ex) in
+    let p = c.requires.disk_len.1 in
+    step-rep b (stepped s x) c.step-d.result.held c.step-d.result.flashed c.step-d.result.primary _ _ _ _
+    (sound-step (engine b) (numbers_of b) s (asked s x) sd p.0 p.1 p.3) h.rows_are.small h.blocks-are.small (left_is s x h sd ex) in
     let w = c.step-d in
     let p = c.place_of-j in
     let l = c.limit_rows-more in

@@ -17,4 +17,3 @@ returns-in-Through c =
 pub returns-in-Back : goal.returns-in-Back
 returns-in-Back c =
     rw c.in-Back.is c.serve_back.ensures
-

@@ -7,7 +7,6 @@ use Rattle.tables.specs.Rows.{rows}
 use Rattle.tables.specs.RowLaws.{rows-length, turn-hit, turn-miss, turn_end}
 use Rattle.tables.specs.Find.{find_from, caches}
 use Rattle.tables.specs.Index.{bucket, choice, In, onward, Goes}
-
 use Rattle.checks.proofs.index.walk.Goals as goal
 use Rattle.checks.proofs.index.walk.Goals.{After-wide-k}
 
@@ -44,7 +43,7 @@ loop-k-preserved c =
     let p = goes c in
     let m = onward a.heads.now k in
     let P : ℕ → Type 0 = λ y. (find_from (caches g) a.from (drop a.from rs) ≡ find_from (caches g) y (drop y rs)) × (a.from ≤ y)
-        × (y < length rs → In (choice a.heads.now) rs (bucket (choice a.heads.now) g) y) in
+    × (y < length rs → In (choice a.heads.now) rs (bucket (choice a.heads.now) g) y) in
     let r : P m = (
       i.0 ∙ turn-miss (caches g) a.d a.t.now k h (sym c.caches_fingerprint.ensures ∙ c.if-caches_fingerprint.false) ∙ p.1.1 g refl,
       omega (arith, i.1, p.0),
