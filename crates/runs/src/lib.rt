@@ -1,4 +1,2 @@
-#![tactic(auto)]
-
 // Replays computed from the definition: inputs beside their whole outputs; no code.
 #![tactic(auto)]
