@@ -2,7 +2,7 @@
 use Rattle.std.specs.Prelude.{◌≡◌, cond, List, [], ◌∷◌, ◌++◌, ℕ, suc, ◌-◌, ◌*◌, ◌≤◌, ◌<◌, eqb, ltb, length}
 use Rattle.tables.specs.Rows.{zeros, remove_at}
 use Rattle.arc.specs.ArcLent.{word_bytes}
-use Rattle.arc.proofs.ArcEnds.{insert_at, rotated}
+use Rattle.arc.specs.ArcEnds.{insert_at, rotated}
 
 -- "end to end in m × 4 bytes, little-endian, zeros after": the bytes of the addresses ws
 unfoldable pub listed : ℕ → List ℕ → List ℕ

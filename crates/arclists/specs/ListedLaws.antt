@@ -9,8 +9,8 @@ use Rattle.tables.specs.OperationLaws.{length-remove_at}
 use Rattle.table_laws.specs.Written.{zeros-add, drop-zeros}
 use Rattle.arc.specs.ArcLent.{word_bytes, end_to_end, list_bytes}
 use Rattle.arc.specs.Arc.{Lists}
-use Rattle.arc.proofs.ArcEnds.{insert_at, rotated}
-use Rattle.arc.proofs.ArcLentLaws.{length-words}
+use Rattle.arc.specs.ArcEnds.{insert_at, rotated}
+use Rattle.arc.specs.ArcLentLaws.{length-words}
 use Rattle.arclists.specs.Listed.{listed}
 
 -- the lists' bytes

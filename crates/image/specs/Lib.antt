@@ -5,3 +5,12 @@ pub mod Area
 pub mod Image
 pub mod Kinds
 pub mod Saved
+pub mod Examples
+-- laws
+pub mod BodyLaws
+pub mod AreaLaws
+pub mod ImageLaws
+pub mod KindLaws
+pub mod SavedLaws
+pub mod BoxLaws
+pub mod CutLaws

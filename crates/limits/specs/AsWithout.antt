@@ -9,7 +9,7 @@ use Rattle.paper.specs.Demand3.{number_of, next, returned, said_word}
 use Rattle.arc.specs.Arc.{Sizes, m_of}
 use Rattle.arc.specs.ArcLent.{ArcLent, arc_call, arc_opened}
 use Rattle.arc.specs.ArcFolder.{arc_folder_call}
-use Rattle.arc.proofs.ArcDemand.{arc_number, arc_next, arc_returned}
+use Rattle.arc.specs.ArcDemand.{arc_number, arc_next, arc_returned}
 
 -- What is compared of a call that gets a number: of a single one its word, a read's hit or miss, and the block that it returns; of a folder read the hits and
 -- the buffer. A report has the dirty bytes, which the limit changes: its number alone. A recount has no more.

@@ -11,7 +11,7 @@ use Rattle.arc.specs.Arc.{Sizes}
 use Rattle.arc.specs.ArcLent.{ArcLent, arc_call}
 use Rattle.arc.specs.ArcFolder.{arc_folder_call}
 use Rattle.arc.specs.ArcReports.{arc_report_refusal, arc_reported}
-use Rattle.arc.proofs.ArcDemand.{arc_next}
+use Rattle.arc.specs.ArcDemand.{arc_next}
 
 -- "the same calls but different seat numbers": a call but for its seat number
 abbrev pub bare_ask : Ask → Ask

@@ -9,7 +9,7 @@ use lib.ListN.{length}
 use borrow.Author.Tests.{eqb-false}
 use Rattle.block.specs.Blocks.{part}
 use Rattle.paper.specs.KeyedLaws.{by-test, by-option}
-use Rattle.paper.proofs.RowBytes.{Bytes}
+use Rattle.paper.specs.RowBytes.{Bytes}
 use Rattle.paper.specs.Cache.{Numbers, Counters, row_with_block}
 use Rattle.paper.specs.Engine.{labelled}
 use Rattle.paper.specs.Lent.{Lent, Ask, calling, refusal, box_in, call}

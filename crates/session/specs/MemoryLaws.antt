@@ -11,10 +11,10 @@ use Rattle.table_laws.specs.Written.{fresh-addresses-length, fresh-blocks-length
 use Rattle.paper.specs.KeyedLaws.{by-test, and_left, and_right, or-false-left, or-false-right}
 use Rattle.paper.specs.Cache.{Numbers, Word, hit, miss, same_block, new_block, from_cache, from_disk, done}
 use Rattle.paper.specs.Lent.{Lent, Ask, calling, Answer, refused, answered, refusal, unfit, fresh}
-use Rattle.paper.proofs.LentLaws.{Lengths}
-use Rattle.paper.proofs.RefusalLaws.{keeps}
-use Rattle.paper.proofs.CallLaws as Calls
-use Rattle.paper.proofs.CallLaws.{served-passes}
+use Rattle.paper.specs.LentLaws.{Lengths}
+use Rattle.paper.specs.RefusalLaws.{keeps}
+use Rattle.paper.specs.CallLaws as Calls
+use Rattle.paper.specs.CallLaws.{served-passes}
 use Rattle.refusals.specs.Sizes.{most}
 use Rattle.lines.specs.Lines.{parsed}
 use Rattle.lines.specs.declared.Command.{Command}

@@ -14,7 +14,7 @@ use Rattle.paper.specs.Lent.{calling}
 use Rattle.arc.specs.Policy.{serve_by}
 use Rattle.arc.specs.Arc.{arc}
 use Rattle.arc.specs.ArcLent.{arc_refusal}
-use Rattle.arc.proofs.ArcDemand.{lists_of, box_of}
+use Rattle.arc.specs.ArcDemand.{lists_of, box_of}
 use Rattle.refusals.specs.Given.{counters_of}
 use Rattle.parts.specs.Rep.{engine}
 use Rattle.serve.specs.Calls.{is_yes}

@@ -4,7 +4,7 @@ use mathlib.Core.List.{[], ◌∷◌}
 use Rattle.std.proofs.Common.{rules}
 use Rattle.paper.specs.Cache.{Numbers}
 use Rattle.paper.specs.Lent.{unfit, limit_outside, with_label}
-use Rattle.paper.proofs.RefusalLaws.{NoneOf}
+use Rattle.paper.specs.RefusalLaws.{NoneOf}
 use Rattle.parts.specs.Rep.{numbers_of}
 use Rattle.refusals.specs.Sizes.{most}
 use Rattle.exam.specs.Contract.{too_large}

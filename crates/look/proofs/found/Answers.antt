@@ -2,7 +2,7 @@
 use native.Mathlib.Omega.{arith}
 use Rattle.paper.specs.Cache.{no_counts}
 use Rattle.paper.specs.Lent.{Ask, box_in}
-use Rattle.paper.proofs.RowBytes.{Bytes}
+use Rattle.paper.specs.RowBytes.{Bytes}
 use Rattle.parts.specs.Rep.{numbers_of}
 use Rattle.refusals.specs.Given.{lent}
 use Rattle.policy.specs.CallLaws.{all-bytes, rep, sized}

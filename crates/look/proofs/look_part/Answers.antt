@@ -8,7 +8,7 @@ use Rattle.paper.specs.Cache.{Counters, no_counts}
 use Rattle.paper.specs.Lent.{Ask, call}
 use Rattle.parts.specs.Rep.{numbers_of}
 use Rattle.refusals.specs.Given.{lent}
-use Rattle.paper.proofs.RowBytes.{Bytes}
+use Rattle.paper.specs.RowBytes.{Bytes}
 use Rattle.look.specs.Look.{where_is, part_at}
 use Rattle.policy.specs.CallLaws.{all-bytes}
 use Rattle.look.specs.LookLaws.{PartIn, where-in, look-returns}

@@ -6,7 +6,7 @@ use native.Mathlib.Omega.{arith}
 use lib.ListN.{length}
 use Rattle.std.proofs.Common.{rules}
 use borrow.Author.Tests.{not-true, not-false}
-use Rattle.paper.proofs.RowBytes.{Bytes}
+use Rattle.paper.specs.RowBytes.{Bytes}
 use Rattle.policy.specs.CallLaws.{all-bytes}
 use Rattle.fields.specs.Fields.{fitting}
 use Rattle.fields.specs.FieldLaws.{get8-below}

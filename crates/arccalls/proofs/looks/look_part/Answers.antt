@@ -4,7 +4,7 @@ use native.Mathlib.Omega.{arith}
 use Rattle.std.proofs.Common.{rules}
 use Rattle.paper.specs.Cache.{Counters, no_counts}
 use Rattle.paper.specs.Lent.{Ask}
-use Rattle.paper.proofs.RowBytes.{Bytes}
+use Rattle.paper.specs.RowBytes.{Bytes}
 use Rattle.arc.specs.ArcLent.{arc_call}
 use Rattle.look.specs.Look.{part_at}
 use Rattle.look.specs.LookLaws.{PartIn}

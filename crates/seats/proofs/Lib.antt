@@ -1,8 +1,0 @@
-pub mod Alike
-pub mod ArcTwoRuns
--- lemmas
-pub mod BareCalls
-pub mod ReportLaws
-pub mod TwoRunsLaws
--- the theorems, for D-LRU and for D-ARC; two runs computed; the reports' refusals
-pub mod TwoRunsWorked
