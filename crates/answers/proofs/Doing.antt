@@ -8,7 +8,7 @@ use lib.ListN.{take, replicate}
 use Rattle.paper.specs.Cache.{Counters}
 use Rattle.paper.specs.Lent.{Lent, Ask, call}
 use Rattle.paper.specs.RowBytes.{Bytes}
-use Rattle.paper.specs.CallLaws.{look-keeps}
+use Rattle.paper.proofs.CallLaws.{look-keeps}
 use Rattle.parts.specs.declared.BoxRecord.{BoxRecord}
 use Rattle.parts.specs.Rep.{numbers_of}
 use Rattle.refusals.specs.Given.{lent}

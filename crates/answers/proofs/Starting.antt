@@ -7,7 +7,7 @@ use lib.ListN.{length, replicate}
 use borrow.Author.Tests.{eq-eqb}
 use Rattle.paper.specs.Cache.{Numbers, Counters}
 use Rattle.paper.specs.Lent.{Lent, wrong_buffers, fresh, with_label}
-use Rattle.paper.specs.RefusalLaws.{exactly-opening, opened-is, label-carried}
+use Rattle.paper.proofs.RefusalLaws.{exactly-opening, opened-is, label-carried}
 use Rattle.parts.specs.declared.BoxRecord.{BoxRecord}
 use Rattle.parts.specs.Rep.{numbers_of}
 use Rattle.refusals.specs.Given.{counters_of, lent}

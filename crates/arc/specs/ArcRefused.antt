@@ -27,25 +27,25 @@ abbrev numbers : ℕ → ℕ → ℕ → ℕ → Sizes
 numbers B P C X = record { B = B; P = P; C = C; X = X; label = replicate 64 0; t = C + C + X }
 
 -- Blocks of 64 bytes, four on disk; C 2 and X 1, so m is 5.
-abbrev small : Sizes
+abbrev pub small : Sizes
 small = numbers 64 4 2 1
 
 -- its label of so many bytes
-abbrev labelled_by : ℕ → Sizes
+abbrev pub labelled_by : ℕ → Sizes
 labelled_by k = record { B = 64; P = 4; C = 2; X = 1; label = replicate k 7; t = 5 }
 
 -- so many of its rows may be dirty
 abbrev up_to : ℕ → Sizes
 up_to limit = record { B = 64; P = 4; C = 2; X = 1; label = replicate 64 0; t = limit }
 
-abbrev filled : ℕ → List ℕ
+abbrev pub filled : ℕ → List ℕ
 filled k = replicate 64 k
 
-abbrev print : ℕ → List ℕ
+abbrev pub print : ℕ → List ℕ
 print k = replicate 32 k
 
 -- an address row, which the seat 0x0807 wrote
-abbrev row : ℕ → List ℕ → ℕ → AddressRow
+abbrev pub row : ℕ → List ℕ → ℕ → AddressRow
 row a g x = address_row a g x (7, 8)
 
 abbrev memory : List AddressRow → ℕ → Lent
@@ -71,7 +71,7 @@ four = memory (row 0 (print 1) 0 ∷ row 1 (print 1) 1 ∷ row 2 (print 2) 0 ∷
 abbrev dirty_two : Lent
 dirty_two = memory (row 0 (print 1) 1 ∷ row 1 (print 1) 1 ∷ row 2 (print 2) 0 ∷ row 3 (print 2) 0 ∷ []) 4
 
-abbrev sizes : ℕ → ℕ → ℕ → ℕ → ℕ → ℕ → ListRecord
+abbrev pub sizes : ℕ → ℕ → ℕ → ℕ → ℕ → ℕ → ListRecord
 sizes t1 t2 b1 b2 b3 p = record { t1 = t1; t2 = t2; b1 = b1; b2 = b2; b3 = b3; p = p }
 
 -- a box with its lists' names end to end and zeros after
@@ -79,7 +79,7 @@ abbrev box : Lent → ListRecord → List ℕ → ArcLent
 box b r names = record { base = b; sizes = r; lists = take 20 (word_bytes names ++ replicate 20 0) }
 
 -- T1 has 1, T2 has 3, B1 has 0
-abbrev right : ArcLent
+abbrev pub right : ArcLent
 right = box three (sizes 1 1 1 0 0 1) (1 ∷ 3 ∷ 0 ∷ [])
 
 abbrev byte : ℕ → ℕ → ArcLent
@@ -198,18 +198,6 @@ table =
     ∷ opens 64 4 2 1020 2
     ∷ []
 
-pub refusals-given : map (λ c. arc_refusal c.numbers c.lent c.asked) table ≡ map (λ c. c.number) table
-unfolding arc_refusal Bytes.unfit_arc Bytes.words word_bytes Bytes.misnamed Bytes.oversized Bytes.lists_unsound Bytes.top_uncached Lent.wrong_buffers Lent.over
-    Lent.box_in Lent.split Lent.free_slots Lent.used_rows Engine.fit Rows.rows Rows.flat Rows.zeros Records.address_bytes Records.block_bytes Records.read_address
-    Records.read_block address_table block_table Records.held_rows Records.block_rows Find.any Find.all Find.same Unsound.elem Unsound.twice Unsound.count
-    Unsound.addresses_unsound Unsound.free_after_used Unsound.each_once Unsound.used_twice Unsound.blocks_unsound Unsound.dirty_uncached
-refusals-given = refl
-
-pub labels-after : (arc_label_after (labelled_by 64) right ≡ replicate 64 7) × (arc_label_after (labelled_by 63) right ≡ replicate 64 0)
-unfolding arc_label_after arc_refusal Bytes.unfit_arc Lent.wrong_buffers Unsound.elem Rows.zeros Rows.flat address_table block_table Records.address_bytes
-    Records.block_bytes word_bytes
-labels-after = (refl, refl)
-
 -- folder reads of these addresses, with a buffer of so many blocks and bytes more
 pub record FolderCase : Type 0 where
   pub numbers : Sizes
@@ -239,13 +227,6 @@ folders =
     ∷ record { numbers = up_to 0; lent = right; asked = []; buffer = 0 ∷ []; number = 12 }
     ∷ record { numbers = up_to 1; lent = box dirty_two (sizes 2 1 1 0 0 0) (0 ∷ 1 ∷ 2 ∷ 3 ∷ []); asked = 1 ∷ []; buffer = filled 0; number = 13 }
     ∷ []
-
-pub folder-refusals-given : map (λ c. arc_folder_refusal c.numbers c.lent c.asked c.buffer) folders ≡ map (λ c. c.number) folders
-unfolding arc_folder_refusal Bytes.unfit_arc Bytes.words word_bytes Bytes.misnamed Bytes.oversized Bytes.lists_unsound Bytes.top_uncached Lent.wrong_buffers
-    Lent.over Lent.box_in Lent.split Lent.free_slots Lent.used_rows Engine.fit Rows.rows Rows.flat Rows.zeros Records.address_bytes Records.block_bytes
-    Records.read_address Records.read_block address_table block_table Records.held_rows Records.block_rows Find.any Find.all Find.same Unsound.elem Unsound.twice
-    Unsound.count Unsound.addresses_unsound Unsound.free_after_used Unsound.each_once Unsound.used_twice Unsound.blocks_unsound Unsound.dirty_uncached
-folder-refusals-given = refl
 
 -- reports, in so many bytes: 5 rows of 7 for the manager and of 5 for the desk
 pub record ReportCase : Type 0 where
@@ -300,59 +281,3 @@ report_cases =
     -- 11 before 2
     ∷ record { numbers = numbers 64 4 2 1021; lent = right; reader = desk; bytes = 24; number = 11 }
     ∷ []
-
-pub report-refusals-given : map (λ c. arc_report_refusal c.numbers c.lent c.reader (replicate c.bytes 0)) report_cases
-    ≡ map (λ c. c.number) report_cases
-unfolding arc_report_refusal Bytes.unfit_arc Bytes.words word_bytes Bytes.misnamed Bytes.oversized Bytes.lists_unsound Bytes.top_uncached Lent.wrong_buffers
-    Lent.over Lent.box_in Lent.split Lent.free_slots Lent.used_rows Engine.fit Rows.rows Rows.flat Rows.zeros Records.address_bytes Records.block_bytes
-    Records.read_address Records.read_block address_table block_table Records.held_rows Records.block_rows Find.any Find.all Find.same Unsound.elem Unsound.twice
-    Unsound.count Unsound.addresses_unsound Unsound.free_after_used Unsound.each_once Unsound.used_twice Unsound.blocks_unsound Unsound.dirty_uncached
-report-refusals-given = refl
-
--- "The manager's report gives address, dirty byte and seat of every held row, oldest first, in m × 7 lent bytes; the desk's gives address and dirty
--- byte only, in m × 5; zeros follow."
-pub managers-report : arc_reported small right manager (replicate 35 9)
-    ≡ 0 ∷ 0 ∷ 0 ∷ 0 ∷ 0 ∷ 7 ∷ 8 ∷ 1 ∷ 0 ∷ 0 ∷ 0 ∷ 1 ∷ 7 ∷ 8 ∷ 3 ∷ 0 ∷ 0 ∷ 0 ∷ 0 ∷ 7 ∷ 8 ∷ replicate 14 0
-unfolding arc_reported Reports.report_of arc_report_refusal Bytes.unfit_arc Bytes.words word_bytes Bytes.misnamed Bytes.oversized Bytes.lists_unsound
-    Bytes.top_uncached Lent.wrong_buffers
-    Lent.over Lent.box_in Lent.split Lent.free_slots Lent.used_rows Engine.fit Rows.rows Rows.flat Rows.zeros Records.address_bytes Records.block_bytes
-    Records.read_address Records.read_block address_table block_table Records.held_rows Records.block_rows Find.any Find.all Find.same Unsound.elem Unsound.twice
-    Unsound.count Unsound.addresses_unsound Unsound.free_after_used Unsound.each_once Unsound.used_twice Unsound.blocks_unsound Unsound.dirty_uncached
-managers-report = refl
-
--- and one that is refused keeps its bytes
-pub desks-report : (arc_reported small right desk (replicate 25 9) ≡ 0 ∷ 0 ∷ 0 ∷ 0 ∷ 0 ∷ 1 ∷ 0 ∷ 0 ∷ 0 ∷ 1 ∷ 3 ∷ 0 ∷ 0 ∷ 0 ∷ 0 ∷ replicate 10 0)
-    × (arc_reported small right desk (replicate 24 9) ≡ replicate 24 9)
-unfolding arc_reported Reports.report_of arc_report_refusal Bytes.unfit_arc Bytes.words word_bytes Bytes.misnamed Bytes.oversized Bytes.lists_unsound
-    Bytes.top_uncached Lent.wrong_buffers
-    Lent.over Lent.box_in Lent.split Lent.free_slots Lent.used_rows Engine.fit Rows.rows Rows.flat Rows.zeros Records.address_bytes Records.block_bytes
-    Records.read_address Records.read_block address_table block_table Records.held_rows Records.block_rows Find.any Find.all Find.same Unsound.elem Unsound.twice
-    Unsound.count Unsound.addresses_unsound Unsound.free_after_used Unsound.each_once Unsound.used_twice Unsound.blocks_unsound Unsound.dirty_uncached
-desks-report = (refl, refl)
-
--- A read of address 1 is a hit (nothing is hashed): it goes from T1 to T2, its row and its block row become newest.
-pub a-hit-in-bytes : arc_call small right (Ask.read 1 (filled 0))
-    ≡ record {
-      answer = answered hit 0 0;
-      lent = record {
-        base = record {
-          n = 3;
-          disk = filled 4 ++ (filled 5 ++ (filled 6 ++ filled 7));
-          flash = filled 8 ++ filled 9;
-          addresses = address_table 5 (row 0 (print 3) 0 ∷ row 3 (print 2) 0 ∷ row 1 (print 1) 1 ∷ []);
-          blocks = block_table (block_row (print 2) 1 1 ∷ block_row (print 1) 0 1 ∷ []);
-          counters = record { reads = 1; hits = 1; flash_writes = 0; primary_writes = 0 };
-        };
-        sizes = sizes 0 2 1 0 0 1;
-        lists = take 20 (word_bytes (3 ∷ 1 ∷ 0 ∷ []) ++ replicate 20 0);
-      };
-      block = some (filled 8);
-      part = [];
-    }
-unfolding arc_call arc_refusal Bytes.arc_served Bytes.arc_lent_of Bytes.list_bytes Bytes.parts Bytes.unfit_arc Bytes.words word_bytes Bytes.misnamed Bytes.oversized
-    Bytes.lists_unsound Bytes.top_uncached Lent.wrong_buffers Lent.over Lent.box_in Lent.lent_of Lent.split Lent.call_of Lent.free_slots Lent.used_rows Engine.fit
-    Rows.rows Rows.flat Rows.zeros Records.address_bytes Records.block_bytes Records.read_address Records.read_block address_table block_table Records.held_rows
-    Records.block_rows Find.any Find.all Find.same Unsound.elem Unsound.twice Unsound.count Unsound.addresses_unsound Unsound.free_after_used Unsound.each_once
-    Unsound.used_twice Unsound.blocks_unsound Unsound.dirty_uncached Policy.serve_by Policy.answered_by Policy.read_by Cache.if_cached Cache.answer Cache.counted
-    Arc.list_of Arc.new_p Arc.block_newest Arc.inserted Arc.parted Arc.checked Arc.to_t2 Arc.joined Arc.arc_step_as Arc.arc_step
-a-hit-in-bytes = refl

@@ -1120,12 +1120,6 @@ table =
     }
     ∷ []
 
-pub worked-states : map play table ≡ map (λ e. e.seen) table
-unfolding serve_by answered_by read_by through_by back_by freed oldest_unknown taken_used stored if_cached answer dropped write_invalidate look_as flushed list_of new_p
-    takes_t1 top_rows row_out evicted room_in_b replace manage check has_row cleared taken_by stored_in block_newest inserted parted checked to_t2 joined arc_step_as
-    arc_step
-worked-states = refl
-
 -- Folder reads: the blocks of the buffer, what the call counts of its own, and the lists and the box after it
 pub record FolderSeen : Type 0 where
   pub blocks : List ℕ
@@ -1221,8 +1215,3 @@ folders =
       };
     }
     ∷ []
-
-pub worked-folders : map play_folder folders ≡ map (λ e. e.seen) folders
-unfolding folder folder_read answered_by read_by freed oldest_unknown taken_used stored if_cached answer list_of new_p takes_t1 top_rows row_out evicted room_in_b replace
-    manage check has_row cleared taken_by stored_in block_newest inserted parted checked to_t2 joined arc_step_as arc_step
-worked-folders = refl

@@ -12,22 +12,14 @@ pub mod ArcDemand
 -- the theorems: demand 3 of every list in bytes; D-LRU's calls over its policy; what a policy must promise and what follows; D-ARC's laws of every
 -- list of calls; the loop and the lists in the request's words; few writes; the refusals, exactly
 pub mod ArcDemandLaws
-pub mod LruServes
 pub mod Promise
-pub mod FolderLaws
-pub mod ArcLaws
-pub mod ArcSays
-pub mod ArcFew
 pub mod ArcExactly
 -- lemmas
 pub mod Tally
 pub mod PlainRows
 pub mod ArcMid
 pub mod ArcRuns
-pub mod ArcStore
 pub mod ArcStep
-pub mod ArcFair
-pub mod ArcLentLaws
 -- for code on lent bytes: the test for 6 in one pass, and the moves of the lists end to end
 pub mod ArcTicks
 pub mod ArcEnds

@@ -11,7 +11,7 @@ use Rattle.paper.specs.Cache.{row_with_block, write_invalidate}
 use Rattle.paper.specs.Engine.{Fixed, fit}
 use Rattle.tables.specs.Records.{bytes2}
 use Rattle.paper.specs.Lent.{Ask, calling, call_of, lent_of, answered, block_after, part_after, address_of, lent_block, counts, over}
-use Rattle.paper.specs.CallLaws.{not-over}
+use Rattle.paper.proofs.CallLaws.{not-over}
 use Rattle.paper.specs.Layout.{addresses_of, blocks_of}
 use Rattle.paper.specs.RowBytes.{Bytes}
 use Rattle.arc.specs.Policy.{Served, answered_by, read_by, through_by, back_by, serve_by}
@@ -21,9 +21,9 @@ use Rattle.serve.specs.Calls.{is_yes, writing}
 use Rattle.arc.specs.Arc.{Sizes, Lists, base_numbers, m_of, arc}
 use Rattle.arc.specs.ArcStep.{ArcSound}
 use Rattle.arc.specs.ArcLent.{ArcLent, ListRecord, words, total_of, arc_refusal, arc_lent_of, arc_served}
-use Rattle.arc.specs.ArcLentLaws.{length-words-in}
+use Rattle.arc.proofs.ArcLentLaws.{length-words-in}
 use Rattle.arc.specs.ArcDemand.{lists_of, box_of}
-use Rattle.arc.specs.ArcDemandLaws.{Found, found, served-is, passes-right}
+use Rattle.arc.proofs.ArcDemandLaws.{Found, found, served-is, passes-right}
 use Rattle.arclists.specs.declared.ListSizes.{ListSizes}
 use Rattle.arclists.specs.Holding.{Holds}
 use Rattle.parts.specs.Rep.{Rep, with_held, engine}

@@ -12,16 +12,16 @@ use Rattle.paper.specs.Cache.{Counters, serve}
 use Rattle.paper.specs.Engine.{labelled}
 use Rattle.paper.specs.Lent as Lent
 use Rattle.paper.specs.Lent.{Ask, calling, lent_block, wrong_buffers, wrong_block, other_length, refusal, call_of, served, call, After}
-use Rattle.paper.specs.RefusalLaws as Base
-use Rattle.paper.specs.RefusalLaws.{exactly}
+use Rattle.paper.proofs.RefusalLaws as Base
+use Rattle.paper.proofs.RefusalLaws.{exactly}
 use Rattle.arc.specs.Policy.{serve_by}
 use Rattle.arc.specs.Arc.{Sizes, base_numbers, m_of}
 use Rattle.arc.specs.ArcLent.{ArcLent, ArcAfter, ListRecord, words, total_of, list_record, list_bytes, misnamed, oversized, lists_unsound, top_uncached}
 use Rattle.arc.specs.ArcLent.{unfit_arc, tops_in, wrong_arc_buffers, arc_refusal, arc_lent_of, arc_served, arc_call}
 use Rattle.arc.specs.ArcDemand.{lists_of, box_of}
-use Rattle.arc.specs.ArcDemandLaws.{ArcPasses, found, served-is, arc-keeps}
-use Rattle.arc.specs.ArcExactly.{arc-exactly}
-use Rattle.arc.specs.ArcLentLaws.{length-words-in}
+use Rattle.arc.proofs.ArcDemandLaws.{ArcPasses, found, served-is, arc-keeps}
+use Rattle.arc.proofs.ArcExactlyLaws.{arc-exactly}
+use Rattle.arc.proofs.ArcLentLaws.{length-words-in}
 use Rattle.refusals.specs.Given.{counters_of, lent}
 use Rattle.policy.specs.declared.calls.Outcome.{Outcome}
 use Rattle.policy.specs.declared.Answer.TheVariants.{Refused}

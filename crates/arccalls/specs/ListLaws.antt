@@ -12,7 +12,7 @@ use Rattle.tables.specs.Find.{any}
 use Rattle.tables.specs.Unsound.{nonzero}
 use Rattle.paper.specs.KeyedLaws.{or-false-left, or-false-right}
 use Rattle.arc.specs.ArcLent.{ListRecord, words, word_bytes, total_of, parts, lists_in, end_to_end, list_bytes, list_record}
-use Rattle.arc.specs.ArcLentLaws.{part-sizes, length-words-in}
+use Rattle.arc.proofs.ArcLentLaws.{part-sizes, length-words-in}
 
 -- the sizes of the lists found
 module _ (r : ListRecord) (w : List ℕ) (e : length w ≡ total_of r) where

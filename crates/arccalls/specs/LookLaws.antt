@@ -6,14 +6,14 @@ use Rattle.std.proofs.lemmas.Bool.{eqb-false}
 use Rattle.paper.specs.KeyedLaws.{by-test}
 use Rattle.paper.specs.Cache.{Counters}
 use Rattle.paper.specs.RowBytes.{Bytes}
-use Rattle.paper.specs.LentForth.{lent-forth}
-use Rattle.paper.specs.LentLaws.{passes-sound}
-use Rattle.paper.specs.Demand3Laws.{look-stays}
+use Rattle.paper.proofs.LentForth.{lent-forth}
+use Rattle.paper.proofs.LentLaws.{passes-sound}
+use Rattle.paper.proofs.Demand3Laws.{look-stays}
 use Rattle.paper.specs.Lent.{box_in, lent_of, Ask, calling, refusal, call, After}
-use Rattle.paper.specs.RefusalLaws as Base
+use Rattle.paper.proofs.RefusalLaws as Base
 use Rattle.arc.specs.Arc.{Sizes, base_numbers}
 use Rattle.arc.specs.ArcLent.{ArcLent, ArcAfter, arc_refusal, arc_call}
-use Rattle.arc.specs.ArcDemandLaws.{found, served-is, arc-keeps}
+use Rattle.arc.proofs.ArcDemandLaws.{found, served-is, arc-keeps}
 use Rattle.parts.specs.declared.BoxRecord.{BoxRecord}
 use Rattle.parts.specs.Rep.{numbers_of}
 use Rattle.refusals.specs.Given.{lent}

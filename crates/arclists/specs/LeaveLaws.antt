@@ -7,8 +7,9 @@ use Rattle.paper.specs.KeyedLaws.{by-test, without-absent}
 use Rattle.arc.specs.Arc.{Lists, list_of, left, is_in, out, join_t1, join_t2}
 use Rattle.arc.specs.Tally.{count, tally-append, tally-has, tally-none, length_without}
 use Rattle.arc.specs.ArcLent.{words, list_bytes, end_to_end}
-use Rattle.arc.specs.ArcLentLaws.{words_back}
-use Rattle.arc.specs.ArcEnds.{end-left, end-join_t1, end-join_t2, insert_at}
+use Rattle.arc.proofs.ArcLentLaws.{words_back}
+use Rattle.arc.specs.ArcEnds.{insert_at}
+use Rattle.arc.proofs.ArcEndsLaws.{end-left, end-join_t1, end-join_t2}
 use Rattle.arclists.specs.declared.ListSizes.{ListSizes}
 use Rattle.arclists.specs.Listed.{listed, place_of, TakesOut, Inserts}
 use Rattle.arclists.specs.ListedLaws.{lists-listed}

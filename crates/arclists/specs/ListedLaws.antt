@@ -10,7 +10,7 @@ use Rattle.table_laws.specs.Written.{zeros-add, drop-zeros}
 use Rattle.arc.specs.ArcLent.{word_bytes, end_to_end, list_bytes}
 use Rattle.arc.specs.Arc.{Lists}
 use Rattle.arc.specs.ArcEnds.{insert_at, rotated}
-use Rattle.arc.specs.ArcLentLaws.{length-words}
+use Rattle.arc.proofs.ArcLentLaws.{length-words}
 use Rattle.arclists.specs.Listed.{listed}
 
 -- the lists' bytes

@@ -5,8 +5,9 @@ use Rattle.tables.specs.Rows.{remove_at}
 use Rattle.arc.specs.Arc.{Lists, t1b1, t2b2, t1b3, b1b3, b2b3, b1_out, b2_out, b3_out}
 use Rattle.arc.specs.Tally.{first_one, length_none}
 use Rattle.arc.specs.ArcLent.{list_bytes, end_to_end}
-use Rattle.arc.specs.ArcLentLaws.{total-end}
-use Rattle.arc.specs.ArcEnds.{rotated, end-t1b1, end-t2b2, end-t1b3, end-b1b3, end-b2b3, end-b1_out, end-b2_out, end-b3_out}
+use Rattle.arc.proofs.ArcLentLaws.{total-end}
+use Rattle.arc.specs.ArcEnds.{rotated}
+use Rattle.arc.proofs.ArcEndsLaws.{end-t1b1, end-t2b2, end-t1b3, end-b1b3, end-b2b3, end-b1_out, end-b2_out, end-b3_out}
 use Rattle.arclists.specs.declared.ListSizes.{ListSizes}
 use Rattle.arclists.specs.Listed.{listed, Rotates, Removes}
 use Rattle.arclists.specs.ListedLaws.{lists-listed}

@@ -18,8 +18,9 @@ use Rattle.paper.specs.KeyedLaws.{and_left, and_right, eqb→≡, eqb-self, All,
 use Rattle.arc.specs.Arc.{is_in, out}
 use Rattle.arc.specs.Tally.{count, tally-has, tally-some, tally-distinct, tally-append, tally-without-other}
 use Rattle.arc.specs.ArcLent.{misnamed, words}
-use Rattle.arc.specs.ArcLentLaws.{same_length, length-words-in}
-use Rattle.arc.specs.ArcTicks.{ticked, ticks-tell, named-same, same-named}
+use Rattle.arc.proofs.ArcLentLaws.{same_length, length-words-in}
+use Rattle.arc.specs.ArcTicks.{ticked}
+use Rattle.arc.proofs.ArcTicksLaws.{ticks-tell, named-same, same-named}
 use Rattle.arclists.specs.Names.{possible, fine}
 
 abbrev Once : List ℕ → Type 0

@@ -6,10 +6,10 @@ use borrow.Author.Tests.{lt-ltb, le-ltb}
 use Rattle.tables.specs.Rows.{le4}
 use Rattle.arc.specs.Arc.{Lists, is_nil, takes_t1}
 use Rattle.arc.specs.ArcLent.{end_to_end}
-use Rattle.arc.specs.ArcEnds.{get_seam}
+use Rattle.arc.proofs.ArcEndsLaws.{get_seam}
 use Rattle.arclists.specs.declared.ListSizes.{ListSizes}
 use Rattle.arclists.specs.Holding.{total, Sized, Holds, Kept, Low, ghosts, out_of, size_of, start_of, less_of}
-use Rattle.arc.specs.ArcLentLaws.{words-at}
+use Rattle.arc.proofs.ArcLentLaws.{words-at}
 use Rattle.arclists.specs.LeaveLaws.{read_back}
 use Rattle.arclists.specs.MoveLaws.{Some, some_of, holds-b1_out, holds-b2_out, holds-b3_out}
 use Rattle.arclists.specs.Listed.{Removes}

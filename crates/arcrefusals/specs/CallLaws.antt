@@ -6,11 +6,11 @@ use borrow.Author.Tests.{eq-eqb, ne_eqb, eqb-true, not-false}
 use Rattle.paper.specs.KeyedLaws.{All, by-test, or-false-left, or-false-right}
 use Rattle.paper.specs.Cache.{Counters}
 use Rattle.paper.specs.Lent.{Ask, opening, calling, limit_outside, other_length, wrong_buffers, wrong_block, lent_block, over, Test, test, first}
-use Rattle.paper.specs.LentLaws.{right-lengths}
+use Rattle.paper.proofs.LentLaws.{right-lengths}
 use Rattle.arc.specs.Arc.{Sizes, m_of, base_numbers}
 use Rattle.arc.specs.ArcLent.{ArcLent, unfit_arc, wrong_arc_buffers, arc_table_tests, arc_tests, arc_refusal}
-use Rattle.arc.specs.ArcDemandLaws.{arc-fits}
-use Rattle.arc.specs.ArcExactly.{arc-exactly-opening}
+use Rattle.arc.proofs.ArcDemandLaws.{arc-fits}
+use Rattle.arc.proofs.ArcExactlyLaws.{arc-exactly-opening}
 use Rattle.arcrefusals.specs.declared.ArcRecord.{ArcRecord}
 use Rattle.arcrefusals.specs.Given.{sizes_of, arc_lent}
 use Rattle.arcrefusals.specs.Checks.{Fits}

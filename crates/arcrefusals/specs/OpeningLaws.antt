@@ -7,10 +7,10 @@ use borrow.Author.Tests.{lt-ltb, le-ltb, le-leb, lt-leb, leb-true, leb-false, eq
 use Rattle.tables.specs.Unsound.{elem}
 use Rattle.paper.specs.KeyedLaws.{by-test, or_left, or_right, and_left}
 use Rattle.paper.specs.Lent.{opening, between, unfit, limit_outside, other_length, wrong_buffers, refusal}
-use Rattle.paper.specs.RefusalLaws.{exactly-opening}
+use Rattle.paper.proofs.RefusalLaws.{exactly-opening}
 use Rattle.arc.specs.Arc.{Sizes, m_of, base_numbers}
 use Rattle.arc.specs.ArcLent.{ArcLent, unfit_arc, arc_refusal}
-use Rattle.arc.specs.ArcExactly.{arc-exactly-opening}
+use Rattle.arc.proofs.ArcExactlyLaws.{arc-exactly-opening}
 
 -- 11 is 1 of the base's numbers: 2 × C + X is at least 1 where C is
 module _ (Z : Sizes) where

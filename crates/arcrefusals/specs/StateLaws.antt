@@ -16,7 +16,7 @@ use Rattle.paper.specs.KeyedLaws.{by-test, and_left, and_right, or_right, or-fal
 use Rattle.paper.specs.Cache.{Counters}
 use Rattle.paper.specs.Engine.{labelled}
 use Rattle.paper.specs.Lent.{as_held, box_in, first}
-use Rattle.paper.specs.SoundTests.{addresses-good}
+use Rattle.paper.proofs.SoundTestsLaws.{addresses-good}
 use Rattle.arc.specs.Arc.{Sizes, m_of, base_numbers, is_in}
 use Rattle.arc.specs.ArcLent.{words, total_of, misnamed, oversized, lists_unsound, top_uncached, tops_in, arc_table_tests}
 use Rattle.arclists.specs.Names.{possible, fine}

@@ -20,7 +20,7 @@ use Rattle.paper.specs.KeyedLaws.{All, by-test}
 use Rattle.paper.specs.Cache.{Numbers, cached}
 use Rattle.paper.specs.Engine.{Fixed, fit, labelled}
 use Rattle.paper.specs.Lent.{Lent, as_held, used_rows, box_in}
-use Rattle.paper.specs.SoundTests.{held-print-is, cached-is}
+use Rattle.paper.proofs.SoundTestsLaws.{held-print-is, cached-is}
 use Rattle.arc.specs.Arc.{is_in}
 use Rattle.arc.specs.ArcLent.{top_uncached}
 use Rattle.arclists.specs.NameLaws.{mark-test, elem_in, rows-below}

@@ -7,7 +7,8 @@ use Rattle.paper.specs.KeyedLaws.{or-both, or-false-left, or-false-right}
 use Rattle.paper.specs.Cache.{Counters}
 use Rattle.paper.specs.Engine.{labelled}
 use Rattle.paper.specs.Lent.{wrong_buffers, other_length, box_in}
-use Rattle.paper.specs.RefusalLaws.{Apart, gives_none}
+use Rattle.paper.specs.RefusalLaws.{Apart}
+use Rattle.paper.proofs.RefusalLaws.{gives_none}
 use Rattle.paper.specs.RowBytes.{Bytes}
 use Rattle.paper.specs.Reports.{Reader, width, report_tests, report_refusal}
 use Rattle.arc.specs.Arc.{Sizes, base_numbers, m_of}

@@ -9,7 +9,7 @@ use Rattle.paper.specs.Cache.{Counters}
 use Rattle.paper.specs.Lent.{Ask, calling, refused}
 use Rattle.arc.specs.Arc.{Sizes, m_of}
 use Rattle.arc.specs.ArcLent.{ArcLent, unfit_arc, arc_refusal}
-use Rattle.arc.specs.ArcDemandLaws.{arc-fits}
+use Rattle.arc.proofs.ArcDemandLaws.{arc-fits}
 use Rattle.policy.specs.declared.Answer.TheVariants.{Refused}
 use Rattle.counters.specs.declared.Counters as Code
 use Rattle.refusals.specs.Given.{counters_of}
@@ -18,10 +18,10 @@ use Rattle.image.specs.Area.{writes_for, applied, save_writes}
 use Rattle.image.specs.Image.{too_short}
 use Rattle.image.specs.Kinds.{arc_fields, arc_form, kinds}
 use Rattle.image.specs.Saved.{arc_saver, save_refusal}
-use Rattle.image.specs.BodyLaws.{length-body}
+use Rattle.image.proofs.BodyLaws.{length-body}
 use Rattle.image.specs.KindLaws.{Savable}
-use Rattle.image.specs.SavedLaws.{save-number, save-is, save-keeps}
-use Rattle.image.specs.BoxLaws.{arc-found, arc-length, arc-body-length, arc-flush-0, arc-saved}
+use Rattle.image.proofs.SavedLaws.{save-number, save-is, save-keeps}
+use Rattle.image.proofs.BoxLaws.{arc-found, arc-length, arc-body-length, arc-flush-0, arc-saved}
 use Rattle.arcrefusals.specs.declared.ArcRecord.{ArcRecord}
 use Rattle.arcrefusals.specs.Given.{sizes_of, arc_lent}
 use Rattle.arccalls.specs.declared.ArcOutcome.{ArcOutcome}

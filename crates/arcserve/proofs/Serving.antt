@@ -13,16 +13,16 @@ use Rattle.paper.specs.Cache.{Seat, AddressRow, Box, Call, Word, hit, miss, answ
 use Rattle.paper.specs.Cache.{excess, reach, flushed, without_address, dropped, write_invalidate}
 use Rattle.paper.specs.KeyedLaws.{all_map}
 use Rattle.paper.specs.Sound.{Sound}
-use Rattle.paper.specs.Partly.{length-partly}
+use Rattle.paper.proofs.PartlyLaws.{length-partly}
 use Rattle.paper.specs.Layout.{addresses_of}
 use Rattle.paper.specs.Engine.{Fixed}
 use Rattle.arc.specs.Policy.{read_by, answered_by, through_by, back_by, serve_by}
-use Rattle.arc.specs.Promise.{inv-on_disk, inv-serve}
+use Rattle.arc.proofs.PromiseLaws.{inv-on_disk, inv-serve}
 use Rattle.arc.specs.Tally.{count, tally-has, tally-some, tally-distinct}
 use Rattle.arc.specs.ArcLent.{end_to_end}
-use Rattle.arc.specs.ArcLentLaws.{named_end, in-below, all_in}
+use Rattle.arc.proofs.ArcLentLaws.{named_end, in-below, all_in}
 use Rattle.arc.specs.ArcStep.{ArcSound}
-use Rattle.arc.specs.ArcLaws.{arc-promises}
+use Rattle.arc.proofs.ArcLaws.{arc-promises}
 use Rattle.arclists.specs.Holding.{Holds, Low}
 use Rattle.arc.specs.Arc.{Lists, is_in, left, base_numbers, arc, arc_step}
 use Rattle.arclists.specs.declared.ListSizes.{ListSizes}

@@ -12,7 +12,8 @@ use borrow.Author.Tests.{lt-ltb, le-ltb, ltb-true}
 use Rattle.paper.specs.KeyedLaws.{by-test, clash}
 use Rattle.paper.specs.Cache.{Box, known}
 use Rattle.paper.specs.Engine.{Fixed, comparing}
-use Rattle.paper.specs.Index.{index_where, unknown-yes, unknown-no}
+use Rattle.paper.specs.Index.{index_where}
+use Rattle.paper.proofs.IndexLaws.{unknown-yes, unknown-no}
 use Rattle.paper.specs.Layout.{Blocks}
 use Rattle.arc.specs.Arc.{Lists, top_rows, has_row, taken_by, replace, cleared, cleared! }
 use Rattle.arclists.specs.Holding.{Sized}

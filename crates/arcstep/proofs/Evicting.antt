@@ -11,7 +11,7 @@ use lib.ListN.{length, get_or, set, length-set}
 use Rattle.tables.specs.Rows.{remove_at}
 use Rattle.paper.specs.KeyedLaws.{All, by-test, Distinct, distinct_without}
 use Rattle.paper.specs.Cache.{AddressRow, Stepped, row_of}
-use Rattle.paper.specs.Sound.{length-copied}
+use Rattle.paper.proofs.SoundLaws.{length-copied}
 use Rattle.paper.specs.Engine.{Fixed}
 use Rattle.paper.specs.Index.{index_where}
 use Rattle.paper.specs.Layout.{Addrs, addresses_of}

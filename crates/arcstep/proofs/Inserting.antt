@@ -12,10 +12,11 @@ use Rattle.tables.specs.Rows.{remove_at}
 use Rattle.tables.specs.Operations.{row_newest}
 use Rattle.tables.specs.OperationLaws.{length-remove_at}
 use Rattle.paper.specs.KeyedLaws.{All, all_append, all_without, by-test, by-option, clash, Distinct, distinct_snoc, distinct_without, has-without-other, has-without-self}
-use Rattle.paper.specs.Sound.{length-cleaned, all-cleaned, distinct-cleaned, length-copied}
+use Rattle.paper.proofs.SoundLaws.{length-cleaned, all-cleaned, distinct-cleaned, length-copied}
 use Rattle.paper.specs.Cache.{AddressRow, BlockRow, Box, Taken, block_row, without_block, slot_of, cached, cleaned, is_lost, taken_used, stored}
 use Rattle.paper.specs.Engine.{Fixed, comparing}
-use Rattle.paper.specs.Index.{index_where, has-yes, has_no, without-yes}
+use Rattle.paper.specs.Index.{index_where}
+use Rattle.paper.proofs.IndexLaws.{has-yes, has_no, without-yes}
 use Rattle.paper.specs.Layout.{Blocks, blocks_of}
 use Rattle.arc.specs.Arc.{Lists, taken_by, victim_of, stored_in, block_newest, inserted, cleared! }
 use Rattle.parts.specs.declared.BoxRecord.{BoxRecord}

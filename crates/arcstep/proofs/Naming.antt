@@ -15,7 +15,7 @@ use Rattle.arc.specs.Arc.{Lists, is_in, t1b1, t2b2, t1b3, b1b3, b2b3}
 use Rattle.arc.specs.Tally.{count, tally-first, tally-append, tally-has, length_none}
 use Rattle.arc.specs.ArcMid.{named}
 use Rattle.arc.specs.ArcLent.{words, end_to_end}
-use Rattle.arc.specs.ArcLentLaws.{words_take}
+use Rattle.arc.proofs.ArcLentLaws.{words_take}
 use Rattle.arclists.specs.declared.ListSizes.{ListSizes}
 use Rattle.arclists.specs.declared.Ghost.{Ghost}
 use Rattle.arclists.specs.declared.Ghost.TheVariants.{OfB1, OfB2, OfB3}

@@ -17,8 +17,9 @@ use Rattle.arc.specs.Arc.{Lists, Was, is_in, left, with_p, new_p, parted, joined
 use Rattle.arc.specs.Tally.{tally, count, tally-distinct, tally-some, tally-has}
 use Rattle.arc.specs.ArcMid.{named}
 use Rattle.arc.specs.ArcLent.{end_to_end, list_bytes}
-use Rattle.arc.specs.ArcLentLaws.{named_end, in-below, all_in}
-use Rattle.arc.specs.ArcStep.{ArcSound, mid-parted}
+use Rattle.arc.proofs.ArcLentLaws.{named_end, in-below, all_in}
+use Rattle.arc.specs.ArcStep.{ArcSound}
+use Rattle.arc.proofs.ArcStepLaws.{mid-parted}
 use Rattle.arclists.specs.declared.ListSizes.{ListSizes}
 use Rattle.arclists.specs.Holding.{total, Holds, Low}
 use Rattle.parts.specs.declared.BoxRecord.{BoxRecord}

@@ -22,7 +22,8 @@ use Rattle.table_laws.specs.Knowns.{Tells, unmarked-is, place-below}
 use Rattle.paper.specs.KeyedLaws.{All, by-test, clash, has-append}
 use Rattle.paper.specs.Cache.{Numbers, AddressRow, BlockRow, Box, Taken, known, oldest_unknown}
 use Rattle.paper.specs.Engine.{Fixed, labelled, comparing}
-use Rattle.paper.specs.Index.{index_where, unknown-yes, unknown-no}
+use Rattle.paper.specs.Index.{index_where}
+use Rattle.paper.proofs.IndexLaws.{unknown-yes, unknown-no}
 use Rattle.paper.specs.Lent.{held_row}
 use Rattle.paper.specs.Layout.{Addrs, Blocks}
 use Rattle.arc.specs.Arc.{Lists, is_nil, is_in, on_top, top_rows, is_some, has_row, taken_by, victim_of}

@@ -8,12 +8,12 @@ use Rattle.tables.specs.Find.{same}
 use Rattle.paper.specs.KeyedLaws.{by-test}
 use Rattle.area.specs.Given.{fields, body_from}
 use Rattle.arc.specs.ArcLent.{word_bytes}
-use Rattle.arc.specs.ArcLentLaws.{length-words}
+use Rattle.arc.proofs.ArcLentLaws.{length-words}
 use Rattle.image.specs.Body.{Fields, body_of}
 use Rattle.block.specs.Blocks.{splice}
 use Rattle.block.specs.Laws.{length-splice}
 use Rattle.image.specs.Area.{mark, header, clearing, heading, save_writes, padded, put, applied, body_write, body_writes, writes_for}
-use Rattle.image.specs.AreaLaws.{applied-append, length-padded}
+use Rattle.image.proofs.AreaLaws.{applied-append, length-padded}
 
 -- an element behind a list
 pub behind : (xs ys : List ℕ) (i : ℕ) → length xs ≤ i → get_or (xs ++ ys) i 0 ≡ get_or ys (i - length xs) 0

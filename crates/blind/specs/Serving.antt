@@ -6,22 +6,22 @@ use Rattle.std.proofs.Common.{◌∙◌}
 use Rattle.paper.specs.Cache.{Numbers, Hashing, Box, Counters, counted}
 use Rattle.paper.specs.Engine.{Fixed, labelled}
 use Rattle.paper.specs.Lent.{Lent, Ask, call_of, box_in, lent_of}
-use Rattle.paper.specs.LentLaws.{counters-box}
-use Rattle.paper.specs.RefusalLaws.{keeps}
-use Rattle.paper.specs.CallLaws.{served-lent, served-box}
+use Rattle.paper.proofs.LentLaws.{counters-box}
+use Rattle.paper.proofs.RefusalLaws.{keeps}
+use Rattle.paper.proofs.CallLaws.{served-lent, served-box}
 use Rattle.paper.specs.Batch.{start}
 use Rattle.paper.specs.BatchLent.{Asking, one, many, report, recount}
-use Rattle.paper.specs.BatchLentLaws.{batch-keeps, batch-lent, batch-box}
+use Rattle.paper.proofs.BatchLentLaws.{batch-keeps, batch-lent, batch-box}
 use Rattle.paper.specs.Demand3.{number_of, next}
 use Rattle.arc.specs.Policy.{Policy, Served, serve_by, lru}
 use Rattle.arc.specs.Folder as Folder
 use Rattle.arc.specs.Folder.{FolderBy}
-use Rattle.arc.specs.FolderLaws.{lru-folder}
-use Rattle.arc.specs.LruServes.{lru-serves}
+use Rattle.arc.proofs.FolderLaws.{lru-folder}
+use Rattle.arc.proofs.LruServes.{lru-serves}
 use Rattle.arc.specs.Arc.{Sizes, base_numbers, Lists, arc}
 use Rattle.arc.specs.ArcLent.{ArcLent}
 use Rattle.arc.specs.ArcDemand.{lists_of, box_of, arc_number, arc_next}
-use Rattle.arc.specs.ArcDemandLaws as Arc
+use Rattle.arc.proofs.ArcDemandLaws as Arc
 
 -- what passes from call to call: the policy's state, the box and the counters
 pub record State (F X S : Type 0) : Type 0 where

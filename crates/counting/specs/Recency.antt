@@ -9,7 +9,7 @@ use Rattle.std.proofs.Math.ListN.{length, length-append}
 use borrow.Author.Tests.{eqb-false, ltb-true, ltb-false}
 use Rattle.paper.specs.Keyed.{without}
 use Rattle.paper.specs.KeyedLaws.{by-test, either, clash, or_right, or-false-right, eqb→≡, Distinct, has-append, without-append, without-absent}
-use Rattle.paper.specs.Order.{tail-≡, order, has-order}
+use Rattle.paper.proofs.OrderLaws.{tail-≡, order, has-order}
 use Rattle.paper.specs.Machines.{put}
 use Rattle.counting.specs.Told.{occurs, since, distinct}
 

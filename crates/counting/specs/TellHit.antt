@@ -13,10 +13,11 @@ use Rattle.paper.specs.Lent.{Lent, opening, refusal, call, opened, fresh, split}
 use Rattle.paper.specs.BatchLent.{Asking, one}
 use Rattle.paper.specs.Machines.{Printed, printed_next, printed_hit, Read, printed_trace, content_of}
 use Rattle.paper.specs.Demand3.{next, refusals, said_word, first_plain}
-use Rattle.paper.specs.Order.{order, order-snoc}
-use Rattle.paper.specs.RefusalLaws.{exactly-opening, opened-is}
-use Rattle.paper.specs.CallLaws.{fits}
-use Rattle.paper.specs.Claims.{as_read, shown_by, fed_by, reads-alone}
+use Rattle.paper.proofs.OrderLaws.{order, order-snoc}
+use Rattle.paper.proofs.RefusalLaws.{exactly-opening, opened-is}
+use Rattle.paper.proofs.CallLaws.{fits}
+use Rattle.paper.specs.Claims.{as_read, shown_by, fed_by}
+use Rattle.paper.proofs.ClaimsLaws.{reads-alone}
 use Rattle.counting.specs.Told.{occurs, since, distinct, tell_hit, tell}
 use Rattle.counting.specs.Recency.{Newest, distinct-order, newest-put, present}
 

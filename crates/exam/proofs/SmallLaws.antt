@@ -10,7 +10,7 @@ use borrow.Author.Tests.{eqb-true, eqb-false, ne_eqb, lt-ltb, le-ltb}
 use Rattle.paper.specs.Keyed.{has, without}
 use Rattle.paper.specs.KeyedLaws.{All, Distinct, by-test, eqb→≡, eqb-self, or-false-left, or-false-right}
 use Rattle.paper.specs.KeyedLaws.{all_append, all_without, distinct_without, distinct_snoc, has-without-self, without-absent}
-use Rattle.paper.specs.Sound.{length-without-lt}
+use Rattle.paper.proofs.SoundLaws.{length-without-lt}
 use Rattle.paper.specs.Machines.{put}
 use Rattle.counting.specs.Recency.{one_out}
 use Rattle.exam.specs.declared.search.Four.{Four}

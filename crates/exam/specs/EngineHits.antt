@@ -9,14 +9,16 @@ use Rattle.paper.specs.KeyedLaws.{All, all_map}
 use Rattle.paper.specs.Cache.{Numbers, Word, hit, miss, same_block, new_block, from_cache, from_disk, done, Counters}
 use Rattle.paper.specs.Engine.{labelled}
 use Rattle.paper.specs.Lent.{Lent, Ask, opening, calling, unfit, limit_outside, FewDirty, box_in, over, refusal, call, opened, fresh}
-use Rattle.paper.specs.LentLaws.{Passes, sound-passes}
+use Rattle.paper.specs.LentLaws.{Passes}
+use Rattle.paper.proofs.LentLaws.{sound-passes}
 use Rattle.paper.specs.BatchLent.{one, served_in_turn}
-use Rattle.paper.specs.BatchLentLaws.{only-9-between}
+use Rattle.paper.proofs.BatchLentLaws.{only-9-between}
 use Rattle.paper.specs.Machines.{Printed, printed_next, printed_hit}
 use Rattle.paper.specs.Demand3.{Throughout, refusals}
-use Rattle.paper.specs.Demand3Laws.{demand-3, Written, opened-written, next-written}
-use Rattle.paper.specs.RefusalLaws.{exactly-opening, opened-is}
-use Rattle.paper.specs.CallLaws.{fits, outcome-few, served-box, adds-few}
+use Rattle.paper.specs.Demand3Laws.{Written}
+use Rattle.paper.proofs.Demand3Laws.{demand-3, opened-written, next-written}
+use Rattle.paper.proofs.RefusalLaws.{exactly-opening, opened-is}
+use Rattle.paper.proofs.CallLaws.{fits, outcome-few, served-box, adds-few}
 use Rattle.counting.specs.Told.{tell}
 use Rattle.counting.specs.TellHit.{Follows, printed-told, follows_next, follows-none, words, NoneRefused, content_in, tell-hit}
 use Rattle.exam.specs.Scores.{lists, how_many, nine, start, hits, with_hits, scores}

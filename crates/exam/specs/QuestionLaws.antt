@@ -11,8 +11,9 @@ use Rattle.paper.specs.Cache.{Numbers}
 use Rattle.paper.specs.Engine.{labelled}
 use Rattle.paper.specs.Lent.{unfit, limit_outside, other_length, split, test, one_of}
 use Rattle.paper.specs.Machines.{content_of}
-use Rattle.paper.specs.RefusalLaws.{Apart, NoneOf, gives, gives_none, in-first}
-use Rattle.paper.specs.CallLaws.{fits}
+use Rattle.paper.specs.RefusalLaws.{Apart, NoneOf}
+use Rattle.paper.proofs.RefusalLaws.{gives, gives_none, in-first}
+use Rattle.paper.proofs.CallLaws.{fits}
 use Rattle.exam.specs.Scores.{nine, nine_zeros, start, with_hits, scores}
 use Rattle.exam.specs.ScoreLaws.{total, totals, beyond}
 use Rattle.exam.specs.Contract.{counts_bytes, wrong_lent, too_large, question_tests, question_refusal, counts_of, Counted, question}

@@ -27,17 +27,7 @@ use Rattle.image.specs.Kinds as Kinds
 use Rattle.image.specs.Kinds.{lru_fields, arc_fields, kinds}
 use Rattle.image.specs.Saved.{Saved, lru_saver, arc_saver, save_refusal, save, Restored, fields_found, wrong_tables, restore_refusal, restored, restore}
 
--- a header, byte by byte
-pub header-bytes : header 70000 ≡ (86 ∷ 66 ∷ 88 ∷ 1 ∷ 0 ∷ 112 ∷ 17 ∷ 1 ∷ 0 ∷ []) ++ replicate 55 0
-unfolding header Rows.zeros
-header-bytes = refl
-
--- "in writes of 64 bytes"
-pub how-many : map writes_for (1 ∷ 63 ∷ 64 ∷ 65 ∷ 128 ∷ 129 ∷ 252 ∷ []) ≡ 1 ∷ 1 ∷ 1 ∷ 2 ∷ 2 ∷ 3 ∷ 4 ∷ []
-unfolding writes_for
-how-many = refl
-
-abbrev filled : ℕ → List ℕ
+abbrev pub filled : ℕ → List ℕ
 filled k = replicate 64 k
 
 abbrev one : List ℕ
@@ -48,84 +38,38 @@ two = replicate 32 2
 
 -- Blocks of 64 bytes, two of them on disk; at most two addresses held, two blocks cached, two dirty rows. Address 1 is held, from seat 770, and its block is in
 -- slot 0; slot 1 is free. The body has 28 + 64 + 80 + 80 bytes.
-abbrev small : Numbers
+abbrev pub small : Numbers
 small = record { B = 64; P = 2; m = 2; d = 2; label = filled 9; t = 2 }
 
-abbrev rows : List ℕ
+abbrev pub rows : List ℕ
 rows = address_table 2 (address_row 1 one 0 (bytes2 770) ∷ [])
 
-abbrev blocks : List ℕ
+abbrev pub blocks : List ℕ
 blocks = block_table (free_row 1 ∷ block_row one 0 1 ∷ [])
-
-abbrev memory : Lent
-memory = record { n = 1; disk = []; flash = []; addresses = rows; blocks = blocks; counters = no_counts }
 
 abbrev numbers : List ℕ
 numbers =
     0 ∷ 0 ∷ 0 ∷ 0 ∷ 64 ∷ 0 ∷ 0 ∷ 0 ∷ 2 ∷ 0 ∷ 0 ∷ 0 ∷ 2 ∷ 0 ∷ 0 ∷ 0 ∷ 2 ∷ 0 ∷ 0 ∷ 0 ∷ 1 ∷ 0 ∷ 0 ∷ 0 ∷ 2 ∷ 0 ∷ 0 ∷ 0 ∷ []
 
-abbrev body : List ℕ
+abbrev pub body : List ℕ
 body = numbers ++ (filled 9 ++ (rows ++ blocks))
 
 abbrev headed : ℕ → List ℕ → List ℕ
 headed n b = (86 ∷ 66 ∷ 88 ∷ 1 ∷ 0 ∷ n ∷ 0 ∷ 0 ∷ 0 ∷ []) ++ (replicate 55 0 ++ b)
 
-abbrev image : List ℕ
+abbrev pub image : List ℕ
 image = headed 252 (body ++ replicate 4 0)
 
--- A D-ARC box with C = 1 and X = 0, so that m = 2 and d = 1: address 1 is held, in T1. The body has 52 + 64 + 80 + 40 + 8 bytes.
-abbrev arc_small : Sizes
-arc_small = record { B = 64; P = 2; C = 1; X = 0; label = filled 9; t = 2 }
-
-abbrev arc_blocks : List ℕ
+abbrev pub arc_blocks : List ℕ
 arc_blocks = block_table (block_row one 0 1 ∷ [])
-
-abbrev arc_memory : ArcLent
-arc_memory =
-    record {
-      base = record { n = 1; disk = []; flash = []; addresses = rows; blocks = arc_blocks; counters = no_counts };
-      sizes = record { t1 = 1; t2 = 0; b1 = 0; b2 = 0; b3 = 0; p = 1 };
-      lists = 1 ∷ 0 ∷ 0 ∷ 0 ∷ 0 ∷ 0 ∷ 0 ∷ 0 ∷ [];
-    }
 
 abbrev arc_numbers : List ℕ
 arc_numbers =
     (1 ∷ 0 ∷ 0 ∷ 0 ∷ 64 ∷ 0 ∷ 0 ∷ 0 ∷ 2 ∷ 0 ∷ 0 ∷ 0 ∷ 1 ∷ 0 ∷ 0 ∷ 0 ∷ 0 ∷ 0 ∷ 0 ∷ 0 ∷ 1 ∷ 0 ∷ 0 ∷ 0 ∷ 2 ∷ 0 ∷ 0 ∷ 0 ∷ 1 ∷ 0 ∷ 0 ∷ 0 ∷ [])
     ++ (1 ∷ 0 ∷ 0 ∷ 0 ∷ replicate 16 0)
 
-abbrev arc_image : List ℕ
+abbrev pub arc_image : List ℕ
 arc_image = headed 244 (arc_numbers ++ (filled 9 ++ (rows ++ (arc_blocks ++ (1 ∷ replicate 19 0)))))
-
--- "0, B, P, m, d, n, t, or for D-ARC 1, B, P, C, X, n, t, p and the five list sizes": boxes in which no two numbers are equal
-pub in_order : (lru_fields (record { B = 64; P = 2; m = 3; d = 4; label = []; t = 6 }) (record {
-  n = 5;
-  disk = [];
-  flash = [];
-  addresses = [];
-  blocks = [];
-  counters = no_counts;
-})).numbers ≡ 0 ∷ 64 ∷ 2 ∷ 3 ∷ 4 ∷ 5 ∷ 6 ∷ []
-in_order = refl
-
-pub arc-in-order : (arc_fields (record { B = 64; P = 2; C = 3; X = 4; label = []; t = 6 }) (record {
-  base = record { n = 5; disk = []; flash = []; addresses = []; blocks = []; counters = no_counts };
-  sizes = record { t1 = 8; t2 = 9; b1 = 10; b2 = 11; b3 = 12; p = 7 };
-  lists = [];
-})).numbers ≡ 1 ∷ 64 ∷ 2 ∷ 3 ∷ 4 ∷ 5 ∷ 6 ∷ 7 ∷ 8 ∷ 9 ∷ 10 ∷ 11 ∷ 12 ∷ []
-arc-in-order = refl
-
--- "bytes after the fill are kept": the areas have 3 bytes more
-pub images : map (λ x. applied (save_writes (body_of x)) (replicate 323 7)) (lru_fields small memory ∷ arc_fields arc_small arc_memory ∷ [])
-    ≡ (image ++ replicate 3 7) ∷ (arc_image ++ replicate 3 7) ∷ []
-unfolding applied Area.padded Area.body_write Area.body_writes header writes_for save_writes splice body_of word_bytes Rows.flat Rows.zeros address_table block_table
-    Records.address_bytes Records.block_bytes
-images = refl
-
--- "earlier writes are new, later ones old, and the one at the cut is junk": at the body's second write
-pub cut-leaves : cut_at (save_writes body) 2 (filled 170) (replicate 320 7) ≡ filled 0 ++ (take 64 body ++ (filled 170 ++ replicate 128 7))
-unfolding cut_at Area.padded Area.body_write Area.body_writes header writes_for save_writes splice Rows.flat Rows.zeros address_table block_table
-    Records.address_bytes Records.block_bytes
-cut-leaves = refl
 
 -- An area and the number that a restore refuses it with before it looks at the tables lent, 0 if it doesn't
 pub record Given : Type 0 where
@@ -227,15 +171,6 @@ areas =
     ∷ given (cut_at (save_writes body) 0 (filled 0) older) 15
     ∷ []
 
-pub areas-refused : map (λ c. image_refusal kinds c.area) areas ≡ map (λ c. c.number) areas
-unfolding image_refusal Image.no_image Image.is_image Image.length_in Image.body_in Image.too_short kinds Kinds.lru_form Kinds.arc_form Body.no_body Body.fails_in
-    Body.fails_as Body.fields_in Body.numbers_in Body.body_length Body.total Body.pieces ArcLent.words ArcLent.unfit_arc ArcLent.misnamed ArcLent.oversized
-    ArcLent.lists_unsound ArcLent.top_uncached Lent.unfit Lent.box_in Lent.free_slots Lent.used_rows Lent.split Engine.fit cut_at Area.padded
-    Area.body_write Area.body_writes header writes_for save_writes splice Rows.rows Rows.flat Rows.zeros Records.address_bytes Records.block_bytes Records.read_address
-    Records.read_block Records.held_rows Records.block_rows address_table block_table Find.any Find.all Find.same Unsound.elem Unsound.twice Unsound.count
-    Unsound.addresses_unsound Unsound.free_after_used Unsound.each_once Unsound.used_twice Unsound.blocks_unsound Unsound.dirty_uncached
-areas-refused = refl
-
 -- What is lent to a restore beside the area, and the number that it gets: 15, 14 and 16 as above, "then 2"
 pub record Lending : Type 0 where
   pub area : List ℕ
@@ -244,7 +179,7 @@ pub record Lending : Type 0 where
   pub lists : ℕ
   pub number : ℕ
 
-abbrev lending : List ℕ → (addresses blocks lists number : ℕ) → Lending
+abbrev pub lending : List ℕ → (addresses blocks lists number : ℕ) → Lending
 lending area a b l k = record { area = area; addresses = a; blocks = b; lists = l; number = k }
 
 abbrev pub lent-to : List Lending
@@ -266,43 +201,6 @@ lent-to =
     ∷ lending (restore kinds image (replicate 80 5) (replicate 80 5) []).area 80 80 0 15
     ∷ []
 
-abbrev made : Lending → Restored
-made c = restore kinds c.area (replicate c.addresses 5) (replicate c.blocks 5) (replicate c.lists 5)
-
--- "gives back the saved box"
-abbrev back : Restored
-back =
-    record {
-      number = 0;
-      given = record { numbers = 0 ∷ 64 ∷ 2 ∷ 2 ∷ 2 ∷ 1 ∷ 2 ∷ []; strings = filled 9 ∷ [] };
-      area = filled 0 ++ drop 64 image;
-      addresses = rows;
-      blocks = blocks;
-      lists = [];
-    }
-
--- "A refused restore returns a record of zeros."
-abbrev not_back : Restored
-not_back =
-    record {
-      number = 2;
-      given = record { numbers = replicate 13 0; strings = filled 0 ∷ [] };
-      area = image;
-      addresses = replicate 79 5;
-      blocks = replicate 80 5;
-      lists = [];
-    }
-
-pub restores : (map (λ c. (made c).number) lent-to ≡ map (λ c. c.number) lent-to) × (made (lending image 80 80 0 0) ≡ back)
-    × (made (lending image 79 80 0 2) ≡ not_back)
-unfolding restore restore_refusal restored wrong_tables fields_found Image.no_image Image.is_image Image.length_in Image.body_in Image.too_short kinds
-    Kinds.lru_form Kinds.arc_form Body.no_body Body.fails_in Body.fails_as Body.fields_in Body.numbers_in Body.body_length Body.total Body.pieces ArcLent.words
-    ArcLent.unfit_arc ArcLent.misnamed ArcLent.oversized ArcLent.lists_unsound ArcLent.top_uncached Lent.unfit Lent.box_in Lent.free_slots Lent.used_rows Lent.split
-    Engine.fit writes_for splice Rows.rows Rows.flat Rows.zeros Records.address_bytes Records.block_bytes Records.read_address
-    Records.read_block Records.held_rows Records.block_rows address_table block_table Find.any Find.all Find.same Unsound.elem Unsound.twice Unsound.count
-    Unsound.addresses_unsound Unsound.free_after_used Unsound.each_once Unsound.used_twice Unsound.blocks_unsound Unsound.dirty_uncached
-restores = (refl, refl, refl)
-
 -- A save: the memory, the area's length and the number that it gets. The box above with its row dirty, its block of 3s in flash.
 pub record Saving : Type 0 where
   pub numbers : Numbers
@@ -310,13 +208,13 @@ pub record Saving : Type 0 where
   pub area : ℕ
   pub number : ℕ
 
-abbrev dirty : List ℕ
+abbrev pub dirty : List ℕ
 dirty = address_table 2 (address_row 1 one 1 (bytes2 770) ∷ [])
 
-abbrev unsaved : Counters → Lent
+abbrev pub unsaved : Counters → Lent
 unsaved k = record { n = 1; disk = replicate 128 4; flash = filled 3 ++ filled 6; addresses = dirty; blocks = blocks; counters = k }
 
-abbrev over : Counters
+abbrev pub over : Counters
 over = record { reads = 9223372036854775809; hits = 0; flash_writes = 0; primary_writes = 0 }
 
 abbrev saving : Numbers → Lent → ℕ → ℕ → Saving
@@ -333,40 +231,3 @@ saves =
     ∷ saving small (record { n = 3; disk = replicate 128 4; flash = replicate 128 3; addresses = dirty; blocks = blocks; counters = over }) 319 6
     ∷ saving (record { B = 65; P = 2; m = 2; d = 2; label = filled 9; t = 2 }) (unsaved over) 319 1
     ∷ []
-
--- "A save call flushes, then writes a body": the row is clean in the table and in the image, and its block is on the disk
-abbrev after : Saved Lent
-after = save (lru_saver small) (unsaved no_counts) (replicate 323 7)
-
-pub saves-made : (map (λ c. save_refusal (lru_saver c.numbers) c.memory (replicate c.area 7)) saves ≡ map (λ c. c.number) saves)
-    × (after.lent.disk ∷ after.lent.addresses ∷ after.area ∷ [] ≡ (filled 4 ++ filled 3) ∷ rows ∷ (image ++ replicate 3 7) ∷ [])
-unfolding save save_refusal Cache.serve Cache.flushed applied body_of word_bytes Lent.call Lent.served Lent.refusal Lent.wrong_buffers Lent.over Lent.call_of
-    Lent.lent_of Image.too_short Lent.unfit Lent.box_in Lent.free_slots Lent.used_rows Lent.split Engine.fit Area.padded
-    Area.body_write Area.body_writes header writes_for save_writes splice Rows.rows Rows.flat Rows.zeros Records.address_bytes Records.block_bytes Records.read_address
-    Records.read_block Records.held_rows Records.block_rows address_table block_table Find.any Find.all Find.same Unsound.elem Unsound.twice Unsound.count
-    Unsound.addresses_unsound Unsound.free_after_used Unsound.each_once Unsound.used_twice Unsound.blocks_unsound Unsound.dirty_uncached
-saves-made = (refl, refl)
-
--- The same of a D-ARC box: the one above, with its row dirty
-abbrev arc_unsaved : Counters → ArcLent
-arc_unsaved k =
-    record {
-      base = record { n = 1; disk = replicate 128 4; flash = filled 3; addresses = dirty; blocks = arc_blocks; counters = k };
-      sizes = arc_memory.sizes;
-      lists = arc_memory.lists;
-    }
-
-abbrev arc_after : Saved ArcLent
-arc_after = save (arc_saver arc_small) (arc_unsaved no_counts) (replicate 323 7)
-
-pub arc-saves-made : (map (save_refusal (arc_saver arc_small) (arc_unsaved no_counts)) (replicate 320 7 ∷ replicate 319 7 ∷ []) ≡ 0 ∷ 14 ∷ [])
-    × (save_refusal (arc_saver arc_small) (arc_unsaved over) [] ≡ 9)
-    × (arc_after.lent.base.disk ∷ arc_after.lent.lists ∷ arc_after.area ∷ [] ≡ (filled 4 ++ filled 3) ∷ arc_memory.lists ∷ (arc_image ++ replicate 3 7) ∷ [])
-unfolding save save_refusal Policy.serve_by Cache.flushed applied body_of word_bytes ArcLent.arc_call ArcLent.arc_served ArcLent.arc_refusal
-    ArcLent.arc_lent_of ArcLent.list_bytes ArcLent.parts ArcLent.words ArcLent.unfit_arc ArcLent.misnamed ArcLent.oversized ArcLent.lists_unsound
-    ArcLent.top_uncached Lent.wrong_buffers Lent.over Lent.call_of
-    Lent.lent_of Image.too_short Lent.unfit Lent.box_in Lent.free_slots Lent.used_rows Lent.split Engine.fit Area.padded
-    Area.body_write Area.body_writes header writes_for save_writes splice Rows.rows Rows.flat Rows.zeros Records.address_bytes Records.block_bytes Records.read_address
-    Records.read_block Records.held_rows Records.block_rows address_table block_table Find.any Find.all Find.same Unsound.elem Unsound.twice Unsound.count
-    Unsound.addresses_unsound Unsound.free_after_used Unsound.each_once Unsound.used_twice Unsound.blocks_unsound Unsound.dirty_uncached
-arc-saves-made = (refl, refl, refl)

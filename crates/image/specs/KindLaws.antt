@@ -13,11 +13,9 @@ use Rattle.image.specs.Body.{total, Fields, body_of, Form, body_length, fields_i
 use Rattle.image.specs.Area.{applied, header, save_writes, cut_at, CanLeave}
 use Rattle.image.specs.Image.{body_in, no_image, too_short, image_refusal}
 use Rattle.image.specs.Kinds.{lru_fields, arc_fields, lru_checks, arc_checks, lru_form, arc_form, kinds}
-use Rattle.image.specs.BodyLaws.{Fits, length-body, fields_back, body-passes, first_back}
-use Rattle.image.specs.ImageLaws.{save-found, body-found, cut-found}
+use Rattle.image.specs.BodyLaws.{Fits}
 
 -- fields whose form is known, which fit it, pass its tests and have room
-
 pub record Savable (forms : ℕ → Option Form) (f : Form) (x : Fields) (area : List ℕ) : Type 0 where
   pub numbered : 1 ≤ length x.numbers
   pub form : forms (get_or x.numbers 0 0) ≡ some f
@@ -25,36 +23,3 @@ pub record Savable (forms : ℕ → Option Form) (f : Form) (x : Fields) (area :
   pub passes : f.fails x ≡ false
   pub short : body_length f x.numbers < 2 ^ 32
   pub room : too_short area (body_length f x.numbers) ≡ false
-
-module _ (forms : ℕ → Option Form) (f : Form) (x : Fields) (area : List ℕ) (h : Savable forms f x area) where
-  abbrev pub body : List ℕ
-  body = body_of x
-
-  length-here : length body ≡ body_length f x.numbers
-  length-here = length-body f x h.fits
-
-  fits-32 : length body < 2 ^ 32
-  fits-32 = subst (λ n. n < 2 ^ 32) (sym length-here) h.short
-
-  has_room : too_short area (length body) ≡ false
-  has_room = ap (too_short area) length-here ∙ h.room
-
-  body-here : no_body forms body ≡ false
-  unfolding no_body fails_in
-  body-here =
-      let e : forms (le4 body 0) ≡ some f = ap forms (first_back x h.numbered h.fits.small) ∙ h.form in
-      rw e (body-passes f x h.fits h.passes)
-
-  pub form-found : forms (le4 (body_in (applied (save_writes body) area)) 0) ≡ some f
-  form-found = ap (λ y. forms (le4 y 0)) (body-found body area fits-32 has_room) ∙ ap forms (first_back x h.numbered h.fits.small) ∙ h.form
-
-  -- a restore of a complete save is not refused by the area, and reads the fields
-  pub saved-found : (image_refusal forms (applied (save_writes body) area) ≡ 0) × (fields_in f (body_in (applied (save_writes body) area)) ≡ x)
-  saved-found =
-      (save-found body area fits-32 has_room forms body-here, ap (fields_in f) (body-found body area fits-32 has_room) ∙ fields_back f x h.fits)
-
-  -- a cut save: all new, or 15
-  pub cut-refused : (j : ℕ) (left : List ℕ) → no_image area ≡ true → CanLeave (save_writes body) j left area
-      → ((suc j ≡ length (save_writes body)) × (left ≡ header (length body)) × (cut_at (save_writes body) j left area ≡ applied (save_writes body) area))
-      ⊎ (image_refusal forms (cut_at (save_writes body) j left area) ≡ 15)
-  cut-refused j left clear q = cut-found body area fits-32 has_room forms j left clear q

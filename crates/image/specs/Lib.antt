@@ -8,9 +8,5 @@ pub mod Saved
 pub mod Examples
 -- laws
 pub mod BodyLaws
-pub mod AreaLaws
-pub mod ImageLaws
 pub mod KindLaws
-pub mod SavedLaws
 pub mod BoxLaws
-pub mod CutLaws

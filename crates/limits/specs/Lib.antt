@@ -2,11 +2,7 @@
 pub mod AsWithout
 -- the theorems, for D-LRU and for D-ARC; a limit of m changes nothing; what a policy must promise for two boxes beside each other
 pub mod AsWithoutLaws
-pub mod ArcAsWithoutLaws
-pub mod LimitM
 pub mod Beside
 -- lemmas
 pub mod Sees
 pub mod Until
-pub mod Unlimited
-pub mod ArcSees

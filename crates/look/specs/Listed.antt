@@ -9,11 +9,12 @@ use Rattle.counters.specs.declared.Counters as Code
 use Rattle.paper.specs.KeyedLaws.{by-test}
 use Rattle.paper.specs.Cache.{Numbers, Counters}
 use Rattle.paper.specs.Lent.{Lent, Ask, After, opening, calling, refusal, served, call, opened, with_label}
-use Rattle.paper.specs.RefusalLaws.{served-is, keeps, label-carried}
+use Rattle.paper.proofs.RefusalLaws.{served-is, keeps, label-carried}
 use Rattle.paper.specs.Demand3.{next, Demand3}
 use Rattle.paper.specs.BatchLent.{Asking, one, many, report, BatchAfter, call_batch}
 use Rattle.paper.specs.Reports.{Reader, report_refusal, reported}
-use Rattle.paper.specs.Demand3Laws.{demand-3, Written, opened-written, next-written, look-stays}
+use Rattle.paper.specs.Demand3Laws.{Written}
+use Rattle.paper.proofs.Demand3Laws.{demand-3, opened-written, next-written, look-stays}
 use Rattle.parts.specs.declared.BoxRecord.{BoxRecord}
 use Rattle.parts.specs.Rep.{numbers_of}
 use Rattle.refusals.specs.Given.{counters_of, lent}

@@ -11,8 +11,8 @@ use Rattle.paper.specs.Engine.{Fixed, labelled, comparing}
 use Rattle.paper.specs.Lent.{Lent, Ask, calling, refusal, box_in, call_of, call, served}
 use Rattle.paper.specs.Index.{index_where}
 use Rattle.paper.specs.RowBytes.{Bytes}
-use Rattle.paper.specs.RefusalLaws.{served-is, keeps}
-use Rattle.paper.specs.CallLaws.{served-finds}
+use Rattle.paper.proofs.RefusalLaws.{served-is, keeps}
+use Rattle.paper.proofs.CallLaws.{served-finds}
 use Rattle.parts.specs.declared.BoxRecord.{BoxRecord}
 use Rattle.look.specs.declared.Place.{Place}
 use Rattle.look.specs.declared.Place.TheVariants.{Refused, Flash, Disk}

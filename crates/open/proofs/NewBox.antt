@@ -12,7 +12,7 @@ use Rattle.tables.specs.Records.{fresh_addresses, fresh_blocks}
 use Rattle.paper.specs.Cache.{Numbers, no_counts}
 use Rattle.paper.specs.Lent.{Lent, opening, test, first, unfit, limit_outside, other_length, wrong_buffers, refusal, fresh, unopened, opened}
 use Rattle.paper.specs.Lent.{label_after}
-use Rattle.paper.specs.RefusalLaws.{refused-opening, opened-is, label-carried, label-zeros}
+use Rattle.paper.proofs.RefusalLaws.{refused-opening, opened-is, label-carried, label-zeros}
 use Rattle.open.specs.declared.Begun.{Begun}
 use Rattle.open.specs.declared.Opening.TheVariants.{Refused, Open}
 use Rattle.parts.specs.declared.BoxRecord.{BoxRecord}

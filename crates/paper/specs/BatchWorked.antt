@@ -16,7 +16,6 @@ use Rattle.paper.specs.Batch.{Batched, blocks_in, start, batch, in_turn, batch_r
 use Rattle.paper.specs.BatchLent.{batch_refusal}
 
 -- ---- worked folder reads
-
 -- what is shown: the blocks, the held rows, the disk, the counters, and the call's misses and fetches
 pub record Shown : Type 0 where
   pub blocks : List ℕ
@@ -26,19 +25,8 @@ pub record Shown : Type 0 where
   pub misses : ℕ
   pub fetches : ℕ
 
-abbrev shown : Batched ℕ ℕ → Shown
-shown t =
-    record {
-      blocks = blocks_in t.filled;
-      rows = t.box.rows;
-      disk = t.box.disk;
-      counters = t.counters;
-      misses = t.misses;
-      fetches = t.fetches;
-    }
-
 -- one address held, one block cached
-abbrev tiny : Numbers
+abbrev pub tiny : Numbers
 tiny = numbers 64 2 1 1
 
 -- address 0 was written back with 7
@@ -46,7 +34,7 @@ abbrev written : Box ℕ ℕ
 written = (serve labels tiny (fresh 1 (0 ∷ []) (0 ∷ 1 ∷ [])) (back 0 7 (0, 0))).box
 
 -- a lent box that no list reaches under the premise: the row of 0 has the fingerprint 5, the block in its slot is 9, and the disk's block is 3
-abbrev strange : Box ℕ ℕ
+abbrev pub strange : Box ℕ ℕ
 strange = record { rows = newest 0 5 false (0, 0) ∷ []; free = []; used = Cache.block_row 5 0 ∷ []; flash = 9 ∷ []; disk = 3 ∷ 1 ∷ [] }
 
 -- A folder read of a box, and what is shown of it
@@ -98,27 +86,7 @@ folders =
     }
     ∷ []
 
-pub worked-folders : map (λ f. shown (batch labels tiny (start f.box no_counts) f.asked)) folders ≡ map (λ f. f.after) folders
-unfolding batch batch_read Cache.oldest_out Cache.step1 Cache.freed Cache.step3 Cache.oldest_unknown Cache.victim Cache.taken_used Cache.taken Cache.stored
-    Cache.step4 Cache.step Cache.if_cached Cache.answer Cache.read_as Cache.write_back Cache.flushed Cache.serve Cache.counted
-worked-folders = refl
-
--- there the reads done in turn return the disk's block
-pub strange-in-turn : shown (in_turn labels tiny (start strange no_counts) (0 ∷ 1 ∷ 0 ∷ []))
-    ≡ record {
-      blocks = 9 ∷ 1 ∷ 3 ∷ [];
-      rows = newest 0 3 false (0, 0) ∷ [];
-      disk = 3 ∷ 1 ∷ [];
-      counters = counters 3 1 2 0;
-      misses = 2;
-      fetches = 2;
-    }
-unfolding in_turn Cache.oldest_out Cache.step1 Cache.freed Cache.step3 Cache.oldest_unknown Cache.victim Cache.taken_used Cache.taken Cache.stored
-    Cache.step4 Cache.step Cache.if_cached Cache.answer Cache.read_as Cache.serve Cache.counted
-strange-in-turn = refl
-
 -- ---- refused ones
-
 -- A case: numbers, lent memory, the addresses, the length of the buffer, and the number of the refusal, 0 where the call is served
 pub record Case : Type 0 where
   pub numbers : Numbers
@@ -169,9 +137,3 @@ table =
     ∷ asks_up_to 2 (1 ∷ 1 ∷ []) 128 (worst 128 crowded blocks no_counts) 0
     ∷ asks_up_to 3 (1 ∷ 1 ∷ []) 128 (worst 128 single blocks no_counts) 12
     ∷ []
-
-pub folders-refused-with : map (λ c. batch_refusal c.numbers c.lent c.asked (replicate c.length 5)) table ≡ map (λ c. c.number) table
-unfolding batch_refusal Lent.unfit Lent.wrong_buffers Lent.over Lent.box_in Records.held_rows Rows.rows Rows.flat Rows.zeros Records.address_bytes Records.block_bytes
-    Records.read_address Records.read_block address_table Records.block_table Find.any Find.all Find.same Unsound.elem Unsound.twice Unsound.count
-    Unsound.addresses_unsound Unsound.free_after_used Unsound.each_once Unsound.used_twice Unsound.blocks_unsound Unsound.dirty_uncached
-folders-refused-with = refl

@@ -17,31 +17,21 @@ pub mod Demand3
 pub mod Demand3Laws
 pub mod RefusalLaws
 pub mod CallLaws
-pub mod Premise
 -- what a flush of at most k rows counts, and what it leaves dirty
 pub mod Partly
 -- what the definitions and the claims mean, by name and by example; a list of reads alone; what a write back leaves on the disk
 pub mod Claims
-pub mod BackKeeps
 -- lemmas
 pub mod KeyedLaws
 pub mod Events
-pub mod Cases
-pub mod Orphans
 pub mod Sound
 pub mod Faithful
 pub mod PlainDisk
-pub mod OrphanList
 pub mod Order
-pub mod Printed
 pub mod Quiet
-pub mod Parts
 pub mod RowBytes
-pub mod TestLaws
 pub mod SoundTests
 pub mod LentLaws
-pub mod LentForth
-pub mod FewWrites
 pub mod BatchLaws
 pub mod BatchLentLaws
 pub mod Index

@@ -156,7 +156,7 @@ lengths q =
     ∷ []
 
 -- a label of so many bytes
-abbrev labelled_by : ℕ → ℕ → Numbers
+abbrev pub labelled_by : ℕ → ℕ → Numbers
 labelled_by B k = record { B = B; P = 2; m = 2; d = 2; label = replicate k 7; t = 2 }
 
 -- 2, of the label: a byte short, a byte long, none; 1 comes before it, 3 after it
@@ -349,49 +349,6 @@ table =
     ++ counts (looking 1) 0
     ++ orders
 
-pub refused-with : map (λ c. refusal c.numbers c.lent c.asked) table ≡ map (λ c. c.number) table
-unfolding refusal unfit Lent.wrong_buffers Lent.over Lent.box_in Rows.rows Rows.flat Rows.zeros Records.address_bytes Records.block_bytes
-    Records.read_address Records.read_block Records.held_rows address_table block_table Find.any Find.all Find.same Unsound.elem Unsound.twice
-    Unsound.count Unsound.addresses_unsound
-    Unsound.free_after_used Unsound.each_once Unsound.used_twice Unsound.blocks_unsound Unsound.dirty_uncached
-refused-with = refl
-
--- The edges of the four numbers
-abbrev right : List Numbers
-right =
-    numbers 64 1 1 1
-    ∷ numbers 128 65536 1 1
-    ∷ numbers 256 1 1024 1
-    ∷ numbers 512 1 1 256
-    ∷ numbers 1024 65536 1024 256
-    ∷ numbers 2048 2 2 2
-    ∷ numbers 4096 65536 1024 256
-    ∷ []
-
-abbrev wrong : List Numbers
-wrong =
-    numbers 0 1 1 1
-    ∷ numbers 32 1 1 1
-    ∷ numbers 63 1 1 1
-    ∷ numbers 65 1 1 1
-    ∷ numbers 96 1 1 1
-    ∷ numbers 8192 1 1 1
-    ∷ numbers 64 0 1 1
-    ∷ numbers 64 65537 1 1
-    ∷ numbers 64 1 0 1
-    ∷ numbers 64 1 1025 1
-    ∷ numbers 64 1 1 0
-    ∷ numbers 64 1 1 257
-    ∷ []
-
-pub fit-numbers : map unfit right ≡ map (λ N. false) right
-unfolding unfit Unsound.elem
-fit-numbers = refl
-
-pub unfit-numbers : map unfit wrong ≡ map (λ N. true) wrong
-unfolding unfit Unsound.elem
-unfit-numbers = refl
-
 -- A call, and what it answers and leaves
 pub record Called : Type 0 where
   pub numbers : Numbers
@@ -445,22 +402,6 @@ served_calls =
     []
     ∷ []
 
-pub calls-leave : map (λ c. call c.numbers c.lent c.ask) (kept_calls ++ served_calls) ≡ map (λ c. c.after) (kept_calls ++ served_calls)
-unfolding call refusal unfit Lent.wrong_buffers Lent.over Lent.served Lent.kept Lent.box_in Lent.lent_of Lent.split Lent.free_slots Lent.used_rows
-    Lent.call_of Engine.fit Rows.rows Rows.flat Rows.zeros Records.address_bytes Records.block_bytes Records.read_address Records.read_block address_table
-    block_table Records.held_rows Records.block_rows Find.any Find.all Find.same Unsound.elem Unsound.twice Unsound.count Unsound.addresses_unsound
-    Unsound.free_after_used Unsound.each_once Unsound.used_twice Unsound.blocks_unsound Unsound.dirty_uncached Cache.serve Cache.read_as Cache.look_as
-    Cache.flushed Cache.if_cached Cache.answer Cache.step Cache.step1 Cache.step3 Cache.step4 Cache.freed Cache.counted
-calls-leave = refl
-
--- U6: "given at opening (zeros if refused)"
-pub labels-after :
-    (label_after (labelled_by 64 64) sound ≡ replicate 64 7)
-    × (label_after (labelled_by 32 64) sound ≡ replicate 64 0)
-    × (label_after (labelled_by 64 63) sound ≡ replicate 64 0)
-unfolding label_after refusal unfit Lent.wrong_buffers Unsound.elem Rows.zeros Rows.flat address_table block_table Records.address_bytes Records.block_bytes
-labels-after = (refl, refl, refl)
-
 -- An opening: the numbers, the lent memory, and what it leaves. A refused one has n = 0 and keeps all else; a damaged box is opened, and is fresh.
 pub record Opening : Type 0 where
   pub numbers : Numbers
@@ -477,8 +418,3 @@ openings =
       after = memory 0 (replicate 80 0) (block_table (free_row 0 ∷ free_row 1 ∷ [])) no_counts;
     }
     ∷ []
-
-pub openings-leave : map (λ c. opened c.numbers c.lent) openings ≡ map (λ c. c.after) openings
-unfolding opened refusal unfit Lent.wrong_buffers Lent.fresh Lent.unopened Unsound.elem Rows.flat Rows.zeros Records.address_bytes Records.block_bytes
-    Records.read_address Records.read_block address_table block_table Records.fresh_addresses Records.fresh_blocks
-openings-leave = refl

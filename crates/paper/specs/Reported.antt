@@ -14,7 +14,7 @@ use Rattle.paper.specs.Refused.{numbers, counters}
 use Rattle.paper.specs.Reports.{Reader, manager, desk, report_of, report_refusal, reported}
 
 -- 259 blocks of 64 bytes on disk; at most three addresses held, two blocks cached
-abbrev office : Numbers
+abbrev pub office : Numbers
 office = numbers 64 259 3 2
 
 abbrev print : ℕ → List ℕ
@@ -31,22 +31,8 @@ abbrev memory : (disk n : ℕ) → List ℕ → List ℕ → Counters → Lent
 memory disk n addresses blocks k =
     record { n = n; disk = replicate disk 6; flash = replicate 128 8; addresses = addresses; blocks = blocks; counters = k }
 
-abbrev two-held : Lent
+abbrev pub two-held : Lent
 two-held = memory 16576 2 (rows 1) blocks no_counts
-
--- "address, dirty byte and seat of every held row, oldest first ..; the desk's gives address and dirty byte only ..; zeros follow". A byte short or
--- long, the lent bytes stay.
-pub reports-are :
-    (reported office two-held manager (replicate 21 5)
-    ≡ 2 ∷ 1 ∷ 0 ∷ 0 ∷ 1 ∷ 7 ∷ 8 ∷ 1 ∷ 0 ∷ 0 ∷ 0 ∷ 0 ∷ 9 ∷ 0 ∷ 0 ∷ 0 ∷ 0 ∷ 0 ∷ 0 ∷ 0 ∷ 0 ∷ [])
-    × (reported office two-held desk (replicate 15 5) ≡ 2 ∷ 1 ∷ 0 ∷ 0 ∷ 1 ∷ 1 ∷ 0 ∷ 0 ∷ 0 ∷ 0 ∷ 0 ∷ 0 ∷ 0 ∷ 0 ∷ 0 ∷ [])
-    × (reported office two-held manager (replicate 20 5) ≡ replicate 20 5)
-    × (reported office two-held desk (replicate 16 5) ≡ replicate 16 5)
-unfolding reported report_of report_refusal Lent.unfit Lent.wrong_buffers Lent.box_in Lent.split Lent.free_slots Lent.used_rows Engine.fit Rows.rows Rows.flat
-    Rows.zeros Records.address_bytes Records.block_bytes Records.read_address Records.read_block address_table block_table Records.held_rows Records.block_rows
-    Find.any Find.all Find.same Unsound.elem Unsound.twice Unsound.count Unsound.addresses_unsound Unsound.free_after_used Unsound.each_once
-    Unsound.used_twice Unsound.blocks_unsound Unsound.dirty_uncached
-reports-are = (refl, refl, refl, refl)
 
 -- A case: numbers, lent memory, whose report, the length of the bytes lent for it, and the number of the refusal, 0 where it is served
 pub record Case : Type 0 where
@@ -101,9 +87,3 @@ cases w n =
 -- the manager's has 21 bytes and the desk's 15: not each other's
 abbrev pub table : List Case
 table = cases manager 21 ++ cases desk 15 ++ (asks manager 20 two-held 2 ∷ asks desk 14 two-held 2 ∷ asks manager 15 two-held 2 ∷ asks desk 21 two-held 2 ∷ [])
-
-pub reports-refused-with : map (λ c. report_refusal c.numbers c.lent c.reader (replicate c.length 5)) table ≡ map (λ c. c.number) table
-unfolding report_refusal Lent.unfit Lent.wrong_buffers Lent.box_in Records.held_rows Rows.rows Rows.flat Rows.zeros Records.address_bytes Records.block_bytes
-    Records.read_address Records.read_block address_table block_table Find.any Find.all Find.same Unsound.elem Unsound.twice Unsound.count Unsound.addresses_unsound
-    Unsound.free_after_used Unsound.each_once Unsound.used_twice Unsound.blocks_unsound Unsound.dirty_uncached
-reports-refused-with = refl

@@ -6,9 +6,3 @@ use Rattle.paper.specs.KeyedLaws.{All}
 -- every number is a byte
 abbrev pub Bytes : List ℕ → Type 0
 Bytes t = All (λ b. b < 256) t
-
--- the same by index, as the promises of tables ask for it
-pub bytes-at : (t : List ℕ) → Bytes t → (i : ℕ) → get_or t i 0 < 256
-bytes-at [] b i = omega arith
-bytes-at (x ∷ t) b zero = b.0
-bytes-at (x ∷ t) b (suc i) = bytes-at t b.1 i

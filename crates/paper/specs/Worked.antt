@@ -39,7 +39,7 @@ dirty a k = newest a k true (0, 0)
 abbrev through : ℕ → ℕ → Call ℕ
 through a k = Call.through a k (0, 0)
 
-abbrev back : ℕ → ℕ → Call ℕ
+abbrev pub back : ℕ → ℕ → Call ℕ
 back a k = Call.back a k (0, 0)
 
 abbrev invalidate : ℕ → ℕ → Call ℕ
@@ -210,11 +210,6 @@ table =
       counters = counters 0 0 1 2;
     })
     ∷ []
-
-pub E1-to-E8 : map play table ≡ map (λ e. e.seen) table
-unfolding counted serve step step1 step3 step4 oldest_out freed oldest_unknown victim taken_used taken stored if_cached answer read_as write_through
-    write_back dropped write_invalidate look_as flushed
-E1-to-E8 = refl
 
 -- What E1 to E8 leave open
 abbrev pub more : List Example
@@ -501,11 +496,6 @@ more =
     })
     ∷ []
 
-pub further-states : map play more ≡ map (λ e. e.seen) more
-unfolding counted serve step step1 step3 step4 oldest_out freed oldest_unknown victim taken_used taken stored if_cached answer read_as write_through
-    write_back dropped write_invalidate look_as flushed
-further-states = refl
-
 -- The replay as it is printed. "Fields: call number .., letter, address or `-`, answer .., flash writes, primary writes. .. The last line has the counters."
 pub data Letter : Type 0 where
   R L F T B I : Letter
@@ -513,33 +503,3 @@ pub data Letter : Type 0 where
 pub data PrintedLine : Type 0 where
   line : ℕ → Letter → Option ℕ → Word → ℕ → ℕ → PrintedLine
   counts : (reads hits flash primary : ℕ) → PrintedLine
-
-abbrev letter : Call ℕ → Letter
-letter (read a) = R
-letter (look a) = L
-letter (flush k) = F
-letter (Call.through a b z) = T
-letter (Call.back a b z) = B
-letter (Call.invalidate a b z) = I
-
-abbrev prints : ℕ → List Said → Counters → List PrintedLine
-prints i [] k = counts k.reads k.hits k.flash_writes k.primary_writes ∷ []
-prints i (x ∷ xs) k = line i (letter x.call) (about x.call).address x.word x.flash_writes x.primary_writes ∷ prints (suc i) xs k
-
-abbrev output : State → List PrintedLine
-output t = prints 1 t.said t.counters
-
-pub replay-prints : output (plays (box_of 3 2) (start (box_of 3 2)) no_counts (read 1 ∷ read 2 ∷ back 3 1 ∷ read 3 ∷ read 4 ∷ read 2 ∷ flush 3 ∷ look 3 ∷ []))
-    ≡ line 1 R (some 1) miss 1 0
-    ∷ line 2 R (some 2) miss 1 0
-    ∷ line 3 B (some 3) same_block 0 0
-    ∷ line 4 R (some 3) hit 0 0
-    ∷ line 5 R (some 4) miss 1 0
-    ∷ line 6 R (some 2) miss 1 1
-    ∷ line 7 F none done 0 0
-    ∷ line 8 L (some 3) from_disk 0 0
-    ∷ counts 5 1 4 1
-    ∷ []
-unfolding counted serve step step1 step3 step4 oldest_out freed oldest_unknown victim taken_used taken stored if_cached answer read_as write_through
-    write_back dropped write_invalidate look_as flushed
-replay-prints = refl

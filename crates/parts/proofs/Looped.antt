@@ -11,7 +11,7 @@ use Rattle.paper.specs.KeyedLaws.{All, by-test}
 use Rattle.paper.specs.Cache.{Hashing, AddressRow, BlockRow, Box, newest, slot_of, block_of, copied, copies, cleaned}
 use Rattle.paper.specs.Engine.{Fixed}
 use Rattle.paper.specs.Lent.{join}
-use Rattle.paper.specs.Sound.{length-cleaned, length-copied}
+use Rattle.paper.proofs.SoundLaws.{length-cleaned, length-copied}
 use Rattle.paper.specs.Layout.{addresses_of}
 use Rattle.parts.specs.Rep.{Rep, Copied, copied_row, copied_rows, part_box, no_row, clean, engine}
 

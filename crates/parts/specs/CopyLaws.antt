@@ -16,11 +16,12 @@ use Rattle.paper.specs.KeyedLaws.{All, by-test}
 use Rattle.paper.specs.Cache.{Numbers, AddressRow, BlockRow, Box, slot_of, block_of, block_row}
 use Rattle.paper.specs.Engine.{Fixed, labelled, comparing}
 use Rattle.paper.specs.Lent.{join}
-use Rattle.paper.specs.Parts.{length-join, join-set}
+use Rattle.paper.proofs.Parts.{length-join, join-set}
 use Rattle.paper.specs.Layout.{Addrs, Blocks, Parts}
 use Rattle.parts.specs.Rep.{Rep, Copied, copied_row, no_row, engine}
 use Rattle.parts.specs.Asked.{slot_in}
-use Rattle.paper.specs.Index.{index_where, slot_of-yes, slot_of-no}
+use Rattle.paper.specs.Index.{index_where}
+use Rattle.paper.proofs.IndexLaws.{slot_of-yes, slot_of-no}
 use Rattle.parts.specs.MoveLaws.{row_is, slot_is, address_is, address_below, dirty-is, cleaned-row}
 use Rattle.tables.specs.Find.{find_from, has_fingerprint, caches, is_dirty}
 use Rattle.parts.specs.TableLaws.{addr_bytes, fp-of, has-fp, block-index}

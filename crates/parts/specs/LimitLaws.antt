@@ -13,10 +13,10 @@ use Rattle.paper.specs.KeyedLaws.{by-test, All, all_map}
 use Rattle.paper.specs.Cache.{AddressRow, dirty_rows}
 use Rattle.paper.specs.Engine.{Fixed, comparing}
 use Rattle.paper.specs.Lent.{as_held}
-use Rattle.paper.specs.LentLaws.{held-read}
+use Rattle.paper.proofs.LentLaws.{held-read}
 use Rattle.paper.specs.Layout.{Addrs, addresses_of}
 use Rattle.paper.specs.Index.{index_where}
-use Rattle.paper.specs.Partly.{dirty-few}
+use Rattle.paper.proofs.PartlyLaws.{dirty-few}
 use Rattle.parts.specs.declared.BoxRecord.{BoxRecord}
 use Rattle.parts.specs.TableLaws.{placed, placed_first}
 use Rattle.parts.specs.Limit.{dirty_in, excess_row}

@@ -19,7 +19,8 @@ use Rattle.paper.specs.KeyedLaws.{All}
 use Rattle.paper.specs.Cache.{Seat, AddressRow, BlockRow, newest, block_row}
 use Rattle.paper.specs.Engine.{Fixed}
 use Rattle.paper.specs.Lent.{bit, held_row, used_row}
-use Rattle.paper.specs.LentLaws.{bit-back, held-wide, table-wide, table-length, table_rows}
+use Rattle.paper.specs.LentLaws.{table_rows}
+use Rattle.paper.proofs.LentLaws.{bit-back, held-wide, table-wide, table-length}
 use Rattle.paper.specs.Layout.{addresses_of, blocks_of, Addrs, Blocks}
 use Rattle.parts.specs.Rep.{clean}
 use Rattle.parts.specs.TableLaws.{addr_bytes, used_bytes, free_bytes, fp-of, fp-used, flag-used, flag-free}

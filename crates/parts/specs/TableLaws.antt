@@ -17,8 +17,10 @@ use Rattle.paper.specs.KeyedLaws.{All, by-test, eqb→≡, eqb-self, eqb_swap}
 use Rattle.paper.specs.Cache.{AddressRow, BlockRow, known, cached}
 use Rattle.paper.specs.Engine.{Fixed, comparing}
 use Rattle.paper.specs.Lent.{held_row, used_row}
-use Rattle.paper.specs.Index.{index_where, index-none, index-map}
-use Rattle.paper.specs.LentLaws.{held-wide, table-wide, table-length, table_rows}
+use Rattle.paper.specs.Index.{index_where}
+use Rattle.paper.proofs.IndexLaws.{index-none, index-map}
+use Rattle.paper.specs.LentLaws.{table_rows}
+use Rattle.paper.proofs.LentLaws.{held-wide, table-wide, table-length}
 use Rattle.paper.specs.Layout.{addresses_of, blocks_of, Addrs, Blocks}
 
 -- a row's bytes

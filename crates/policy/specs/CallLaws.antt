@@ -15,10 +15,13 @@ use Rattle.tables.specs.Records.{bytes2}
 use Rattle.paper.specs.Lent.{Lent, Ask, calling, refusal, call_of, box_in, lent_of, served, answered, block_after, part_after, wrong_buffers, wrong_block}
 use Rattle.paper.specs.Lent.{lent_block, outside, address_of, counts, over}
 use Rattle.paper.specs.RowBytes.{Bytes}
-use Rattle.paper.specs.LentLaws.{Passes, passes-sound, fit-whole}
-use Rattle.paper.specs.RefusalLaws.{exactly, served-is, refused-keeps}
-use Rattle.paper.specs.CallLaws.{Fits, Served, served-finds, outcome, not-over}
-use Rattle.paper.specs.Layout.{addresses_of, blocks_of, passes-addrs, passes-blocks, passes-flash, passes-disk}
+use Rattle.paper.specs.LentLaws.{Passes}
+use Rattle.paper.proofs.LentLaws.{passes-sound, fit-whole}
+use Rattle.paper.proofs.RefusalLaws.{exactly, served-is, refused-keeps}
+use Rattle.paper.specs.CallLaws.{Fits, Served, outcome}
+use Rattle.paper.proofs.CallLaws.{served-finds, not-over}
+use Rattle.paper.specs.Layout.{addresses_of, blocks_of}
+use Rattle.paper.proofs.LayoutLaws.{passes-addrs, passes-blocks, passes-flash, passes-disk}
 use Rattle.parts.specs.declared.BoxRecord.{BoxRecord}
 use Rattle.policy.specs.declared.Word as CodeWord
 use Rattle.policy.specs.declared.Answer.TheVariants.{Refused, Answered}

@@ -9,12 +9,13 @@ use Rattle.paper.specs.Cache.{Numbers, Counters}
 use Rattle.paper.specs.Engine.{Fixed}
 use Rattle.paper.specs.Lent.{Lent, over, box_in, lent_of}
 use Rattle.paper.specs.RowBytes.{Bytes}
-use Rattle.paper.specs.LentLaws.{passes-sound}
-use Rattle.paper.specs.CallLaws.{not-over}
+use Rattle.paper.proofs.LentLaws.{passes-sound}
+use Rattle.paper.proofs.CallLaws.{not-over}
 use Rattle.paper.specs.Layout.{addresses_of, blocks_of}
 use Rattle.paper.specs.Batch.{start, batch}
 use Rattle.paper.specs.BatchLent.{batch_refusal, batched, served_batch, call_batch}
-use Rattle.paper.specs.BatchLentLaws.{Finds, batch-finds, batch-served}
+use Rattle.paper.specs.BatchLentLaws.{Finds}
+use Rattle.paper.proofs.BatchLentLaws.{batch-finds, batch-served}
 use Rattle.parts.specs.Rep.{numbers_of, with_held, engine}
 use Rattle.serve.specs.Calls.{LentSound}
 use Rattle.refusals.specs.Given.{counters_of, lent}

@@ -14,7 +14,7 @@ use Rattle.paper.specs.Cache.{Numbers, Counters}
 use Rattle.paper.specs.Lent.{Lent, Ask, opening, calling, lent_block, unfit, limit_outside, other_length, wrong_buffers, wrong_block, box_in, over}
 use Rattle.paper.specs.Lent.{Test, test, first, tests, refusal}
 use Rattle.paper.specs.Reports.{Reader, width, report_tests, report_refusal}
-use Rattle.paper.specs.SoundTests.{addresses-good}
+use Rattle.paper.proofs.SoundTestsLaws.{addresses-good}
 use Rattle.tables.specs.Records.{held_rows}
 use Rattle.paper.specs.BatchLent.{bad_count, any_outside, batch_tests, batch_refusal}
 use Rattle.parts.specs.declared.BoxRecord.{BoxRecord}

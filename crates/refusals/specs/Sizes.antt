@@ -6,9 +6,10 @@ use Rattle.tables.specs.Unsound.{elem}
 use Rattle.paper.specs.KeyedLaws.{All, by-test, clash, or-false-left}
 use Rattle.paper.specs.Cache.{Counters}
 use Rattle.paper.specs.Lent.{between, unfit, limit_outside, opening, wrong_buffers, refusal}
-use Rattle.paper.specs.LentLaws.{Lengths, right-lengths}
-use Rattle.paper.specs.RefusalLaws.{exactly-opening}
-use Rattle.paper.specs.CallLaws.{fits}
+use Rattle.paper.specs.LentLaws.{Lengths}
+use Rattle.paper.proofs.LentLaws.{right-lengths}
+use Rattle.paper.proofs.RefusalLaws.{exactly-opening}
+use Rattle.paper.proofs.CallLaws.{fits}
 use Rattle.parts.specs.declared.BoxRecord.{BoxRecord}
 use Rattle.parts.specs.Rep.{numbers_of}
 use Rattle.refusals.specs.Given.{lent}

@@ -6,11 +6,14 @@ use borrow.Author.Tests.{eqb-true, ne_eqb, not-false}
 use Rattle.paper.specs.KeyedLaws.{or-false-left, or-false-right}
 use Rattle.paper.specs.Cache.{Numbers}
 use Rattle.paper.specs.Lent.{Lent, wrong_buffers, box_in}
-use Rattle.paper.specs.LentLaws.{Passes, right-lengths}
-use Rattle.paper.specs.RefusalLaws.{Apart, gives_none}
-use Rattle.paper.specs.CallLaws.{Fits, fits}
+use Rattle.paper.specs.LentLaws.{Passes}
+use Rattle.paper.proofs.LentLaws.{right-lengths}
+use Rattle.paper.specs.RefusalLaws.{Apart}
+use Rattle.paper.proofs.RefusalLaws.{gives_none}
+use Rattle.paper.specs.CallLaws.{Fits}
+use Rattle.paper.proofs.CallLaws.{fits}
 use Rattle.paper.specs.RowBytes.{Bytes}
-use Rattle.paper.specs.Layout.{passes-addrs}
+use Rattle.paper.proofs.LayoutLaws.{passes-addrs}
 use Rattle.paper.specs.Reports.{Reader, width, report_of, report_tests, report_refusal, reported}
 use Rattle.reports.specs.Contract.{Reported, reports}
 use Rattle.reports.specs.RowByRow.{rows_in}

@@ -10,8 +10,9 @@ use Rattle.paper.specs.KeyedLaws.{by-test, clash, or-false-left}
 use Rattle.paper.specs.Lent.{limit_outside, first}
 use Rattle.arc.specs.Arc.{m_of, base_numbers}
 use Rattle.arc.specs.ArcLent.{words, unfit_arc}
-use Rattle.arc.specs.ArcLentLaws.{words-at}
-use Rattle.arc.specs.ArcDemandLaws.{ArcFits, arc-fits}
+use Rattle.arc.proofs.ArcLentLaws.{words-at}
+use Rattle.arc.specs.ArcDemandLaws.{ArcFits}
+use Rattle.arc.proofs.ArcDemandLaws.{arc-fits}
 use Rattle.arclists.specs.declared.ListSizes.{ListSizes}
 use Rattle.arcrefusals.specs.declared.ArcRecord.{ArcRecord}
 use Rattle.arcrefusals.specs.Given.{sizes_of}

@@ -14,7 +14,7 @@ use Rattle.tables.specs.RowLaws.{drop-take}
 use Rattle.paper.specs.KeyedLaws.{by-test, clash, or-false-left}
 use Rattle.paper.specs.Lent.{unfit, limit_outside, first, box_in}
 use Rattle.arc.specs.ArcLent.{words}
-use Rattle.arc.specs.ArcLentLaws.{words-at}
+use Rattle.arc.proofs.ArcLentLaws.{words-at}
 use Rattle.tables.specs.Records.{held_rows}
 use Rattle.parts.specs.declared.BoxRecord.{BoxRecord}
 use Rattle.parts.specs.Rep.{numbers_of}
@@ -24,7 +24,7 @@ use Rattle.image.specs.Body.{Fields, Form, pieces, total, body_length, numbers_i
 use Rattle.image.specs.Area.{mark, version, writes_for}
 use Rattle.image.specs.Image.{is_image, no_image, length_in, body_in, too_short, image_refusal}
 use Rattle.image.specs.Kinds.{string_at, lru_form, arc_form, kinds, lru_checks}
-use Rattle.image.specs.AreaLaws.{writes-enough}
+use Rattle.image.proofs.AreaLaws.{writes-enough}
 use Rattle.restoring.specs.Given as Given
 use Rattle.restoring.specs.Given.{arc_of, long_of, failing, body_fields, Laid}
 

@@ -8,7 +8,8 @@ use borrow.Author.Tests.{ne_eqb, eqb-true, eqb-false, not-false}
 use Rattle.tables.specs.Rows.{le4, zeros}
 use Rattle.paper.specs.KeyedLaws.{by-test, or-false-left, or-false-right}
 use Rattle.paper.specs.Lent.{test}
-use Rattle.paper.specs.RefusalLaws.{Apart, gives_none}
+use Rattle.paper.specs.RefusalLaws.{Apart}
+use Rattle.paper.proofs.RefusalLaws.{gives_none}
 use Rattle.arc.specs.Arc.{m_of}
 use Rattle.arcrefusals.specs.declared.ArcRecord.{ArcRecord}
 use Rattle.arcrefusals.specs.Given.{sizes_of}
@@ -18,7 +19,7 @@ use Rattle.image.specs.Image.{no_image, length_in, body_in, too_short, image_tes
 use Rattle.image.specs.Kinds.{string_at, kinds}
 use Rattle.image.specs.Saved as Saved
 use Rattle.image.specs.Saved.{fields_found, wrong_tables, restore_refusal, restored}
-use Rattle.image.specs.SavedLaws.{first-behind, restore-keeps}
+use Rattle.image.proofs.SavedLaws.{first-behind, restore-keeps}
 use Rattle.restoring.specs.declared.Found.{Found}
 use Rattle.restoring.specs.declared.Restored.{Restored}
 use Rattle.restoring.specs.Given.{arc_of, arc_in, as_box, zero_arc, body_fields, Laid, other_lengths, Left, left}

@@ -8,10 +8,10 @@ use Rattle.tables.specs.Rows.{flat}
 use Rattle.paper.specs.Cache.{Numbers, Counters}
 use Rattle.paper.specs.Lent.{Lent, Ask, calling, refused, unfit, limit_outside, refusal}
 use Rattle.paper.specs.LentLaws.{Passes}
-use Rattle.paper.specs.SoundTests.{addresses-good}
-use Rattle.paper.specs.CallLaws.{limit-fits, served-passes}
+use Rattle.paper.proofs.SoundTestsLaws.{addresses-good}
+use Rattle.paper.proofs.CallLaws.{limit-fits, served-passes}
 use Rattle.arc.specs.ArcLent.{word_bytes}
-use Rattle.arc.specs.ArcLentLaws.{length-words}
+use Rattle.arc.proofs.ArcLentLaws.{length-words}
 use Rattle.parts.specs.declared.BoxRecord.{BoxRecord}
 use Rattle.parts.specs.Rep.{numbers_of}
 use Rattle.policy.specs.declared.calls.Outcome.{Outcome}
@@ -25,8 +25,8 @@ use Rattle.image.specs.Area.{writes_for, applied, save_writes}
 use Rattle.image.specs.Image.{too_short}
 use Rattle.image.specs.Kinds.{lru_fields}
 use Rattle.image.specs.Saved.{lru_saver, save_refusal, save}
-use Rattle.image.specs.SavedLaws.{save-number, save-is, save-keeps}
-use Rattle.image.specs.BoxLaws.{lru-found, lru-length, lru-flush-0}
+use Rattle.image.proofs.SavedLaws.{save-number, save-is, save-keeps}
+use Rattle.image.proofs.BoxLaws.{lru-found, lru-length, lru-flush-0}
 use Rattle.restoring.specs.Given.{long_of}
 use Rattle.saving.specs.Given.{box_body, Writable, told, saved_by}
 

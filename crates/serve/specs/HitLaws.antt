@@ -14,10 +14,11 @@ use Rattle.paper.specs.Keyed.{has}
 use Rattle.paper.specs.KeyedLaws.{All, by-test, eqb→≡}
 use Rattle.paper.specs.Cache.{Seat, AddressRow, BlockRow, Box, Stepped, newest, block_row, held, known, cached, slot_of, without_address}
 use Rattle.paper.specs.Cache.{without_block, row_of, step1, step3, step4, step}
-use Rattle.paper.specs.Sound.{sound-step1}
+use Rattle.paper.proofs.SoundLaws.{sound-step1}
 use Rattle.paper.specs.Engine.{Fixed, comparing}
 use Rattle.paper.specs.Lent.{bit}
-use Rattle.paper.specs.Index.{index_where, index-holds, has-yes, find-yes, without-yes, slot_of-yes}
+use Rattle.paper.specs.Index.{index_where}
+use Rattle.paper.proofs.IndexLaws.{index-holds, has-yes, find-yes, without-yes, slot_of-yes}
 use Rattle.paper.specs.Layout.{Addrs, addresses_of, blocks_of}
 use Rattle.parts.specs.Rep.{numbers_of, Rep, no_row, engine}
 use Rattle.parts.specs.Asked.{no_block}

@@ -14,13 +14,14 @@ use Rattle.paper.specs.Cache.{Numbers, AddressRow, BlockRow, Box, Call, Word, sa
 use Rattle.paper.specs.Cache.{write_invalidate, flushed, limited, excess, dirty_rows, reach, partly, dirtied, on_disk, without_address, dropped, step, hit, miss}
 use Rattle.paper.specs.Cache.{read_as, row_with_block}
 use Rattle.paper.specs.Cache.{Seat, seat_in, row_of, if_cached, block_of}
-use Rattle.paper.specs.Partly.{length-partly}
+use Rattle.paper.proofs.PartlyLaws.{length-partly}
 use Rattle.paper.specs.Engine.{Fixed, labelled, comparing}
 use Rattle.paper.specs.Lent.{bit, join}
-use Rattle.paper.specs.Index.{index_where, has-yes, has_no, find-yes, find-no}
+use Rattle.paper.specs.Index.{index_where}
+use Rattle.paper.proofs.IndexLaws.{has-yes, has_no, find-yes, find-no}
 use Rattle.parts.specs.Rep.{numbers_of, with_held, no_row, Rep, Copied, copied_rows, part_box, engine}
 use Rattle.paper.specs.Layout.{Addrs, Blocks, addresses_of, blocks_of}
-use Rattle.paper.specs.LentLaws.{block-count, free-below, used-below}
+use Rattle.paper.proofs.LentLaws.{block-count, free-below, used-below}
 use Rattle.tables.specs.Rows.{row_at}
 use Rattle.tables.specs.Records.{read_address}
 use Rattle.tables.specs.Find.{is_dirty, has_fingerprint}

@@ -10,11 +10,12 @@ use Rattle.paper.specs.KeyedLaws.{and_left, by-test}
 use Rattle.paper.specs.Cache.{Numbers, Word, no_counts}
 use Rattle.paper.specs.Lent.{Lent, Ask, refused, answered, After, calling, opening, refusal, call, served, lent_of, opened, fresh, unopened}
 use Rattle.paper.specs.Lent.{label_after, with_label}
-use Rattle.paper.specs.LentLaws.{label-right}
+use Rattle.paper.proofs.LentLaws.{label-right}
 use Rattle.paper.specs.BatchLent.{BatchAnswer, batched, BatchAfter, batch_refusal, batched_from, served_batch, call_batch}
-use Rattle.paper.specs.BatchLentLaws.{batch-finds, batch-served, batch-keeps, batch-lent, batch-leaves, batch-fits}
-use Rattle.paper.specs.RefusalLaws.{exactly-opening, served-is, keeps, opened-is, refused-opening, label-carried, label-zeros}
-use Rattle.paper.specs.CallLaws.{In64, served-finds, served-lent, outcome, outcome-sound, counters-stay}
+use Rattle.paper.proofs.BatchLentLaws.{batch-finds, batch-served, batch-keeps, batch-lent, batch-leaves, batch-fits}
+use Rattle.paper.proofs.RefusalLaws.{exactly-opening, served-is, keeps, opened-is, refused-opening, label-carried, label-zeros}
+use Rattle.paper.specs.CallLaws.{In64, outcome}
+use Rattle.paper.proofs.CallLaws.{served-finds, served-lent, outcome-sound, counters-stay}
 use Rattle.tables.specs.Rows.{zeros}
 use Rattle.block.specs.Laws.{part-past}
 use Rattle.parts.specs.Rep.{numbers_of}

@@ -8,14 +8,15 @@ use Rattle.tables.specs.Rows.{table_bytes}
 use Rattle.paper.specs.KeyedLaws.{by-test}
 use Rattle.paper.specs.Cache.{Numbers, Word}
 use Rattle.paper.specs.Lent.{Lent, Ask, Answer, refused, answered, call, with_counters}
-use Rattle.paper.specs.CallLaws.{In64, counters-stay, served-passes, outcome}
+use Rattle.paper.specs.CallLaws.{In64, outcome}
+use Rattle.paper.proofs.CallLaws.{counters-stay, served-passes}
 use Rattle.parts.specs.Rep.{numbers_of}
 use Rattle.refusals.specs.Given.{counters_of}
 use Rattle.image.specs.Area.{put, clearing}
 use Rattle.image.specs.Kinds.{lru_fields, kinds}
 use Rattle.image.specs.Saved.{Saved, lru_saver, save_refusal, save, Restored, record_of}
-use Rattle.image.specs.SavedLaws.{save-is, save-keeps, given_back, restore-once}
-use Rattle.image.specs.BoxLaws.{lru-flush-0, lru-found, lru-saved, lru-back}
+use Rattle.image.proofs.SavedLaws.{save-is, save-keeps, given_back, restore-once}
+use Rattle.image.proofs.BoxLaws.{lru-flush-0, lru-found, lru-saved, lru-back}
 use Rattle.restoring.specs.Given.{box_of}
 use Rattle.fields.specs.Fields.{state_bytes, record_in, counters_in, put_record, fitting}
 use Rattle.fields.specs.FieldLaws.{length-put_record, record-put, counters-put}

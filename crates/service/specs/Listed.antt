@@ -10,19 +10,20 @@ use Rattle.tables.specs.Rows.{table_bytes}
 use Rattle.paper.specs.KeyedLaws.{All, by-test, and_left, and_right}
 use Rattle.paper.specs.Cache.{Numbers}
 use Rattle.paper.specs.Lent.{Lent, Ask, opening, refusal, lent_block, call, opened, fresh, with_label, with_counters}
-use Rattle.paper.specs.RefusalLaws.{opened-is, label-carried}
+use Rattle.paper.proofs.RefusalLaws.{opened-is, label-carried}
 use Rattle.paper.specs.BatchLent.{Asking, one, many, report, recount, call_batch}
 use Rattle.paper.specs.Reports.{Reader}
 use Rattle.reports.specs.Contract.{reports}
 use Rattle.paper.specs.CallLaws.{In64}
 use Rattle.paper.specs.Demand3.{next, Demand3}
-use Rattle.paper.specs.Demand3Laws.{demand-3, Written, opened-written, next-written, Brings64, next_64, look-stays}
+use Rattle.paper.specs.Demand3Laws.{Written, Brings64}
+use Rattle.paper.proofs.Demand3Laws.{demand-3, opened-written, next-written, next_64, look-stays}
 use Rattle.parts.specs.Rep.{numbers_of}
 use Rattle.refusals.specs.Given.{counters_of, lent}
 use Rattle.image.specs.Area.{put, clearing}
 use Rattle.image.specs.Kinds.{lru_fields, kinds}
 use Rattle.image.specs.Saved.{lru_saver, save_refusal, save}
-use Rattle.image.specs.SavedLaws.{save-is, given_back}
+use Rattle.image.proofs.SavedLaws.{save-is, given_back}
 use Rattle.fields.specs.Fields.{record_in, counters_in, fitting, state_bytes}
 use Rattle.fields.specs.Noted.{LeftLook}
 use Rattle.service.specs.Left.{lent_in, told_in, Left, leaves, LeftMany, told_many_in, leaves_many, fresh_record, opened_in, leaves_open, leaves_look}

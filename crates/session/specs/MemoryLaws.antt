@@ -12,9 +12,9 @@ use Rattle.paper.specs.KeyedLaws.{by-test, and_left, and_right, or-false-left, o
 use Rattle.paper.specs.Cache.{Numbers, Word, hit, miss, same_block, new_block, from_cache, from_disk, done}
 use Rattle.paper.specs.Lent.{Lent, Ask, calling, Answer, refused, answered, refusal, unfit, fresh}
 use Rattle.paper.specs.LentLaws.{Lengths}
-use Rattle.paper.specs.RefusalLaws.{keeps}
-use Rattle.paper.specs.CallLaws as Calls
-use Rattle.paper.specs.CallLaws.{served-passes}
+use Rattle.paper.proofs.RefusalLaws.{keeps}
+use Rattle.paper.proofs.CallLaws as Calls
+use Rattle.paper.proofs.CallLaws.{served-passes}
 use Rattle.refusals.specs.Sizes.{most}
 use Rattle.lines.specs.Lines.{parsed}
 use Rattle.lines.specs.declared.Command.{Command}

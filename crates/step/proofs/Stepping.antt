@@ -16,7 +16,8 @@ use Rattle.paper.specs.KeyedLaws.{All, by-test, clash, Distinct}
 use Rattle.paper.specs.Cache.{Numbers, AddressRow, BlockRow, Box, block_row, held, known, cached, some_uncached, slot_of, copied, copies, cleaned, step1, oldest_out, step3}
 use Rattle.paper.specs.Engine.{Fixed, labelled, comparing}
 use Rattle.paper.specs.Lent.{join}
-use Rattle.paper.specs.Index.{index_where, has-yes, has_no}
+use Rattle.paper.specs.Index.{index_where}
+use Rattle.paper.proofs.IndexLaws.{has-yes, has_no}
 use Rattle.paper.specs.Layout.{Addrs, Blocks, addresses_of, blocks_of}
 use Rattle.parts.specs.Rep.{numbers_of, Rep, Copied, copied_row, copied_rows, part_box, no_row, clean, engine}
 use Rattle.parts.specs.Asked.{no_block}

@@ -13,7 +13,8 @@ use Rattle.paper.specs.KeyedLaws.{Distinct}
 use Rattle.paper.specs.Cache.{AddressRow, BlockRow, Box, Taken, block_row, cached, copied, copies, cleaned, is_lost, taken, stored, step4}
 use Rattle.paper.specs.Engine.{Fixed, comparing}
 use Rattle.paper.specs.Lent.{join}
-use Rattle.paper.specs.Index.{index_where, has-yes, has_no}
+use Rattle.paper.specs.Index.{index_where}
+use Rattle.paper.proofs.IndexLaws.{has-yes, has_no}
 use Rattle.paper.specs.Layout.{Blocks, addresses_of, blocks_of}
 use Rattle.parts.specs.Rep.{numbers_of, Rep, Copied, copied_rows, part_box, engine}
 use Rattle.parts.specs.Asked.{no_block, victim_place}

@@ -13,9 +13,10 @@ use Rattle.parts.specs.declared.BoxRecord.{BoxRecord}
 use Rattle.tables.specs.Records.{address_row, address_bytes, slots_from}
 use Rattle.paper.specs.KeyedLaws.{All, all_map, all-perm, all_append, by-test, Distinct, all_of_map, all_left, all_right}
 use Rattle.paper.specs.Cache.{Seat, Numbers, AddressRow, BlockRow, BlockRows, Box, RowOut, Stepped, newest, block_row, cached, without_block, slot_of, step1, step3, step4, stored, taken, step, copies, is_lost}
-use Rattle.paper.specs.Sound.{Out, DirtyCached, sound-step1, sound-step3, length-perm, length-slots_from, length-cleaned}
-use Rattle.paper.specs.Sound as S
-use Rattle.paper.specs.Faithful.{slots-below-0}
+use Rattle.paper.specs.Sound.{DirtyCached}
+use Rattle.paper.proofs.SoundLaws.{Out, sound-step1, sound-step3, length-perm, length-slots_from, length-cleaned}
+use Rattle.paper.proofs.SoundLaws as S
+use Rattle.paper.proofs.FaithfulLaws.{slots-below-0}
 use Rattle.paper.specs.Engine.{Fixed, labelled, comparing}
 use Rattle.paper.specs.Lent.{bit}
 use Rattle.paper.specs.Layout.{Addrs, Blocks, blocks_of}

@@ -10,7 +10,8 @@ use Rattle.tables.specs.OperationLaws.{length-remove_at}
 use Rattle.paper.specs.KeyedLaws.{Distinct, eqb→≡, all_without, without-absent}
 use Rattle.paper.specs.Cache.{Numbers, AddressRow, BlockRow, without_address, row_of, known, cached, dropped, freed}
 use Rattle.paper.specs.Engine.{Fixed, labelled, comparing}
-use Rattle.paper.specs.Index.{index_where, index-holds, has-yes, has_no, find-yes, find-no, without-yes, slot_of-yes}
+use Rattle.paper.specs.Index.{index_where}
+use Rattle.paper.proofs.IndexLaws.{index-holds, has-yes, has_no, find-yes, find-no, without-yes, slot_of-yes}
 use Rattle.paper.specs.Layout.{Addrs, Blocks, addresses_of, blocks_of}
 use Rattle.parts.specs.Rep.{no_row}
 use Rattle.parts.specs.Asked.{no_block}

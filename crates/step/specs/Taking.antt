@@ -10,7 +10,8 @@ use Rattle.std.proofs.Math.ListN.{length}
 use Rattle.paper.specs.KeyedLaws.{by-test, clash, Distinct}
 use Rattle.paper.specs.Cache.{Numbers, AddressRow, BlockRow, block_row, without_block, known, slot_of, taken, taken_used, victim}
 use Rattle.paper.specs.Engine.{Fixed, labelled, comparing}
-use Rattle.paper.specs.Index.{index_where, index-holds, unknown-yes, unknown-no, has-at, without_at, without-yes, slot_of-yes}
+use Rattle.paper.specs.Index.{index_where}
+use Rattle.paper.proofs.IndexLaws.{index-holds, unknown-yes, unknown-no, has-at, without_at, without-yes, slot_of-yes}
 use Rattle.paper.specs.Layout.{Blocks, blocks_of}
 use Rattle.parts.specs.Asked.{no_block, victim_place}
 use Rattle.parts.specs.MoveLaws.{renewed}

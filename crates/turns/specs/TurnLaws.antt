@@ -25,12 +25,12 @@ use Rattle.paper.specs.KeyedLaws.{by-test, and_right}
 use Rattle.paper.specs.Cache.{Numbers, Hashing, AddressRow, Box, Counters, no_counts, Outcome, counted, one_if, is_hit, row_with_block, read_as, answer}
 use Rattle.paper.specs.Engine.{Fixed}
 use Rattle.paper.specs.Lent.{join, lent_of}
-use Rattle.paper.specs.Sound.{sound-read_as}
-use Rattle.paper.specs.LentLaws.{sound-lengths, sound-passes}
+use Rattle.paper.proofs.SoundLaws.{sound-read_as}
+use Rattle.paper.proofs.LentLaws.{sound-lengths, sound-passes}
 use Rattle.paper.specs.Layout.{Parts, addresses_of, blocks_of}
 use Rattle.paper.specs.Index.{index_where}
 use Rattle.paper.specs.Batch.{Filled, Batched, addresses_in, blocks_in, is_miss, seen, first_read, start, source, block_in, added, batch_read, batch}
-use Rattle.paper.specs.BatchLaws.{map_last}
+use Rattle.paper.proofs.BatchLaws.{map_last}
 use Rattle.paper.specs.CallLaws.{Fits}
 use Rattle.parts.specs.Rep.{numbers_of, with_held, Rep, engine}
 use Rattle.parts.specs.CopyLaws.{part-block, block-ends}

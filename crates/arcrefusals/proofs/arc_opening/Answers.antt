@@ -10,7 +10,7 @@ use Rattle.paper.specs.Lent.{opening, refusal}
 use Rattle.parts.specs.Rep.{numbers_of}
 use Rattle.refusals.specs.Given.{lent}
 use Rattle.arc.specs.ArcLent.{ArcLent, unfit_arc}
-use Rattle.arc.specs.ArcDemandLaws.{arc-fits}
+use Rattle.arc.proofs.ArcDemandLaws.{arc-fits}
 use Rattle.arcrefusals.specs.Given.{sizes_of, base_of, arc_lent}
 use Rattle.arcrefusals.specs.OpeningLaws.{opening-11, opening-base, opening-lists, opening-none}
 use Rattle.arcrefusals.proofs.arc_opening.Goals as goal

@@ -1,7 +1,7 @@
 -- The bytes of a header. Assumes nothing.
 use mathlib.Core.Path.{ap, ◌∙◌}
 use lib.ListN.{length}
-use Rattle.image.specs.AreaLaws.{length-header}
+use Rattle.image.proofs.AreaLaws.{length-header}
 use Rattle.area.specs.ByteLaws.{header_made}
 use Rattle.std.proofs.Common.{rules}
 use Rattle.area.proofs.header_bytes.Reads as reads

@@ -5,7 +5,8 @@ use Rattle.std.proofs.Common.{rules}
 use mathlib.Core.List.{[], ◌∷◌}
 use Rattle.paper.specs.Cache.{Counters}
 use Rattle.paper.specs.Lent.{unfit, limit_outside, wrong_buffers}
-use Rattle.paper.specs.RefusalLaws.{NoneOf, exactly-opening}
+use Rattle.paper.specs.RefusalLaws.{NoneOf}
+use Rattle.paper.proofs.RefusalLaws.{exactly-opening}
 use Rattle.parts.specs.Rep.{numbers_of}
 use Rattle.refusals.specs.Given.{lent}
 use Rattle.refusals.specs.Sizes.{most}

@@ -7,7 +7,7 @@ use Rattle.paper.specs.Lent.{Lent}
 use Rattle.parts.specs.Rep.{numbers_of}
 use Rattle.refusals.specs.Given.{counters_of, lent}
 use Rattle.image.specs.Saved.{lru_saver, save_refusal}
-use Rattle.image.specs.BoxLaws.{lru-flush-0}
+use Rattle.image.proofs.BoxLaws.{lru-flush-0}
 use Rattle.saving.specs.SaveLaws.{save-refused, writable-after, save-served}
 use Rattle.std.proofs.Common.{rules}
 use Rattle.saving.proofs.save.Goals as goal

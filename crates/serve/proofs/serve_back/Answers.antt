@@ -4,7 +4,7 @@ use mathlib.Core.Bool.{cond}
 use native.Mathlib.Omega.{arith}
 use Rattle.tables.specs.Records.{bytes2}
 use Rattle.paper.specs.Cache.{Box, Request, Stepped, cached, dirtied, row_of, same_block, new_block, step}
-use Rattle.paper.specs.Sound.{sound-step}
+use Rattle.paper.proofs.SoundLaws.{sound-step}
 use Rattle.paper.specs.Engine.{Fixed}
 use Rattle.parts.specs.declared.BoxRecord.{BoxRecord}
 use Rattle.parts.specs.Rep.{numbers_of, with_held, Rep, engine}

@@ -9,7 +9,7 @@ use Rattle.parts.specs.Rep.{numbers_of, engine}
 use Rattle.paper.specs.Cache.{on_disk, cached, same_block, new_block, step}
 use Rattle.paper.specs.Engine.{Fixed}
 use Rattle.block.specs.Blocks.{splice}
-use Rattle.paper.specs.Sound.{sound-on_disk}
+use Rattle.paper.proofs.SoundLaws.{sound-on_disk}
 use Rattle.tables.specs.Records.{bytes2}
 use Rattle.step.specs.Steps.{asks}
 use Rattle.parts.specs.CopyLaws.{block-ends}

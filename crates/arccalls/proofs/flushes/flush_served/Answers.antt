@@ -5,7 +5,7 @@ use Rattle.std.proofs.Common.{rules}
 use Rattle.paper.specs.Lent.{Ask}
 use Rattle.refusals.specs.Given.{counters_of}
 use Rattle.arc.specs.ArcLent.{ArcLent}
-use Rattle.arc.specs.ArcDemandLaws.{found}
+use Rattle.arc.proofs.ArcDemandLaws.{found}
 use Rattle.arcrefusals.specs.Given.{sizes_of, arc_lent}
 use Rattle.arccalls.specs.BaseLaws.{flush-keeps, base-0, base_index, arc-told}
 use Rattle.arccalls.proofs.flushes.flush_served.Goals as goal

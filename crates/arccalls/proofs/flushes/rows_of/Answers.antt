@@ -3,7 +3,7 @@ use mathlib.Core.Path.{sym, ap, ◌∙◌}
 use mathlib.Core.Bool.{true≢false}
 use native.Mathlib.Omega.{arith}
 use Rattle.std.proofs.Common.{rules}
-use Rattle.arc.specs.ArcDemandLaws.{arc-fits}
+use Rattle.arc.proofs.ArcDemandLaws.{arc-fits}
 use Rattle.parts.specs.declared.BoxRecord.{BoxRecord}
 use Rattle.arcrefusals.specs.Given.{sizes_of}
 use Rattle.arccalls.proofs.flushes.rows_of.Goals as goal

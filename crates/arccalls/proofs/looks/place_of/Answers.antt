@@ -5,7 +5,7 @@ use Rattle.std.proofs.Common.{rules}
 use Rattle.paper.specs.Cache.{Counters, no_counts}
 use Rattle.paper.specs.Lent.{Ask, calling}
 use Rattle.arc.specs.ArcLent.{ArcLent, arc_refusal}
-use Rattle.arc.specs.ArcDemandLaws.{found}
+use Rattle.arc.proofs.ArcDemandLaws.{found}
 use Rattle.arcrefusals.specs.Given.{sizes_of, arc_lent}
 use Rattle.arccalls.specs.LookLaws.{place-refused, look-0, look-place}
 use Rattle.arccalls.proofs.looks.place_of.Goals as goal

@@ -10,7 +10,7 @@ use Rattle.tables.specs.Find.{all}
 use Rattle.tables.specs.Sound.{distinct}
 use Rattle.tables.specs.SoundLaws.{Read, Marked, marked-none, marked}
 use Rattle.arc.specs.ArcLent.{words}
-use Rattle.arc.specs.ArcLentLaws.{length-words-in, words-at}
+use Rattle.arc.proofs.ArcLentLaws.{length-words-in, words-at}
 use Rattle.arclists.specs.Names.{fine}
 use Rattle.arclists.specs.NameLaws.{too-big, named-twice, more-fine}
 use Rattle.arclists.proofs.names.names_marked.Goals as goal

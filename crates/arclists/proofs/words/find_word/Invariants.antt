@@ -6,7 +6,7 @@ use Rattle.std.proofs.Common.{rules}
 use lib.ListN.{drop}
 use Rattle.arc.specs.ArcLent.{words}
 use Rattle.arclists.specs.Listed.{place_of}
-use Rattle.arc.specs.ArcLentLaws.{length-words-in, words-at}
+use Rattle.arc.proofs.ArcLentLaws.{length-words-in, words-at}
 use Rattle.arclists.specs.PlaceLaws.{place-hit, place-miss, place_end}
 use Rattle.arclists.proofs.words.find_word.Given as goal
 

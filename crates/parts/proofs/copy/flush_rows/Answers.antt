@@ -8,7 +8,7 @@ use native.Mathlib.Numerals.{add-one}
 use lib.ListN.{length, take}
 use Rattle.paper.specs.Cache.{Box, dirty_rows, reach}
 use Rattle.paper.specs.Engine.{Fixed}
-use Rattle.paper.specs.Partly.{reach-le, reach-more, reach-stop}
+use Rattle.paper.proofs.PartlyLaws.{reach-le, reach-more, reach-stop}
 use Rattle.parts.specs.declared.BoxRecord.{BoxRecord}
 use Rattle.parts.specs.Rep.{Rep, Copied, copied_rows, part_box, engine}
 use Rattle.parts.proofs.Looped.{rep-part, part_step, part_none}

@@ -6,7 +6,7 @@ use native.Mathlib.Omega.{arith}
 use Rattle.std.proofs.Common.{rules}
 use Rattle.paper.specs.Cache.{serve, flushed}
 use Rattle.paper.specs.Lent.{Lent, Ask, call_of}
-use Rattle.paper.specs.CallLaws.{served-finds}
+use Rattle.paper.proofs.CallLaws.{served-finds}
 use Rattle.policy.specs.declared.Word.TheVariants.{Done}
 use Rattle.parts.specs.Rep.{numbers_of}
 use Rattle.refusals.specs.Given.{counters_of, lent}

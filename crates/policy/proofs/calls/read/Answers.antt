@@ -8,7 +8,7 @@ use Rattle.std.proofs.Common.{rules}
 use Rattle.tables.specs.SoundLaws.{filled-with}
 use Rattle.paper.specs.Cache.{Call, hit, miss, serve}
 use Rattle.paper.specs.Lent.{Ask, calling, refusal, call_of}
-use Rattle.paper.specs.CallLaws.{served-finds}
+use Rattle.paper.proofs.CallLaws.{served-finds}
 use Rattle.parts.specs.Rep.{numbers_of, engine}
 use Rattle.refusals.specs.Given.{counters_of, lent}
 use Rattle.policy.specs.Contract.{told}

@@ -4,7 +4,7 @@ use mathlib.Core.Bool.{false}
 use native.Mathlib.Omega.{arith}
 use Rattle.paper.specs.Lent.{limit_outside}
 use Rattle.arc.specs.ArcLent.{unfit_arc}
-use Rattle.arc.specs.ArcDemandLaws.{arc-fits}
+use Rattle.arc.proofs.ArcDemandLaws.{arc-fits}
 use Rattle.parts.specs.declared.BoxRecord.{BoxRecord}
 use Rattle.parts.specs.Rep.{numbers_of}
 use Rattle.arcrefusals.specs.Given.{sizes_of, base_of}
