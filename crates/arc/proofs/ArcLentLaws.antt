@@ -11,7 +11,7 @@ use Rattle.std.proofs.Math.ListN.{length, take, drop, length-drop}
 use Rattle.std.proofs.Math.Seq.{take-append_seam, drop-append_seam, take-append-add}
 use borrow.Author.Tests.{ltb-false, le-ltb, eqb-true, eq-eqb, not-false}
 use Rattle.tables.specs.Rows.{zeros, le4}
-use Rattle.tables.specs.OperationLaws.{le4-bytes4}
+use Rattle.tables.proofs.OperationLaws.{le4-bytes4}
 use Rattle.tables.specs.Find.{any}
 use Rattle.tables.specs.Unsound.{nonzero}
 use Rattle.paper.specs.Keyed.{has, without}

@@ -7,7 +7,7 @@ use Rattle.std.proofs.Math.Seq.{take_all}
 use Rattle.std.proofs.lemmas.Bool.{not-false}
 use Rattle.tables.specs.Rows.{zeros, le4}
 use Rattle.tables.specs.Records.{bytes4}
-use Rattle.tables.specs.RecordLaws.{bytes4-le4}
+use Rattle.tables.proofs.RecordLaws.{bytes4-le4}
 use Rattle.tables.specs.Find.{any}
 use Rattle.tables.specs.Unsound.{nonzero}
 use Rattle.paper.specs.KeyedLaws.{or-false-left, or-false-right}

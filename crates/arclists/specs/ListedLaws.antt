@@ -5,7 +5,7 @@ use Rattle.std.proofs.Math.Seq.{paste, take-append-add, drop-append-add, take-le
 use Rattle.tables.specs.Rows.{zeros, remove_at}
 use Rattle.tables.specs.Records.{bytes4}
 use Rattle.tables.specs.ShiftLaws.{length-zeros, moved_down, moved_up}
-use Rattle.tables.specs.OperationLaws.{length-remove_at}
+use Rattle.tables.proofs.OperationLaws.{length-remove_at}
 use Rattle.table_laws.specs.Written.{zeros-add, drop-zeros}
 use Rattle.arc.specs.ArcLent.{word_bytes, end_to_end, list_bytes}
 use Rattle.arc.specs.Arc.{Lists}

@@ -15,7 +15,8 @@ use Rattle.tables.specs.Bits.{bit_at}
 use Rattle.tables.specs.Sound.{row_address}
 use Rattle.tables.specs.SoundLaws.{Marked}
 use Rattle.tables.specs.Index.{code, place_in, cached_in}
-use Rattle.tables.specs.OperationLaws.{Wide, wide_rows}
+use Rattle.tables.specs.OperationLaws.{Wide}
+use Rattle.tables.proofs.OperationLaws.{wide_rows}
 use Rattle.paper.specs.KeyedLaws.{All, by-test}
 use Rattle.paper.specs.Cache.{Numbers, cached}
 use Rattle.paper.specs.Engine.{Fixed, fit, labelled}

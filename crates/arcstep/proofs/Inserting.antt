@@ -10,7 +10,7 @@ use lib.Dec.{eqb}
 use lib.ListN.{length, get_or, set, length-set, length-append}
 use Rattle.tables.specs.Rows.{remove_at}
 use Rattle.tables.specs.Operations.{row_newest}
-use Rattle.tables.specs.OperationLaws.{length-remove_at}
+use Rattle.tables.proofs.OperationLaws.{length-remove_at}
 use Rattle.paper.specs.KeyedLaws.{All, all_append, all_without, by-test, by-option, clash, Distinct, distinct_snoc, distinct_without, has-without-other, has-without-self}
 use Rattle.paper.proofs.SoundLaws.{length-cleaned, all-cleaned, distinct-cleaned, length-copied}
 use Rattle.paper.specs.Cache.{AddressRow, BlockRow, Box, Taken, block_row, without_block, slot_of, cached, cleaned, is_lost, taken_used, stored}

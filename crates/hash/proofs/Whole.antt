@@ -3,7 +3,7 @@
 use Rattle.std.proofs.Common.{◌≡◌, ℕ, ◌+◌, ◌*◌, ◌/◌, ◌%◌, List, ◌++◌, length, refl, ap, ◌∙◌, arith, length-append, take_all}
 use Rattle.hash.specs.Sha256.{H0, blocks, compress, digest, bytes64, pad, sha256}
 use Rattle.hash.specs.LastChunk.{Size, bit_length, last_chunk}
-use Rattle.hash.specs.Laws.{size-whole, one_chunk}
+use Rattle.hash.proofs.SpecLaws.{size-whole, one_chunk}
 use Rattle.hash.proofs.Laws.{blocks-after}
 
 length_last : (bits : ℕ) → length (last_chunk bits) ≡ 64

@@ -12,7 +12,7 @@ use borrow.Author.Tests.{le-ltb, ltb-false, not-true}
 use Rattle.tables.specs.Rows.{zeros, le4}
 use Rattle.tables.specs.Find.{all, same}
 use Rattle.tables.specs.ShiftLaws.{length-zeros}
-use Rattle.tables.specs.OperationLaws.{le4-bytes4}
+use Rattle.tables.proofs.OperationLaws.{le4-bytes4}
 use Rattle.paper.specs.KeyedLaws.{either}
 use Rattle.image.specs.Body.{Fields, body_of, Form, fails_as, fails_in, no_body}
 use Rattle.image.specs.Area.{applied, writes_for, padded, header, save_writes, cut_at, CanLeave}

@@ -8,7 +8,7 @@ use Prim.Native.Nat.{ℕ, ◌+◌, ◌*◌, ◌^◌, ◌≤◌, ◌<◌}
 use Rattle.std.proofs.Math.ListN.{length-append}
 use borrow.Author.Tests.{eq-eqb}
 use Rattle.tables.specs.Rows.{flat, le4}
-use Rattle.tables.specs.OperationLaws.{le4-bytes4}
+use Rattle.tables.proofs.OperationLaws.{le4-bytes4}
 use Rattle.paper.specs.KeyedLaws.{All}
 use Rattle.arc.specs.ArcLent.{words, word_bytes}
 use Rattle.arc.proofs.ArcLentLaws.{length-words, words_back}

@@ -12,8 +12,9 @@ use Rattle.tables.specs.Unsound.{addresses_unsound, blocks_unsound}
 use Rattle.tables.specs.Sound.{is_zero, tail_ok, seated_tail, address_ok, row_address, row_slot}
 use Rattle.tables.specs.Index.{row_ok}
 use Rattle.tables.specs.RowLaws.{rows-length}
-use Rattle.tables.specs.RecordLaws.{zeros-all}
-use Rattle.tables.specs.OperationLaws.{Wide, wide_rows}
+use Rattle.tables.proofs.RecordLaws.{zeros-all}
+use Rattle.tables.specs.OperationLaws.{Wide}
+use Rattle.tables.proofs.OperationLaws.{wide_rows}
 use Rattle.table_laws.specs.Written.{low-dirty, low-used, block-print-length}
 use Rattle.table_laws.specs.Promises.{addresses-back, blocks-back}
 use Rattle.paper.specs.KeyedLaws.{by-test, and_left, and_right}

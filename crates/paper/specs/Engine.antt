@@ -5,7 +5,7 @@ use Rattle.std.proofs.Common.{append_assoc, arith, length-append, take_at, lengt
 use mathlib.Core.HLevel.{Σ_prop_path}
 use Rattle.std.proofs.Math.Nat.{ℕ_set}
 use Rattle.hash.specs.Sha256.{sha256}
-use Rattle.hash.specs.Laws.{sha256-length}
+use Rattle.hash.proofs.SpecLaws.{sha256-length}
 use Rattle.tables.specs.Rows.{zeros}
 use Rattle.tables.specs.Find.{same}
 use Rattle.tables.specs.ShiftLaws.{length-zeros}

@@ -17,7 +17,8 @@ use Rattle.tables.specs.Sound.{address_ok, is_zero}
 use Rattle.tables.specs.Index.{row_ok, dirty_ok}
 use Rattle.tables.specs.RowLaws.{rows-length}
 use Rattle.tables.specs.ShiftLaws.{length-zeros}
-use Rattle.tables.specs.OperationLaws.{Wide, wide_rows, addr-forth}
+use Rattle.tables.specs.OperationLaws.{Wide}
+use Rattle.tables.proofs.OperationLaws.{wide_rows, addr-forth}
 use Rattle.table_laws.specs.Checked.{dirty-checked}
 use Rattle.table_laws.specs.KeptLists.{both, zeros-zero}
 use Rattle.table_laws.specs.KeptAddresses.{address_ok-of}

@@ -12,7 +12,7 @@ use Rattle.tables.specs.Find.{is_dirty, is_used}
 use Rattle.tables.specs.Operations.{row_out, row_added, row_cleaned, row_newest, row_freed, row_filled}
 use Rattle.tables.specs.SoundLaws.{map_at}
 use Rattle.tables.specs.ShiftLaws.{length-zeros}
-use Rattle.tables.specs.OperationLaws.{addr-forth, map-++, map-remove_at, map-set}
+use Rattle.tables.proofs.OperationLaws.{addr-forth, map-++, map-remove_at, map-set}
 use Rattle.table_laws.specs.Written.{clean_row, address-address, address-dirty, block-slot, held_at, held_out, held-added, held-cleaned, block_at}
 use Rattle.table_laws.specs.Written.{blocks-newest, blocks-freed, blocks-filled}
 use Rattle.paper.specs.KeyedLaws.{All}

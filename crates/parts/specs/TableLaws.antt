@@ -9,7 +9,7 @@ use Rattle.tables.specs.declared.Found.{Found}
 use Rattle.tables.specs.declared.Found.TheVariants.{At, Nothing}
 use Rattle.tables.specs.Records.{address_bytes, block_bytes, free_row, read_address, read_block}
 use Rattle.tables.specs.Records as R
-use Rattle.tables.specs.OperationLaws.{map-++}
+use Rattle.tables.proofs.OperationLaws.{map-++}
 use Rattle.tables.specs.ShiftLaws.{length-zeros}
 use Rattle.table_laws.specs.Written.{address-address, address-print, block-print, block-used, held-rows, block-rows}
 use Rattle.paper.specs.Keyed.{has}

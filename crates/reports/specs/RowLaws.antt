@@ -11,7 +11,7 @@ use Rattle.std.proofs.Math.Seq.{take_all}
 use Rattle.tables.specs.Rows.{row_at, flat, zeros}
 use Rattle.tables.specs.Records.{Seat, bytes4}
 use Rattle.tables.specs.RowLaws.{flat_append}
-use Rattle.tables.specs.OperationLaws.{map-++}
+use Rattle.tables.proofs.OperationLaws.{map-++}
 use Rattle.paper.specs.Cache.{AddressRow}
 use Rattle.paper.specs.Engine.{Fixed}
 use Rattle.paper.specs.Lent.{bit}

@@ -6,7 +6,7 @@ use mathlib.Core.List.{List, ◌∷◌}
 use Rattle.std.proofs.Math.Option.{Option, none, some}
 use Rattle.tables.specs.Rows.{remove_at, row_at}
 use Rattle.tables.specs.Operations.{row_freed}
-use Rattle.tables.specs.OperationLaws.{length-remove_at}
+use Rattle.tables.proofs.OperationLaws.{length-remove_at}
 use Rattle.paper.specs.KeyedLaws.{Distinct, eqb→≡, all_without, without-absent}
 use Rattle.paper.specs.Cache.{Numbers, AddressRow, BlockRow, without_address, row_of, known, cached, dropped, freed}
 use Rattle.paper.specs.Engine.{Fixed, labelled, comparing}

@@ -12,7 +12,7 @@ use Rattle.tables.specs.Records.{Seat, address_bytes, address_row, address_table
 use Rattle.tables.specs.RowLaws.{rows-length, rows_at, length_part}
 use Rattle.tables.specs.SoundLaws.{and_left, and_right, or_left, or_right, all-at, values-at, values_length}
 use Rattle.tables.specs.FindLaws.{found_at}
-use Rattle.tables.specs.OperationLaws.{off, le4-bytes4, rows-removed, rest-removed, rows_pushed, rest-pushed, map-remove_at, map-++, rows-set, rest-clean}
+use Rattle.tables.proofs.OperationLaws.{off, le4-bytes4, rows-removed, rest-removed, rows_pushed, rest-pushed, map-remove_at, map-++, rows-set, rest-clean}
 use Rattle.table_laws.specs.KeptLists.{both, neither, eqb-sym, all_append, all-remove_at, all_drop, all_set, zeros-zero, elem-remove_at, elem_out}
 use Rattle.table_laws.specs.KeptLists.{distinct-remove_at, distinct_snoc}
 use Rattle.tables.specs.Operations.{row_out, row_added, row_cleaned}

@@ -18,8 +18,9 @@ use Rattle.tables.specs.RowLaws.{rows-length, rows_at, length_part}
 use Rattle.tables.specs.SoundLaws.{and_left, and_right, not-true-false, same_true, all-at, every-at, values-at, values_length}
 use Rattle.tables.specs.ShiftLaws.{length-zeros, length-freed, length-filled}
 use Rattle.tables.specs.FindLaws.{same_refl}
-use Rattle.tables.specs.OperationLaws.{map-remove_at, map-++, rows_whole, Wide, wide_rows, wide-append, wide-remove_at, length-remove_at, slot-parts}
-use Rattle.tables.specs.OperationLaws.{tail-parts, flag-parts, le4-bytes4, free-length}
+use Rattle.tables.specs.OperationLaws.{Wide}
+use Rattle.tables.proofs.OperationLaws.{map-remove_at, map-++, rows_whole, wide_rows, wide-append, wide-remove_at, length-remove_at, slot-parts}
+use Rattle.tables.proofs.OperationLaws.{tail-parts, flag-parts, le4-bytes4, free-length}
 use Rattle.table_laws.specs.KeptLists.{both, all_append, all-remove_at, all-mono, zeros-zero, absent-all, every-remove_at, every-snoc}
 use Rattle.table_laws.specs.KeptLists.{distinct-last, distinct-first, slots-distinct}
 use Rattle.tables.specs.Operations.{row_newest, row_freed, row_filled, freed_row, filled}

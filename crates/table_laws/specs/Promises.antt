@@ -10,7 +10,7 @@ use Rattle.tables.specs.declared.Found.TheVariants.{Nothing}
 use Rattle.tables.specs.Unsound.{addresses_unsound, blocks_unsound, dirty_uncached, tables_refused}
 use Rattle.tables.specs.Sound.{distinct, sound_addresses, sound_blocks, block_ok, addresses_fit, blocks_fit, row_slot}
 use Rattle.tables.specs.Index.{unique, row_ok}
-use Rattle.tables.specs.RecordLaws.{address_table-held, block_table-blocks}
+use Rattle.tables.proofs.RecordLaws.{address_table-held, block_table-blocks}
 use Rattle.table_laws.specs.SoundSplit.{sound-split}
 use Rattle.table_laws.specs.Checked.{addresses-checked, blocks-checked, fit-addresses, fit-blocks}
 use Rattle.tables.specs.SoundLaws.{and_left, and_right, or_right}

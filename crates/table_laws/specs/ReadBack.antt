@@ -9,8 +9,8 @@ use Rattle.tables.specs.Records.{AddressRow, BlockRow, block_row, free_row, addr
 use Rattle.tables.specs.Operations.{freed_row, filled, row_out, row_added, row_cleaned, row_newest, row_freed, row_filled}
 use Rattle.tables.specs.RowLaws.{rows_at, length_part}
 use Rattle.tables.specs.ShiftLaws.{length-freed, length-filled}
-use Rattle.tables.specs.OperationLaws.{map-++, map-remove_at, map-set, rows-removed, rows_pushed, rows-set, addr-forth, address-clean, block-freed}
-use Rattle.tables.specs.OperationLaws.{block-filled, blocks_last, blocks-first}
+use Rattle.tables.proofs.OperationLaws.{map-++, map-remove_at, map-set, rows-removed, rows_pushed, rows-set, addr-forth, address-clean, block-freed}
+use Rattle.tables.proofs.OperationLaws.{block-filled, blocks_last, blocks-first}
 use Rattle.table_laws.specs.Written.{clean_row, address-wide}
 
 -- ---- the n held rows of an address table

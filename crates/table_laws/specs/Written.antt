@@ -19,8 +19,9 @@ use Rattle.tables.specs.Index.{row_ok}
 use Rattle.tables.specs.RowLaws.{rows_at, length_part}
 use Rattle.tables.specs.SoundLaws.{and_left, map_at}
 use Rattle.tables.specs.ShiftLaws.{length-zeros, length-freed}
-use Rattle.tables.specs.OperationLaws.{Wide, rows-flat, length-flat, drop-flat, rows_whole, map-++, map-remove_at, map-set, length-remove_at}
-use Rattle.tables.specs.OperationLaws.{le4-bytes4, off, clean-rows, block-freed}
+use Rattle.tables.specs.OperationLaws.{Wide}
+use Rattle.tables.proofs.OperationLaws.{rows-flat, length-flat, drop-flat, rows_whole, map-++, map-remove_at, map-set, length-remove_at}
+use Rattle.tables.proofs.OperationLaws.{le4-bytes4, off, clean-rows, block-freed}
 use Rattle.table_laws.specs.KeptLists.{both}
 use Rattle.table_laws.specs.KeptBlocks.{zeros-four, zeros-three, free-wide, free-count}
 

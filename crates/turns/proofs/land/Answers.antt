@@ -5,7 +5,7 @@ use Prim.Native.Nat.{ℕ, ◌+◌, ◌-◌, ◌*◌, ◌≤◌}
 use native.Mathlib.Nat.{mul-le-mul}
 use native.Mathlib.Omega.{arith}
 use lib.ListN.{length, take, drop}
-use Rattle.hash.specs.Laws.{size-whole}
+use Rattle.hash.proofs.SpecLaws.{size-whole}
 use Rattle.block.specs.Blocks.{part}
 use Rattle.block.specs.Laws.{product-fits, part-is, length_part, length-splice}
 use Rattle.turns.specs.TurnLaws.{put-part, table-lengths, turned-at}

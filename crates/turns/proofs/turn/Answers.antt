@@ -7,7 +7,7 @@ use native.Mathlib.Omega.{arith}
 use lib.Dec.{ltb, leb}
 use lib.ListN.{length, get_or, take}
 use lib.Seq.{length-take-le}
-use Rattle.hash.specs.Laws.{size-whole}
+use Rattle.hash.proofs.SpecLaws.{size-whole}
 use Rattle.parts.specs.CopyLaws.{block-ends}
 use Rattle.turns.specs.TurnLaws.{as_long, lends, turned-brought, next_of}
 use Rattle.std.proofs.Common.{rules}

@@ -8,7 +8,7 @@ use Rattle.std.proofs.Common.{rules}
 use Rattle.tables.specs.Rows.{rows, flat}
 use Rattle.tables.specs.Records.{block_bytes, free_row, slots_from, block_table, fresh_blocks}
 use Rattle.tables.specs.RowLaws.{flat-all}
-use Rattle.tables.specs.OperationLaws.{rows_pushed, length-pushed, free-length, slots-snoc, map-++}
+use Rattle.tables.proofs.OperationLaws.{rows_pushed, length-pushed, free-length, slots-snoc, map-++}
 use Rattle.tables.specs.Operations.{row_added}
 use Rattle.tables.proofs.fresh.fresh_blocks.Goals as goal
 
