@@ -12,7 +12,7 @@ use Rattle.paper.specs.KeyedLaws.{All, Distinct, by-test, eqb→≡, eqb-self, o
 use Rattle.paper.specs.KeyedLaws.{all_append, all_without, distinct_without, distinct_snoc, has-without-self, without-absent}
 use Rattle.paper.proofs.SoundLaws.{length-without-lt}
 use Rattle.paper.specs.Machines.{put}
-use Rattle.counting.specs.Recency.{one_out}
+use Rattle.counting.proofs.Recency.{one_out}
 use Rattle.exam.specs.declared.search.Four.{Four}
 use Rattle.exam.specs.Small.{four, kept, has_four, put_four}
 

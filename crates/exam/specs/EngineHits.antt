@@ -20,7 +20,8 @@ use Rattle.paper.proofs.Demand3Laws.{demand-3, opened-written, next-written}
 use Rattle.paper.proofs.RefusalLaws.{exactly-opening, opened-is}
 use Rattle.paper.proofs.CallLaws.{fits, outcome-few, served-box, adds-few}
 use Rattle.counting.specs.Told.{tell}
-use Rattle.counting.specs.TellHit.{Follows, printed-told, follows_next, follows-none, words, NoneRefused, content_in, tell-hit}
+use Rattle.counting.specs.TellHit.{words, NoneRefused, content_in}
+use Rattle.counting.proofs.TellHitLaws.{Follows, printed-told, follows_next, follows-none, tell-hit}
 use Rattle.exam.specs.Scores.{lists, how_many, nine, start, hits, with_hits, scores}
 use Rattle.exam.specs.ScoreLaws.{each-list}
 use Rattle.exam.specs.Contract.{question_refusal, Counted, question}

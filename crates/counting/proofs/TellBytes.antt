@@ -16,7 +16,8 @@ use Rattle.paper.specs.Lent as Lent
 use Rattle.paper.specs.Lent.{Lent, opening, refusal, opened, split, fresh, call}
 use Rattle.paper.specs.Demand3.{refusals}
 use Rattle.counting.specs.Told.{tell_hit, tell}
-use Rattle.counting.specs.TellHit.{asked, content_in, words, tell-hit}
+use Rattle.counting.specs.TellHit.{asked, content_in, words}
+use Rattle.counting.proofs.TellHitLaws.{tell-hit}
 
 abbrev numbers : Numbers
 numbers = record { B = 64; P = 2; m = 2; d = 1; label = replicate 64 0; t = 2 }

@@ -1,0 +1,4 @@
+-- lemmas
+pub mod Recency
+pub mod TellBytes
+pub mod TellHitLaws
