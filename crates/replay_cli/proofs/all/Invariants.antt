@@ -1,5 +1,5 @@
 -- After each turn one more read is made, and its bytes are fed; the turns fall. Assumes nothing.
-use Rattle.std.proofs.Common.{◌≡◌, List, ℕ, ◌+◌, ◌-◌, ◌^◌, length}
+use Rattle.std.proofs.Common.{◌≡◌, List, ◌+◌, ◌-◌, ◌^◌, length}
 use Rattle.session.specs.Memory.{Memory, memory}
 use Rattle.replay_cli.specs.Chunks.{first}
 use Rattle.replay_cli.specs.Reads.{Reading, after, due, Made}

@@ -10,8 +10,8 @@ invariant-loop-i g l =
     record {
       in_range : l.i ≤ length l.chunk;
       fed_so_far :
-        memory l.t l.line l.disk l.flash l.addresses l.blocks l.out
-        ≡ fed_first l.chunk l.i (memory r.t r.line r.disk r.flash r.addresses r.blocks r.out);
+          memory l.t l.line l.disk l.flash l.addresses l.blocks l.out
+          ≡ fed_first l.chunk l.i (memory r.t r.line r.disk r.flash r.addresses r.blocks r.out);
       page_size : length l.page ≡ 65536;
       page_holds : l.n ≤ 65536;
     }
