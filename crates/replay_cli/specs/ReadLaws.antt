@@ -1,6 +1,6 @@
 -- The texts of a run and of its end are the replay of the bytes read: by induction on the reads. Assumes nothing.
-use Rattle.std.specs.Prelude.{◌≡◌, refl, true, List, [], ◌∷◌, ◌++◌, ℕ, zero, suc, ◌≤◌, length, take, get_or}
-use Rattle.std.proofs.Common.{sym, ap, ap₂, ◌∙◌, append_assoc, append-nil, arith, take-suc}
+use Rattle.std.specs.Prelude.{◌≡◌, refl, List, [], ◌∷◌, ◌++◌, ℕ, zero, suc, ◌≤◌, length, take, get_or}
+use Rattle.std.proofs.Common.{sym, ap, ◌∙◌, append_assoc, append-nil, arith, take-suc}
 use Rattle.answers.specs.Replay.{replay}
 use Rattle.tables.specs.Rows.{table_bytes}
 use Rattle.session.specs.Memory.{Memory, memory, lengths_fit, numbers_fit, fits, fed, ended}
