@@ -1,4 +1,6 @@
 // The reports of the held rows of a D-ARC box, for the manager and for the desk.
+#![tactic(auto)]
+
 ghost use Rattle.std.specs.Prelude.{◌≡◌};
 ghost use Rattle.paper.specs.Cache.{Counters};
 ghost use Rattle.reports.specs.Contract.{reader_of};

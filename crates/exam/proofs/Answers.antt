@@ -8,7 +8,7 @@ use Rattle.paper.specs.Lent.{split}
 use Rattle.paper.specs.Machines.{content_of}
 use Rattle.exam.specs.Scores.{nine_zeros, scores}
 use Rattle.exam.specs.Contract.{question_refusal, counts_of, Counted, question}
-use Rattle.exam.specs.QuestionLaws.{posed, question-refused, question-posed}
+use Rattle.exam.proofs.QuestionLaws.{posed, question-refused, question-posed}
 
 module _ (N : Numbers) (disk : List ℕ) (k room : ℕ) where
   pub refused-answer : (x : ℕ) → x ≡ question_refusal N disk k room → (x ≡ 0 → ⊥)

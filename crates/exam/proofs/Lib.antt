@@ -3,3 +3,5 @@ pub mod Searching
 pub mod Simulated
 pub mod ContentLaws
 pub mod Answers
+pub mod EngineHitsLaws
+pub mod QuestionLaws

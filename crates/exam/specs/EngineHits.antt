@@ -25,7 +25,6 @@ use Rattle.counting.proofs.TellHitLaws.{Follows, printed-told, follows_next, fol
 use Rattle.exam.specs.Scores.{lists, how_many, nine, start, hits, with_hits, scores}
 use Rattle.exam.specs.ScoreLaws.{each-list}
 use Rattle.exam.specs.Contract.{question_refusal, Counted, question}
-use Rattle.exam.specs.QuestionLaws.{posed, question-posed}
 
 -- an answer that is a hit
 abbrev pub is_hit : Option Word → Bool
@@ -67,7 +66,6 @@ engine-hits N t rs opens w =
     (follows-none H.same H.same→≡ H.same_refl N.m N.d (content_in N t))
 
 -- ---- no read of such a list is refused, so that the counts are those of the engine's own answers
-
 -- every counter is at most c
 abbrev AtMost : ℕ → Counters → Type 0
 AtMost c k = (k.reads ≤ c) × (k.hits ≤ c) × (k.flash_writes ≤ c) × (k.primary_writes ≤ c)
@@ -86,13 +84,13 @@ not_full c k h w =
 abbrev pub reads_of : (block : List ℕ) → List ℕ → List (ℕ × List ℕ)
 reads_of block l = map (λ a. (a, block)) l
 
-addresses-back : (block : List ℕ) (l : List ℕ) → map (λ (r : ℕ × List ℕ). r.0) (reads_of block l) ≡ l
+pub addresses-back : (block : List ℕ) (l : List ℕ) → map (λ (r : ℕ × List ℕ). r.0) (reads_of block l) ≡ l
 addresses-back block [] = refl
 addresses-back block (a ∷ l) = ap (λ r. a ∷ r) (addresses-back block l)
 
 module _ (N : Numbers) (block : List ℕ) (fit : unfit N ≡ false) (limit : limit_outside N ≡ false)
     (label : length N.label ≡ 64) (whole : length block ≡ N.B) where
-  none-refused : (l : List ℕ) (u : Lent) (c : ℕ) → Written N u → FewDirty N (box_in N u) → AtMost c u.counters → All (λ a. a < N.P) l
+  pub none-refused : (l : List ℕ) (u : Lent) (c : ℕ) → Written N u → FewDirty N (box_in N u) → AtMost c u.counters → All (λ a. a < N.P) l
       → c + length l * 1025 ≤ 2 ^ 63
       → NoneRefused N u (reads_of block l)
   unfolding refusals served_in_turn
@@ -116,40 +114,10 @@ module _ (N : Numbers) (block : List ℕ) (fit : unfit N ≡ false) (limit : lim
             (subst (FewDirty N) (sym (served-box N u (Ask.read a block) e)) (outcome-few N u (Ask.read a block) e)) more b.1 (omega arith),
       )
 
--- no read of a list that is counted is refused: from a fresh box over the question's disk, over any flash and tables of their lengths, each read lent any
--- block of B bytes
-pub list-served : (N : Numbers) (t : Lent) (k room : ℕ) (block : List ℕ) → question_refusal N t.disk k room ≡ 0 → refusal N t opening ≡ 0
-    → length block ≡ N.B → (l : List ℕ) → length l ≡ k → All (λ a. a < N.P) l → NoneRefused N (opened N t) (reads_of block l)
-unfolding fresh Throughout
-list-served N t k room block z opens whole l e w =
-    let p = posed N t.disk k room z in
-    let k8 = p.short in
-    let o = (exactly-opening N t).gives-0.0 opens in
-    none-refused N block o.0 o.1.0 p.label whole l (opened N t) 0 (opened-written N t opens) (demand-3 N t [] opens).dirty
-    (rw (opened-is N t opens) (omega arith, omega arith, omega arith, omega arith)) w (omega arith)
-
-many-same : {A : Type 0} (s t : A → Bool) (xs : List A) → All (λ x. s x ≡ t x) xs → how_many s xs ≡ how_many t xs
+pub many-same : {A : Type 0} (s t : A → Bool) (xs : List A) → All (λ x. s x ≡ t x) xs → how_many s xs ≡ how_many t xs
 many-same s t [] w = refl
 many-same s t (x ∷ xs) w = ap₂ (λ n b. n + cond b 1 0) (many-same s t xs w.1) w.0
 
 -- the hits that the engine answers to a list of addresses, from fresh
 abbrev pub engine_hits : Numbers → Lent → (block : List ℕ) → List ℕ → ℕ
 engine_hits N t block l = how_many is_hit (words N (opened N t) (reads_of block l))
-
--- each count of a question is the number of lists to which the engine answers that many hits
-pub engine-scores : (N : Numbers) (t : Lent) (k room : ℕ) (block : List ℕ) → question_refusal N t.disk k room ≡ 0 → refusal N t opening ≡ 0
-    → length block ≡ N.B
-    → (question N t.disk k room).counts ≡ map (λ h. how_many (λ l. eqb (engine_hits N t block l) h) (lists N.P k)) nine
-unfolding scores with_hits
-engine-scores N t k room block z opens whole =
-    let H = labelled N in
-    let hit-as : (l : List ℕ) → (length l ≡ k) × All (λ a. a < N.P) l → hits H.same N.m N.d (content_in N t) start l ≡ engine_hits N t block l
-    = λ l w. ap (hits H.same N.m N.d (content_in N t) start) (sym (addresses-back block l))
-    ∙ sym (engine-hits N t (reads_of block l) opens (list-served N t k room block z opens whole l w.0 w.1)) in
-    let each : (h : ℕ) → how_many (λ l. eqb (hits H.same N.m N.d (content_in N t) start l) h) (lists N.P k)
-    ≡ how_many (λ l. eqb (engine_hits N t block l) h) (lists N.P k)
-    = λ h. many-same (λ l. eqb (hits H.same N.m N.d (content_in N t) start l) h) (λ l. eqb (engine_hits N t block l) h) (lists N.P k)
-    (all_map (λ l. (length l ≡ k) × All (λ a. a < N.P) l)
-    (λ l. eqb (hits H.same N.m N.d (content_in N t) start l) h ≡ eqb (engine_hits N t block l) h) (λ l w. ap (λ n. eqb n h) (hit-as l w))
-    (lists N.P k) (each-list N.P k)) in
-    ap (λ (c : Counted). c.counts) (question-posed N t.disk k room z) ∙ (λ i. map (λ h. each h i) nine)

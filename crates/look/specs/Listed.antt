@@ -210,7 +210,7 @@ module _ (N : Numbers) where
   left-lent t (folder c) e = ap (λ (x : BatchAfter). x.lent) e
   left-lent t (reporting c) e = e.2
 
-  follows : (y : Kept) (t : Lent) (cs : List Made) → Is y t → Written N t → InTurn y cs → Follows N t cs
+  pub follows : (y : Kept) (t : Lent) (cs : List Made) → Is y t → Written N t → InTurn y cs → Follows N t cs
   unfolding InTurn Follows
   follows y t [] i w m = tt
   follows y t (c ∷ cs) i w m =
@@ -224,22 +224,3 @@ module _ (N : Numbers) where
 abbrev pub first : Begun → (disk flash addresses blocks : List ℕ) → Kept
 first r disk flash addresses blocks =
     record { box = r.box_record; disk = disk; flash = flash; addresses = addresses; blocks = blocks; counters = r.counters }
-
--- The theorem. `open` was called, by its contract told r and left addresses' and blocks', and was not refused; then any list of calls, one after the other.
-module _ (b : BoxRecord) (disk flash addresses blocks : List ℕ) (k : Counters) (r : Begun) (addresses' blocks' : List ℕ) (cs : List Made) where
-  abbrev pub given : Lent
-  given = lent b disk flash addresses blocks k
-
-  pub policy-demand-3 : begun r disk flash addresses' blocks' ≡ opens b disk flash addresses blocks k → opening_number r.answer ≡ 0
-      → InTurn (first r disk flash addresses' blocks') cs
-      → Follows (numbers_of b) (opened (numbers_of b) given) cs × Demand3 (numbers_of b) (opened (numbers_of b) given) (map asked_by cs)
-  policy-demand-3 e z m =
-      let o : refusal (numbers_of b) given opening ≡ 0 = sym (ap (λ (x : Opened). x.number) e) ∙ z in
-      let i : Is (numbers_of b) (first r disk flash addresses' blocks') (opened (numbers_of b) given)
-      = record {
-        numbers = ap (λ (x : Opened). x.numbers) e ∙ ap (with_label (numbers_of b)) (label-carried (numbers_of b) given o);
-        lent = ap (λ (x : Opened). x.lent) e;
-      } in (
-        follows (numbers_of b) (first r disk flash addresses' blocks') (opened (numbers_of b) given) cs i (opened-written (numbers_of b) given o) m,
-        demand-3 (numbers_of b) given (map asked_by cs) o,
-      )

@@ -59,7 +59,7 @@ passes-rep b disk flash addrs blocks k f p x y =
 
 module _ (b : BoxRecord) (disk flash addrs blocks : List ℕ) (k : Counters) (q : Ask)
     (e : refusal (numbers_of b) (lent b disk flash addrs blocks k) (calling q) ≡ 0) where
-  finds : Served (numbers_of b) (lent b disk flash addrs blocks k) q
+  pub finds : Served (numbers_of b) (lent b disk flash addrs blocks k) q
   finds = served-finds (numbers_of b) (lent b disk flash addrs blocks k) q e
 
   pub sure : Sure b (box_in (numbers_of b) (lent b disk flash addrs blocks k))
@@ -68,7 +68,7 @@ module _ (b : BoxRecord) (disk flash addrs blocks : List ℕ) (k : Counters) (q 
   pub rep : Bytes addrs → Bytes blocks → Rep b disk flash addrs blocks (box_in (numbers_of b) (lent b disk flash addrs blocks k))
   rep x y = passes-rep b disk flash addrs blocks k finds.fits finds.passes x y
 
-  block-fits : (l : List ℕ) → lent_block q ≡ some l → length l ≡ b.size
+  pub block-fits : (l : List ℕ) → lent_block q ≡ some l → length l ≡ b.size
   block-fits l p =
       let x = (exactly (numbers_of b) (lent b disk flash addrs blocks k) q).gives-0.0 e in
       eqb-true (length l) b.size (not-false (eqb (length l) b.size)
@@ -166,7 +166,6 @@ fitting c rows r h f p e l lr lh lf lp =
     (omega arith, omega arith, omega arith, omega arith)
 
 -- ---- the words
-
 or_new : (b : Bool) → ◌≡◌ {A = Word} (cond b same_block new_block) (cond (is_yes (cond b same_block new_block)) same_block new_block)
 or_new true = refl
 or_new false = refl
@@ -228,7 +227,6 @@ module _ (b : BoxRecord) (own : List ℕ) (o : Outcome (Fixed 32) (Fixed b.size)
   block_of = ap (λ y. y.block) x
 
 -- ---- the writes
-
 -- what a write of any kind asks: an access with its address and its block, which it keeps; no read
 pub record AsksWrite (kind : Write) (B a z : ℕ) (l : List ℕ) : Type 0 where
   pub call : call_of B (ask_of kind a l z) ≡ writing kind a (fit B l) (bytes2 z)
@@ -248,31 +246,3 @@ asks_write Back B a z l =
     record { call = refl; refusal_is = λ N t. refl; address = refl; block = refl; counted = λ k. refl; no_read = refl; kept = λ o. refl; no_part = λ o. refl }
 asks_write Invalidate B a z l =
     record { call = refl; refusal_is = λ N t. refl; address = refl; block = refl; counted = λ k. refl; no_read = refl; kept = λ o. refl; no_part = λ o. refl }
-
--- a write, from what its steps leave
-module _ (b : BoxRecord) (disk flash addrs blocks : List ℕ) (c : Code.Counters) (kind : Write) (a : ℕ) (l : List ℕ) (z : ℕ)
-    (e : refusal (numbers_of b) (lent b disk flash addrs blocks (counters_of c)) (calling (ask_of kind a l z)) ≡ 0) where
-  pub written : (w : CodeWord.Word) (r : CodeServed.Served) (disk' flash' addrs' blocks' : List ℕ)
-      → left r disk' flash' addrs' blocks' l ≡ leaves b l (serve (engine b) (numbers_of b)
-      (box_in (numbers_of b) (lent b disk flash addrs blocks (counters_of c))) (writing kind a (fit b.size l) (bytes2 z)))
-      → word_of w ≡ cond r.yes same_block new_block
-      → told (record {
-        answer = Answered w r.flashed r.primary;
-        box_record = with_held b r.held;
-        counters = added c 0 0 r.flashed r.primary;
-      }) disk' flash' addrs' blocks' (some l)
-      ≡ called b (lent b disk flash addrs blocks (counters_of c)) (ask_of kind a l z)
-  written w r disk' flash' addrs' blocks' x ew =
-      let q = ask_of kind a l z in
-      let k = counters_of c in
-      let o = outcome (numbers_of b) (lent b disk flash addrs blocks k) q in
-      let f = asks_write kind b.size a z l in
-      let on : Call (Fixed b.size) → Outcome (Fixed 32) (Fixed b.size)
-      = serve (engine b) (numbers_of b) (box_in (numbers_of b) (lent b disk flash addrs blocks k)) in
-      let says : o.word ≡ cond (is_yes o.word) same_block new_block
-      = subst (λ (u : Call (Fixed b.size)). (on u).word ≡ cond (is_yes (on u).word) same_block new_block) (sym f.call)
-      (write-says (numbers_of b) (box_in (numbers_of b) (lent b disk flash addrs blocks k)) a kind (fit b.size l) (bytes2 z)) in
-      let y : left r disk' flash' addrs' blocks' l ≡ leaves b l o = x ∙ ap (λ (u : Call (Fixed b.size)). leaves b l (on u)) (sym f.call) in
-      finish b disk flash addrs blocks k q e w r.yes r.held r.flashed r.primary 0 0 c l disk' flash' addrs' blocks' l (some l) refl y
-      (ew ∙ said-is o.word same_block new_block r.yes says (yes_of b l o y)) (sym (ap one_if f.no_read)) (no_hit o.word says)
-      (f.kept o.block) (f.no_part o.block)

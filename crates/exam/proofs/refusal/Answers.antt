@@ -8,7 +8,7 @@ use Rattle.paper.specs.RefusalLaws.{NoneOf}
 use Rattle.parts.specs.Rep.{numbers_of}
 use Rattle.refusals.specs.Sizes.{most}
 use Rattle.exam.specs.Contract.{too_large}
-use Rattle.exam.specs.QuestionLaws.{ExactlyQuestion, exactly-question}
+use Rattle.exam.proofs.QuestionLaws.{ExactlyQuestion, exactly-question}
 use Rattle.exam.proofs.refusal.Goals as goal
 use Rattle.exam.proofs.refusal.Goals.{Else-limit_unfit, Start}
 

@@ -9,7 +9,7 @@ use Rattle.parts.specs.declared.BoxRecord.{BoxRecord}
 use Rattle.parts.specs.Rep.{numbers_of, empty_box, relabelled}
 use Rattle.exam.specs.Scores.{scores}
 use Rattle.exam.specs.Contract.{question_refusal}
-use Rattle.exam.specs.QuestionLaws.{Posed, posed}
+use Rattle.exam.proofs.QuestionLaws.{Posed, posed}
 use Rattle.exam.proofs.Answers.{refused-answer, posed-answer}
 use Rattle.exam.proofs.scores.Goals as goal
 use Rattle.exam.proofs.scores.Goals.{After-refusal-no, After-with_label, Else-no-ne0, Start}

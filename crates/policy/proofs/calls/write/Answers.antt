@@ -12,7 +12,8 @@ use Rattle.paper.proofs.CallLaws.{served-finds}
 use Rattle.parts.specs.Rep.{numbers_of}
 use Rattle.refusals.specs.Given.{counters_of, lent}
 use Rattle.policy.specs.Contract.{told, ask_of}
-use Rattle.policy.specs.CallLaws.{all-bytes, fit_is, access, sound, disk-fits, keep, fitting, asks_write, written}
+use Rattle.policy.specs.CallLaws.{all-bytes, fit_is, access, sound, disk-fits, keep, fitting, asks_write}
+use Rattle.policy.proofs.CallLaws.{written}
 use Rattle.policy.proofs.calls.write.Goals as goal
 use Rattle.policy.proofs.calls.write.Goals.{Else-number-ne0}
 
