@@ -101,7 +101,7 @@ pub fn folder(name: &str) -> PathBuf {
     path
 }
 
-/// A fresh folder outside the repository, empty: `rt ci` refuses a crates.txt below its top. Who asks for it removes it.
+/// A fresh folder outside the repository, empty: `rt ci` refuses a crates.txt below its top, and links. Who asks for it removes it.
 pub fn outside(name: &str) -> PathBuf {
     let path = std::env::temp_dir().canonicalize().unwrap().join(format!("mindavehu-{name}-{}", std::process::id()));
     let _ = std::fs::remove_dir_all(&path);
@@ -109,15 +109,32 @@ pub fn outside(name: &str) -> PathBuf {
     path
 }
 
-/// A folder for PATH that has these commands of the machine and no other.
-pub fn commands(name: &str, names: &[&str]) -> PathBuf {
-    let path = folder(name);
+/// A folder outside the repository that is removed with its owner.
+pub struct Temporary(PathBuf);
+
+impl std::ops::Deref for Temporary {
+    type Target = Path;
+
+    fn deref(&self) -> &Path {
+        &self.0
+    }
+}
+
+impl Drop for Temporary {
+    fn drop(&mut self) {
+        let _ = std::fs::remove_dir_all(&self.0);
+    }
+}
+
+/// A folder for PATH that has these commands of the machine, as links, and no other.
+pub fn commands(name: &str, names: &[&str]) -> Temporary {
+    let path = outside(name);
     let places: Vec<PathBuf> = std::env::split_paths(&std::env::var_os("PATH").unwrap()).collect();
     for name in names {
         let found = places.iter().map(|place| place.join(name)).find(|file| file.exists()).unwrap_or_else(|| panic!("{name} is not installed"));
         std::os::unix::fs::symlink(found.canonicalize().unwrap(), path.join(name)).unwrap();
     }
-    path
+    Temporary(path)
 }
 
 /// What the script ./replay and an installed tree need beside the C library.

@@ -120,7 +120,7 @@ fn the_week_without_a_toolchain() {
 fn exam_questions_without_a_toolchain() {
     let path = commands("exam-no-toolchain", &PLAIN_COMMANDS);
     let words = ["--list", "2", "3", "64", "4", "3", "2", "5"];
-    let done = Command::new(tree().join("bin/exam")).args(words).env_clear().env("PATH", &path).stdin(Stdio::null()).output().unwrap();
+    let done = Command::new(tree().join("bin/exam")).args(words).env_clear().env("PATH", &*path).stdin(Stdio::null()).output().unwrap();
     let own = Command::new(root().join("exam")).args(words).stdin(Stdio::null()).output().unwrap();
     assert!(done.status.success() && done.stderr.is_empty() && own.status.success(), "{}", String::from_utf8_lossy(&done.stderr));
     assert!(done.stdout == own.stdout && !done.stdout.is_empty());

@@ -152,7 +152,7 @@ fn standard_input_by_its_name() {
 /// A link to a link, called from another folder, with a list of that folder.
 #[test]
 fn through_a_symbolic_link() {
-    let place = folder("linked");
+    let place = outside("linked");
     symlink(root().join("replay"), place.join("first")).unwrap();
     symlink("first", place.join("second")).unwrap();
     std::fs::copy(root().join("lessons/week.txt"), place.join("own list.txt")).unwrap();
@@ -167,6 +167,7 @@ fn through_a_symbolic_link() {
     let done = Command::new(&copy).arg("own list.txt").current_dir(&place).output().unwrap();
     let said = String::from_utf8_lossy(&done.stderr);
     assert!(done.status.code() == Some(1) && said.contains("neither in a checkout nor in bin/ of an installed tree"), "{said}");
+    std::fs::remove_dir_all(place).unwrap();
     println!("./replay through symbolic links, from another folder; a copy of it that stands alone says so");
 }
 
