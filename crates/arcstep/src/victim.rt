@@ -12,7 +12,7 @@ use crate::Running;
 use arclists::names;
 use checks::known;
 use parts::BoxRecord;
-use tables::{Found, row};
+use tables::{row};
 
 // The place of the block row of row `k`, if its address has its bit; 256 for none.
 pub(crate) fn top_place(
@@ -80,8 +80,8 @@ pub(crate) fn oldest_at(
     let mut known = [0u8; 257];
     mark_tops(addrs, t.held, &seen, blocks, b.slots, heads, &mut known);
     match known::first_unknown(blocks, b.slots, &known) {
-        Found::At(j) => j,
-        Found::Nothing => b.slots,
+        Some(j) => j,
+        None => b.slots,
     }
 }
 

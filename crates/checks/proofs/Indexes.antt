@@ -1,4 +1,5 @@
 -- Laws of an index. Assumes nothing.
+use Rattle.std.specs.Prelude.{Some, is_none, cond}
 use mathlib.Core.Path.{◌≡◌, refl, sym, ap, ◌∙◌, subst}
 use mathlib.Core.Bool.{Bool, true, false, and-false, false≢true}
 use Prim.Native.Nat.{ℕ, suc, ◌+◌, ◌-◌, ◌≤◌, ◌<◌}
@@ -10,9 +11,8 @@ use lib.ListN.{length, get_or, set, drop, length-set}
 use lib.Seq.{get_or-set_same, get_or-set_other}
 use borrow.Author.Tests.{eqb-true, eqb-false}
 use Rattle.tables.specs.Rows.{rows, row_at}
-use Rattle.tables.specs.Find.{find_from, pick, caches, same, absent, is_used}
+use Rattle.tables.specs.Find.{find_from, caches, same, is_used}
 use Rattle.tables.specs.Index.{bucket, choice, entry, start, onward, In, Index, First, Goes, Linked, unique}
-use Rattle.tables.specs.declared.Found.TheVariants.{At}
 use Rattle.tables.specs.FindLaws.{find-miss, find-end}
 use Rattle.tables.specs.SoundLaws.{same_true, not-true-false}
 use Rattle.tables.specs.Records.{read_block}
@@ -126,10 +126,10 @@ module _ (heads : List ℕ) (k x h : ℕ) (few : k < 256) (size : length heads �
     }
 
 -- whether something is found does not depend on the number of the first
-pub absent-from : {A : Type 0} (p : A → Bool) (j k : ℕ) (xs : List A) → absent (find_from p j xs) ≡ absent (find_from p k xs)
+pub absent-from : {A : Type 0} (p : A → Bool) (j k : ℕ) (xs : List A) → is_none (find_from p j xs) ≡ is_none (find_from p k xs)
 unfolding find_from
 absent-from p j k [] = refl
-absent-from p j k (x ∷ xs) = elim (p x) as (λ q. absent (pick q (At j) (find_from p (suc j) xs)) ≡ absent (pick q (At k) (find_from p (suc k) xs))) [ true ↦ refl | false ↦ absent-from p (suc j) (suc k) xs ]
+absent-from p j k (x ∷ xs) = elim (p x) as (λ q. is_none (cond q (Some j) (find_from p (suc j) xs)) ≡ is_none (cond q (Some k) (find_from p (suc k) xs))) [ true ↦ refl | false ↦ absent-from p (suc j) (suc k) xs ]
 
 -- a search for g that starts where the index says, at row w, the entry of bucket x
 module _ (heads : List ℕ) (rs : List (List ℕ)) (g : List ℕ) (x w k : ℕ) (e : x ≡ bucket (choice heads) g) (b : x < 4096) (f : w ≡ entry heads x) (i : Linked k heads rs) where
@@ -144,10 +144,10 @@ module _ (heads : List ℕ) (rs : List (List ℕ)) (g : List ℕ) (x w k : ℕ) 
 
 -- the row's fingerprint is in no row behind it, by the search from row w
 pub alone-is : (heads t : List ℕ) (d k x w : ℕ) → k < d → is_used (row_at t k) ≡ true → x ≡ bucket (choice heads) (read_block (row_at t k)).fingerprint → x < 4096 → w ≡ entry heads x → Linked (k + 1) heads (rows d t)
-    → absent (find_from (caches (read_block (row_at t k)).fingerprint) w (drop w (rows d t))) ≡ unique (row_at t k) (drop (suc k) (rows d t))
+    → is_none (find_from (caches (read_block (row_at t k)).fingerprint) w (drop w (rows d t))) ≡ unique (row_at t k) (drop (suc k) (rows d t))
 alone-is heads t d k x w h u e b f i =
     let g = (read_block (row_at t k)).fingerprint in
-    ap absent (found-by heads (rows d t) g x w (k + 1) e b f i)
+    ap is_none (found-by heads (rows d t) g x w (k + 1) e b f i)
     ∙ absent-from (caches g) (k + 1) 0 (drop (k + 1) (rows d t))
-    ∙ ap (λ (j : ℕ). absent (find_from (caches g) 0 (drop j (rows d t)))) (add-one k)
+    ∙ ap (λ (j : ℕ). is_none (find_from (caches g) 0 (drop j (rows d t)))) (add-one k)
     ∙ rw u refl

@@ -1,11 +1,11 @@
 // An index over a block table's used rows: where the search for a fingerprint starts, and where it goes on.
-ghost use Rattle.std.specs.Prelude.{◌≡◌, true, ℕ, suc, ◌+◌, ◌<◌, ◌≤◌, length, drop};
+ghost use Rattle.std.specs.Prelude.{◌≡◌, true, ℕ, suc, ◌+◌, ◌<◌, ◌≤◌, length, drop, is_none};
 ghost use Rattle.tables.specs.Rows.{table_bytes, HasRows, IsPrint, rows, row_at};
 ghost use Rattle.tables.specs.Records.{read_block};
-ghost use Rattle.tables.specs.Find.{every, find_from, caches, absent};
+ghost use Rattle.tables.specs.Find.{every, find_from, caches};
 ghost use Rattle.tables.specs.Index.{heads_length, BlockTable, Blank, bucket, choice, In, Goes, onward, Linked, Indexed, unique};
 
-use tables::{Found, find, row};
+use tables::{find, row};
 
 // The entries of an index: of 4,096 buckets, of 256 rows, and which bytes of a fingerprint give its bucket.
 pub const ENTRIES: usize = 4353;
@@ -26,7 +26,7 @@ pub(crate) fn bucket_of(g: &[u8], c: usize) -> usize
 }
 
 // The index of the first of `d` block rows from row `from` on, a row of the bucket of `g`, that is used and has the fingerprint `g`.
-pub(crate) fn walk(t: &[u8], d: usize, heads: &[u16], from: usize, g: &[u8]) -> Found
+pub(crate) fn walk(t: &[u8], d: usize, heads: &[u16], from: usize, g: &[u8]) -> Option<usize>
     requires block_table { BlockTable d t.now × IsPrint g.now × (length heads.now ≡ heads_length) }
     requires fact { from < length (rows d t.now) → In (choice heads.now) (rows d t.now) (bucket (choice heads.now) g.now) from }
     requires by_index { (r x : ℕ) → from ≤ r → r < length (rows d t.now) → In (choice heads.now) (rows d t.now) x r
@@ -36,15 +36,15 @@ pub(crate) fn walk(t: &[u8], d: usize, heads: &[u16], from: usize, g: &[u8]) -> 
     let mut k = from;
     while k < d {
         if find::caches_fingerprint(t, k, g) {
-            return Found::At(k);
+            return Some(k);
         }
         k = 256 - wide(heads[4096 + k]);
     }
-    Found::Nothing
+    None
 }
 
 // The index of the first of `d` block rows that is used and has the fingerprint `g`.
-pub fn find(t: &[u8], d: usize, heads: &[u16], g: &[u8]) -> Found
+pub fn find(t: &[u8], d: usize, heads: &[u16], g: &[u8]) -> Option<usize>
     requires block_table { BlockTable d t.now × IsPrint g.now }
     requires indexed { Indexed d t.now heads.now }
     ensures { result ≡ find_from (caches g.now) 0 (rows d t.now) }
@@ -61,11 +61,11 @@ pub(crate) fn alone(t: &[u8], d: usize, heads: &[u16], k: usize, from: usize) ->
         → In (choice heads.now) (rows d t.now) (bucket (choice heads.now) (read_block (row_at t.now k)).fingerprint) from }
     requires by_index { (r x : ℕ) → from ≤ r → r < length (rows d t.now) → In (choice heads.now) (rows d t.now) x r
         → Goes (choice heads.now) (rows d t.now) x r (onward heads.now r) }
-    ensures { result ≡ absent (find_from (caches (read_block (row_at t.now k)).fingerprint) from (drop from (rows d t.now))) }
+    ensures { result ≡ is_none (find_from (caches (read_block (row_at t.now k)).fingerprint) from (drop from (rows d t.now))) }
 {
     match walk(t, d, heads, from, row::block_fingerprint(t, k)) {
-        Found::At(_) => false,
-        Found::Nothing => true,
+        Some(_) => false,
+        None => true,
     }
 }
 

@@ -8,7 +8,7 @@ ghost use Rattle.table_laws.specs.Knowns.{Tells};
 ghost use Rattle.tables.specs.Index.{BlockTable, Indexed, unique, place_in, cached_in, dirty_ok, cached_ok, unknown_in};
 
 use crate::index;
-use tables::{Found, row};
+use tables::{row};
 
 // The index of the block row of held row `k` of `a`, or 256.
 pub fn place_of(a: &[u8], k: usize, t: &[u8], d: usize, heads: &[u16]) -> usize
@@ -17,8 +17,8 @@ pub fn place_of(a: &[u8], k: usize, t: &[u8], d: usize, heads: &[u16]) -> usize
     ensures { result ≡ place_in (rows d t.now) (row_at a.now k) }
 {
     match index::find(t, d, heads, row::address_fingerprint(a, k)) {
-        Found::At(i) => i,
-        Found::Nothing => 256,
+        Some(i) => i,
+        None => 256,
     }
 }
 
@@ -29,8 +29,8 @@ pub(crate) fn cached(a: &[u8], k: usize, t: &[u8], d: usize, heads: &[u16]) -> b
     ensures { result ≡ cached_in (rows d t.now) (row_at a.now k) }
 {
     match index::find(t, d, heads, row::address_fingerprint(a, k)) {
-        Found::At(_) => true,
-        Found::Nothing => false,
+        Some(_) => true,
+        None => false,
     }
 }
 
@@ -128,22 +128,22 @@ pub(crate) fn unmarked(t: &[u8], k: usize, b: u8) -> bool
 }
 
 // The index of the first used row of `d` whose byte of `known` is 0: where the bytes tell it, that whose fingerprint none of some address rows has.
-pub fn first_unknown(t: &[u8], d: usize, known: &[u8]) -> Found
+pub fn first_unknown(t: &[u8], d: usize, known: &[u8]) -> Option<usize>
     requires { HasRows t.now d × (d ≤ length known.now) }
     ensures { (hs : List (List ℕ)) → Tells d t.now known.now hs → result ≡ find_from (unknown_in hs) 0 (rows d t.now) }
 {
     let mut k = 0;
     while k < d {
         if unmarked(t, k, known[k]) {
-            return Found::At(k);
+            return Some(k);
         }
         k += 1;
     }
-    Found::Nothing
+    None
 }
 
 // The index of the oldest used row of `d` whose fingerprint no address row of the first `n` has.
-pub fn oldest_unknown(a: &[u8], n: usize, t: &[u8], d: usize, heads: &[u16]) -> Found
+pub fn oldest_unknown(a: &[u8], n: usize, t: &[u8], d: usize, heads: &[u16]) -> Option<usize>
     requires has_rows { HasRows a.now n × BlockTable d t.now }
     requires t_value { every unique (rows d t.now) ≡ true }
     requires indexed { Indexed d t.now heads.now }

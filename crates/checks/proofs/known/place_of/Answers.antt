@@ -14,18 +14,18 @@ answer c =
     let a = c.args in
     ap code (c.find.ensures ∙ ap (λ g. find_from (caches g) 0 (rows a.d a.t.now)) c.address_fingerprint.ensures.0)
 
-pub returns-in-At : goal.returns-in-At
+pub returns-in-Some : goal.returns-in-Some
 unfolding place_in
-returns-in-At c =
+returns-in-Some c =
     let answer : (let a = c.args in code c.find.result ≡ place_in (rows a.d a.t.now) (row_at a.a.now a.k)) =
     let a = c.args in
     ap code (c.find.ensures ∙ ap (λ g. find_from (caches g) 0 (rows a.d a.t.now)) c.address_fingerprint.ensures.0) in
-    ap code (sym c.in-At.is) ∙ answer
+    ap code (sym c.in-Some.is) ∙ answer
 
-pub returns-in-Nothing : goal.returns-in-Nothing
+pub returns-in-None : goal.returns-in-None
 unfolding place_in
-returns-in-Nothing c =
+returns-in-None c =
     let answer : (let a = c.args in code c.find.result ≡ place_in (rows a.d a.t.now) (row_at a.a.now a.k)) =
     let a = c.args in
     ap code (c.find.ensures ∙ ap (λ g. find_from (caches g) 0 (rows a.d a.t.now)) c.address_fingerprint.ensures.0) in
-    ap code (sym c.in-Nothing.is) ∙ answer
+    ap code (sym c.in-None.is) ∙ answer

@@ -1,24 +1,24 @@
 -- What `find_fingerprint` finds tells whether the paper's rows have it. Assumes nothing.
+use Rattle.std.specs.Prelude.{None, Some, is_some}
 use mathlib.Core.Path.{sym, ap, ◌∙◌}
-use Rattle.tables.specs.declared.Found.TheVariants.{At, Nothing}
-use Rattle.parts.specs.TableLaws.{fp-known, is_at}
+use Rattle.parts.specs.TableLaws.{fp-known}
 use Rattle.std.proofs.Common.{rules}
 use Rattle.parts.proofs.rows.knows.Goals as goal
 
-pub returns-in-At : goal.returns-in-At
-returns-in-At c =
+pub returns-in-Some : goal.returns-in-Some
+returns-in-Some c =
     let a = c.args in
-    let f = sym c.find_fingerprint.ensures ∙ c.in-At.is in
+    let f = sym c.find_fingerprint.ensures ∙ c.in-Some.is in
     record {
-      value = sym (ap is_at f);
-      by_index = λ P m l q h e. fp-known P m a.n a.t.now l h a.g.now q e (At c.in-At.field-0) f;
+      value = sym (ap is_some f);
+      by_index = λ P m l q h e. fp-known P m a.n a.t.now l h a.g.now q e (Some c.in-Some.field-0) f;
     }
 
-pub returns-in-Nothing : goal.returns-in-Nothing
-returns-in-Nothing c =
+pub returns-in-None : goal.returns-in-None
+returns-in-None c =
     let a = c.args in
-    let f = sym c.find_fingerprint.ensures ∙ c.in-Nothing.is in
+    let f = sym c.find_fingerprint.ensures ∙ c.in-None.is in
     record {
-      value = sym (ap is_at f);
-      by_index = λ P m l q h e. fp-known P m a.n a.t.now l h a.g.now q e Nothing f;
+      value = sym (ap is_some f);
+      by_index = λ P m l q h e. fp-known P m a.n a.t.now l h a.g.now q e None f;
     }

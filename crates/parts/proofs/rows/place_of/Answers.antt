@@ -1,25 +1,24 @@
 -- What `find_cached` finds is the paper's index behind the free rows. Assumes nothing.
+use Rattle.std.specs.Prelude.{None, Option, Some, unwrap_or}
 use mathlib.Core.Path.{sym, ap, ◌∙◌}
-use Rattle.tables.specs.declared.Found.{Found}
-use Rattle.tables.specs.declared.Found.TheVariants.{At, Nothing}
-use Rattle.parts.specs.TableLaws.{block-index, placed}
+use Rattle.parts.specs.TableLaws.{block-index}
 use Rattle.std.proofs.Common.{rules}
 use Rattle.parts.proofs.rows.place_of.Goals as goal
 
-pub returns-in-At : goal.returns-in-At
-returns-in-At c =
+pub returns-in-Some : goal.returns-in-Some
+returns-in-Some c =
     let a = c.args in
-    let f = sym c.find_cached.ensures ∙ c.in-At.is in
+    let f = sym c.find_cached.ensures ∙ c.in-Some.is in
     record {
-      value = sym (ap (λ (y : Found). placed y a.d) f);
-      by_index = λ free used q h e. block-index a.d a.t.now free used h a.g.now q e (At c.in-At.i) f;
+      value = sym (ap (λ (y : Option ℕ). unwrap_or y a.d) f);
+      by_index = λ free used q h e. block-index a.d a.t.now free used h a.g.now q e (Some c.in-Some.i) f;
     }
 
-pub returns-in-Nothing : goal.returns-in-Nothing
-returns-in-Nothing c =
+pub returns-in-None : goal.returns-in-None
+returns-in-None c =
     let a = c.args in
-    let f = sym c.find_cached.ensures ∙ c.in-Nothing.is in
+    let f = sym c.find_cached.ensures ∙ c.in-None.is in
     record {
-      value = sym (ap (λ (y : Found). placed y a.d) f);
-      by_index = λ free used q h e. block-index a.d a.t.now free used h a.g.now q e Nothing f;
+      value = sym (ap (λ (y : Option ℕ). unwrap_or y a.d) f);
+      by_index = λ free used q h e. block-index a.d a.t.now free used h a.g.now q e None f;
     }

@@ -1,25 +1,24 @@
 -- What `find_address` finds is the paper's index. Assumes nothing.
+use Rattle.std.specs.Prelude.{None, Option, Some, unwrap_or}
 use mathlib.Core.Path.{sym, ap, ◌∙◌}
-use Rattle.tables.specs.declared.Found.{Found}
-use Rattle.tables.specs.declared.Found.TheVariants.{At, Nothing}
-use Rattle.parts.specs.TableLaws.{addr-index, placed}
+use Rattle.parts.specs.TableLaws.{addr-index}
 use Rattle.std.proofs.Common.{rules}
 use Rattle.parts.proofs.rows.row_of.Goals as goal
 
-pub returns-in-At : goal.returns-in-At
-returns-in-At c =
+pub returns-in-Some : goal.returns-in-Some
+returns-in-Some c =
     let a = c.args in
-    let e = sym c.find_address.ensures ∙ c.in-At.is in
+    let e = sym c.find_address.ensures ∙ c.in-Some.is in
     record {
-      value = sym (ap (λ (f : Found). placed f a.n) e);
-      by_index = λ P m l h. addr-index P m a.n a.t.now l h a.a.0 (At c.in-At.i) e;
+      value = sym (ap (λ (f : Option ℕ). unwrap_or f a.n) e);
+      by_index = λ P m l h. addr-index P m a.n a.t.now l h a.a.0 (Some c.in-Some.i) e;
     }
 
-pub returns-in-Nothing : goal.returns-in-Nothing
-returns-in-Nothing c =
+pub returns-in-None : goal.returns-in-None
+returns-in-None c =
     let a = c.args in
-    let e = sym c.find_address.ensures ∙ c.in-Nothing.is in
+    let e = sym c.find_address.ensures ∙ c.in-None.is in
     record {
-      value = sym (ap (λ (f : Found). placed f a.n) e);
-      by_index = λ P m l h. addr-index P m a.n a.t.now l h a.a.0 Nothing e;
+      value = sym (ap (λ (f : Option ℕ). unwrap_or f a.n) e);
+      by_index = λ P m l h. addr-index P m a.n a.t.now l h a.a.0 None e;
     }

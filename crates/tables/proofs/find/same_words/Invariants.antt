@@ -8,6 +8,3 @@ use Rattle.tables.proofs.find.same_words.Given as goal
 
 abbrev pub invariant-loop-k : goal.invariant-loop-k
 invariant-loop-k l = (l.k ≤ 4) × Agree l.f l.g (l.k * 8)
-
-abbrev pub decreases-loop-k : goal.decreases-loop-k
-decreases-loop-k l = 4 - l.k

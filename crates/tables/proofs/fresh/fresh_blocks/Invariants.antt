@@ -15,6 +15,3 @@ use Rattle.tables.proofs.fresh.fresh_blocks.Given as goal
 
 abbrev pub invariant-loop-k : goal.invariant-loop-k
 invariant-loop-k l = (l.k ≤ l.d) × (length l.t ≡ length l.initial.t) × (rows l.k l.t ≡ map block_bytes (map free_row (slots_from 0 l.k)))
-
-abbrev pub decreases-loop-k : goal.decreases-loop-k
-decreases-loop-k l = l.d - l.k
