@@ -1,9 +1,8 @@
 -- The part of the slice is the block. Assumes nothing.
-use Rattle.std.proofs.Common.{rules}
-use mathlib.Core.Path.{ap, ◌∙◌}
-use lib.ListN.{length}
+use Rattle.std.proofs.Common.{rules, ap, ◌∙◌}
+use Rattle.std.proofs.Math.ListN.{length}
 use Rattle.block.specs.Laws.{part-is, length_part}
-use Rattle.block.proofs.at_address.Goals as goal
+use Rattle.block.proofs.block_at.Goals as goal
 
 pub returns : goal.returns
 returns c =
