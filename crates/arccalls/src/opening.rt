@@ -82,7 +82,7 @@ fn opened(a: ArcRecord, label: &[u8]) -> ArcBegun
     } }
 {
     let mut own = [0u8; 64];
-    block::copy_all(label, &mut own);
+    own.copy_from_slice(label);
     let mut r = a;
     r.label = own;
     ArcBegun {

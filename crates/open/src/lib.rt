@@ -54,7 +54,7 @@ pub fn with_label(b: BoxRecord, label: &[u8]) -> BoxRecord
     ensures { result ≡ relabelled b label.now }
 {
     let mut own = [0u8; 64];
-    block::copy_all(label, &mut own);
+    own.copy_from_slice(label);
     let mut r = b;
     r.label = own;
     r

@@ -107,7 +107,7 @@ pub fn fp_at(t: &[u8], i: usize) -> [u8; 32]
     ensures { (length result ≡ 32) × (result ≡ (read_address (row_at t.now i)).fingerprint) }
 {
     let mut g = [0u8; 32];
-    block::copy_all(row::address_fingerprint(t, i), &mut g);
+    g.copy_from_slice(row::address_fingerprint(t, i));
     g
 }
 
