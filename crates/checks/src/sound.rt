@@ -1,12 +1,14 @@
 // Whether a table's bytes are those of a sound table.
-ghost use Rattle.std.specs.Prelude.{◌≡◌, true, false, not, cond, ◌&&◌, ◌||◌, map, ℕ, suc, ◌<◌, ◌≤◌, length, drop};
+ghost use Rattle.std.specs.Prelude.{◌≡◌, true, false, not, cond, ◌&&◌, ◌||◌, map, ℕ, suc, ◌<◌, ◌≤◌, length, drop, OnOk};
 ghost use Rattle.tables.specs.Rows.{rows, row_at, table_bytes, HasRow, HasRows};
 ghost use Rattle.tables.specs.Find.{all, every, is_used};
 ghost use Rattle.tables.specs.Unsound.{addresses_unsound, blocks_unsound, dirty_uncached};
 ghost use Rattle.tables.specs.Sound.{address_ok, distinct, row_address, zero_row, sound_addresses, addresses_fit, blocks_fit};
+ghost use Rattle.refusal.specs.Numbers.{number_of};
 ghost use Rattle.tables.specs.Index.{heads_length, Blank, Linked, Indexed, row_ok};
 
 use crate::{index, known};
+use refusal::Refusal;
 use tables::{distinct, row};
 
 // Whether row `k` is a held address row's, with an address below `p`.
@@ -177,7 +179,7 @@ pub fn blocks_unsound(t: &[u8], d: usize, heads: &mut [u16]) -> bool
     !blocks_sound(t, d, heads)
 }
 
-// The first of 6, 7 and 8 that applies, of any bytes and numbers, 0 where none does: `heads`, 0 everywhere at first, is then the block table's index.
+// The first of 6, 7 and 8 that applies, of any bytes and numbers. Where none does `heads`, 0 everywhere at first, is the block table's index.
 pub fn tables_refused(
     addresses: &[u8],
     m: usize,
@@ -186,22 +188,22 @@ pub fn tables_refused(
     blocks: &[u8],
     d: usize,
     heads: &mut [u16],
-) -> u32
+) -> Result<(), Refusal>
     requires { Blank heads.old }
-    ensures value { result ≡ cond (not (addresses_fit p m addresses.now) || addresses_unsound p m n addresses.now) 6
+    ensures value { number_of result ≡ cond (not (addresses_fit p m addresses.now) || addresses_unsound p m n addresses.now) 6
         (cond (not (blocks_fit d blocks.now) || blocks_unsound d blocks.now) 7
         (cond (dirty_uncached n d addresses.now blocks.now) 8 0)) }
-    ensures indexed { result ≡ 0 → Indexed d blocks.now heads.new }
+    ensures indexed { OnOk result (Indexed d blocks.now heads.new) }
     ensures heads_len { length heads.new ≡ heads_length }
 {
     if addresses_unsound(addresses, m, n, p) {
-        return 6;
+        return Err(Refusal::BadAddresses);
     }
     if blocks_unsound(blocks, d, heads) {
-        return 7;
+        return Err(Refusal::BadBlocks);
     }
     if known::dirty_cached(addresses, n, blocks, d, heads) {
-        return 0;
+        return Ok(());
     }
-    8
+    Err(Refusal::DirtyUncached)
 }
