@@ -22,10 +22,7 @@ pub fn row_of(t: &[u8], n: usize, a: SourceAddress) -> usize
     ensures by_index { (P m : ℕ) (rows : List (AddressRow (Fixed 32))) → Addrs P m n t.now rows → result
         ≡ index_where (λ x. eqb a.0 x.address) rows }
 {
-    match find::find_address(t, n, a) {
-        Some(i) => i,
-        None => n,
-    }
+    find::find_address(t, n, a).unwrap_or(n)
 }
 
 // Whether one of `n` held rows has the fingerprint `g`.
@@ -35,10 +32,7 @@ pub fn knows(t: &[u8], n: usize, g: &[u8]) -> bool
     ensures by_index { (P m : ℕ) (rows : List (AddressRow (Fixed 32))) (f : Fixed 32) → Addrs P m n t.now rows → f.0 ≡ g.now → result
         ≡ known (comparing) f rows }
 {
-    match find::find_fingerprint(t, n, g) {
-        Some(_) => true,
-        None => false,
-    }
+    find::find_fingerprint(t, n, g).is_some()
 }
 
 // The place of the used row of `g` among `d` block rows.
@@ -48,10 +42,7 @@ pub fn place_of(t: &[u8], d: usize, g: &[u8]) -> usize
     ensures by_index { (free : List ℕ) (used : List (BlockRow (Fixed 32))) (f : Fixed 32) → Blocks d t.now free used → f.0 ≡ g.now → result
         ≡ length free + index_where (λ u. comparing.same f u.fingerprint) used }
 {
-    match find::find_cached(t, d, g) {
-        Some(i) => i,
-        None => d,
-    }
+    find::find_cached(t, d, g).unwrap_or(d)
 }
 
 // Whether one of the first `k` held rows has a fingerprint that is not cached.
@@ -74,10 +65,7 @@ pub(crate) fn unknown_place(addrs: &[u8], n: usize, blocks: &[u8], d: usize, hea
     ensures by_index { (P m : ℕ) (rows : List (AddressRow (Fixed 32))) (used : List (BlockRow (Fixed 32))) → Addrs P m n addrs.now rows
         → Blocks d blocks.now [] used → result ≡ index_where (λ u. not (known comparing u.fingerprint rows)) used }
 {
-    match checks::known::oldest_unknown(addrs, n, blocks, d, heads) {
-        Some(j) => j,
-        None => d,
-    }
+    checks::known::oldest_unknown(addrs, n, blocks, d, heads).unwrap_or(d)
 }
 
 // The place of the block row that step 4 takes.
@@ -116,10 +104,7 @@ pub fn dirty_at(t: &[u8], i: usize) -> u8
     requires { table_bytes (i + 1) ≤ length t.now }
     ensures { result ≡ bit (is_dirty (row_at t.now i)) }
 {
-    if row::is_dirty(t, i) {
-        return 1;
-    }
-    0
+    u8::from(row::is_dirty(t, i))
 }
 
 // The place of the block row of row `i`'s fingerprint, the count of block rows where there is no row `i` or it is not cached.

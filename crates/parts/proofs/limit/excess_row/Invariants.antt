@@ -20,6 +20,3 @@ abbrev pub invariant-loop-i : goal.invariant-loop-i
 invariant-loop-i l =
     (l.count + l.i ≤ l.b.held) × (l.count ≡ dirty_in (drop l.i (rows l.b.held l.addrs)))
     × (l.oldest ≡ unwrap_or (find_from is_dirty l.i (drop l.i (rows l.b.held l.addrs))) l.b.held)
-
-abbrev pub decreases-loop-i : goal.decreases-loop-i
-decreases-loop-i l = l.i
