@@ -1,5 +1,5 @@
 -- "It gets its refusal number": the number of each refusal, and 0 where nothing is refused. Assumes nothing.
-use Rattle.std.specs.Prelude.{ℕ, ◌<◌, Result, Ok, Err}
+use Rattle.std.specs.Prelude.{ℕ, ◌<◌, ◌≡◌, Result, Ok, Err}
 use Rattle.std.proofs.Common.{arith}
 use Rattle.refusal.specs.declared.Refusal.{Refusal}
 use Rattle.refusal.specs.declared.Refusal.TheVariants.{Outside, WrongLength, NoAddress, Unformed, BoxTooLarge, BadAddresses, BadBlocks, DirtyUncached, CounterFull}
@@ -49,3 +49,6 @@ code-positive NoRoom = omega arith
 code-positive NoImage = omega arith
 code-positive BadImage = omega arith
 code-positive TooLarge = omega arith
+
+pub refused : (r : Refusal) → code r ≡ 0 → ⊥
+refused r e = let p = code-positive r in omega (arith, e, p)

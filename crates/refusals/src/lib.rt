@@ -24,7 +24,7 @@ use tables::{SourceAddress, row};
 pub(crate) fn block_size(s: usize) -> bool
     ensures { result ≡ elem s sizes }
 {
-    matches!(s, 64 | 128 | 256 | 512 | 1024 | 2048 | 4096)
+    [64, 128, 256, 512, 1024, 2048, 4096].contains(&s)
 }
 
 // Whether `x` is from 1 to `most`.
@@ -81,7 +81,13 @@ pub fn limit_unfit(b: BoxRecord) -> bool
 }
 
 // Refusals 1, 12 and 2: what an opening is refused with.
-pub fn of_opening(b: BoxRecord, disk: &[u8], flash: &[u8], addresses: &[u8], blocks: &[u8]) -> Result<(), Refusal>
+pub fn of_opening(
+    b: BoxRecord,
+    disk: &[u8],
+    flash: &[u8],
+    addresses: &[u8],
+    blocks: &[u8],
+) -> Result<(), Refusal>
     ensures { (k : Counters) → number_of result ≡ refusal (numbers_of b) (lent b disk.now flash.now addresses.now
         blocks.now k) opening }
 {
@@ -111,9 +117,7 @@ pub fn of_tables(
     ensures indexed { OnOk result (Indexed b.slots blocks.now heads.new) }
     ensures heads_len { length heads.new ≡ heads_length }
 {
-    checks::sound::tables_refused(
-        addresses, b.rows, b.held, b.blocks, blocks, b.slots, heads,
-    )?;
+    checks::sound::tables_refused(addresses, b.rows, b.held, b.blocks, blocks, b.slots, heads)?;
     if limit::excess_row(b, addresses) < b.held {
         return Err(Refusal::TooDirty);
     }
