@@ -1,13 +1,14 @@
 -- Laws on the message schedule, the blocks and the padding of SHA-256.
 -- Assumes nothing.
-use Rattle.std.proofs.Common.{◌≡◌, ℕ, zero, suc, ◌+◌, ◌-◌, ◌*◌, ◌/◌, ◌%◌, ◌^◌, ◌<◌, ◌≤◌, List, [], ◌∷◌, ◌++◌, length, get_or, take, drop, set, replicate, sym, refl, ap, ◌∙◌, append_assoc, le_refl, add-zero, add-suc, add-one, arith, length-append, length-drop, length-set, take-append-drop, length-take, length-take-le, take_all, get_or-take, take-suc, take-suc-set, take_at, drop_at, drop-drop, le-ltb, lt-ltb}
+use Rattle.std.proofs.Common.{◌≡◌, ℕ, zero, suc, ◌+◌, ◌-◌, ◌*◌, ◌/◌, ◌%◌, ◌^◌, ◌<◌, ◌≤◌, nat_lt, inl, inr, List, [], ◌∷◌, ◌++◌, length, get_or, take, drop, set, replicate, sym, refl, ap, subst, ◌∙◌, append_assoc, le_refl, add-zero, add-suc, add-one, arith, length-append, length-drop, length-set, take-append-drop, length-take, length-take-le, take_all, get_or-take, take-suc, take-suc-set, take_at, drop_at, drop-drop, le-ltb, lt-ltb}
 use Rattle.std.proofs.lemmas.List.{drop-replicate}
 use Rattle.std.proofs.lemmas.Slice.{take-put_mid}
 use borrow.Rule.Slice.PartMut.{put_mid}
 use lib.ListN.{length-replicate, replicate-append-replicate}
 use lib.Seq.{get_or_at, take-length, set_at, sets, sets-eq, take-append-le, drop-append-le, drop-append-add}
 use Rattle.hash.specs.Done.{Done}
-use Rattle.hash.specs.Sha256.{K, W, M, next, round, rounds, compress, blocks, bytes32, bytes64, digest, padded, pad}
+use Rattle.std.proofs.lemmas.Bool.{cases_lt}
+use Rattle.hash.specs.Sha256.{choose, K, W, M, next, round, rounds, compress, blocks, bytes32, bytes64, digest, padded, pad}
 
 -- word t is made of the words before it
 next-take : (w : List ℕ) (t : ℕ) → 16 ≤ t → next (take t w) t ≡ next w t
@@ -38,12 +39,13 @@ word_at b t n x h e =
     let g : take (suc t) (W b n) ≡ W b (suc t) = ap (λ (m : ℕ). take (suc t) (W b m)) k ∙ take-W b (suc t) (n - suc t) in
     sym (get_or-take (suc t) (W b n) t 0 (omega arith)) ∙ ap (λ (l : List ℕ). get_or l t 0) (g ∙ e) ∙ get_or_at (W b t) x [] 0 t (length-W b t)
 
--- one round more, and one word more, x being word t
+-- one round more over a schedule whose word t is x
 state-more : (b h : List ℕ) (t n x : ℕ) → t < n → W b (suc t) ≡ W b t ++ (x ∷ []) → round (get_or K t 0) x (rounds (W b n) h t) ≡ rounds (W b n) h (t + 1)
 unfolding rounds
 state-more b h t n x k e = rw (add-one, word_at b t n x k e)
 
-pub one_more : (b h w s : List ℕ) (t x : ℕ) → t < 64 → W b (suc t) ≡ W b t ++ (x ∷ []) → Done b h t w s
+-- one round more, and one word more, x being word t
+one_more : (b h w s : List ℕ) (t x : ℕ) → t < 64 → W b (suc t) ≡ W b t ++ (x ∷ []) → Done b h t w s
     → Done b h (t + 1) (set w t x) (round (get_or K t 0) x s)
 one_more b h w s t x k e d =
     let l : t < length w = rw d.full k in
@@ -53,14 +55,23 @@ one_more b h w s t x k e d =
       state = rw d.state (state-more b h t 64 x k e);
     }
 
--- word t of the schedule is x: below 16 word t of the block, from 16 on made of the words before it
-pub word-of-block : (b : List ℕ) (t x : ℕ) → t < 16 → x ≡ M b t → W b (suc t) ≡ W b t ++ (x ∷ [])
-unfolding W
-word-of-block b t x k e = rw (lt-ltb t 16 k, e)
+-- from 16 on, word t of the schedule is made of the words before it
+chosen : (b w : List ℕ) (t : ℕ) → take t w ≡ W b t → choose (nat_lt t 16) (M b t) (next (W b t) t) ≡ choose (nat_lt t 16) (M b t) (next w t)
+chosen b w t e =
+    elim (cases_lt t 16) [
+      | inl k ↦ rw (lt-ltb t 16 k)
+      | inr k ↦ rw (le-ltb t 16 k, ← e, next-take)
+    ]
 
-pub word-of-words : (b w : List ℕ) (t x : ℕ) → 16 ≤ t → take t w ≡ W b t → x ≡ next w t → W b (suc t) ≡ W b t ++ (x ∷ [])
+-- one round more, x being word t
+pub done_more : (b h w s : List ℕ) (t x : ℕ) → t < 64 → x ≡ choose (nat_lt t 16) (M b t) (next w t) → Done b h t w s
+    → Done b h (t + 1) (set w t x) (round (get_or K t 0) x s)
 unfolding W
-word-of-words b w t x k e f = rw (le-ltb t 16 k, f, ← e, next-take)
+done_more b h w s t x k e d = one_more b h w s t x k (ap (λ y. W b t ++ (y ∷ [])) (chosen b w t d.made ∙ sym e)) d
+
+-- the same number of rounds, written otherwise
+pub done_at : {b h w s : List ℕ} (t k : ℕ) → t ≡ k → Done b h t w s → Done b h k w s
+done_at {b} {h} {w} {s} t k e d = subst (λ (n : ℕ). Done b h n w s) e d
 
 -- nothing is done before the first round
 pub done_none : (b h w : List ℕ) → length w ≡ 64 → Done b h 0 w h
@@ -149,7 +160,7 @@ tail-padded s end bits h k =
     )
 
 -- the blocks of a padded message are those of the message and then those of its padded last bytes
-pub message : (h m t : List ℕ) (at end bits : ℕ) → at ≡ length m - length m % 64 → end ≡ (length m % 64 + 72) / 64 * 64 → bits ≡ length m % 2 ^ 61 * 8
+pub message : (h m t : List ℕ) (at end bits : ℕ) → at ≡ length m - length m % 64 → end ≡ (length m % 64 + 72) / 64 * 64 → bits ≡ length m * 8 % 2 ^ 64
     → t ≡ padded (drop at m) (end - 9 - length (drop at m)) bits
     → blocks h (pad m) (length (pad m) / 64) ≡ blocks (blocks h m (length m / 64)) t (length t / 64)
 unfolding padded pad
