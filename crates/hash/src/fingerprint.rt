@@ -27,14 +27,7 @@ pub(crate) fn last_chunk(bits: u64) -> [u8; 64]
 {
     let mut b = [0u8; 64];
     b[0] = 0x80;
-    b[56] = (bits / 72057594037927936 % 256) as u8;
-    b[57] = (bits / 281474976710656 % 256) as u8;
-    b[58] = (bits / 1099511627776 % 256) as u8;
-    b[59] = (bits / 4294967296 % 256) as u8;
-    b[60] = (bits / 16777216 % 256) as u8;
-    b[61] = (bits / 65536 % 256) as u8;
-    b[62] = (bits / 256 % 256) as u8;
-    b[63] = (bits % 256) as u8;
+    b[56..].copy_from_slice(&bits.to_be_bytes());
     b
 }
 

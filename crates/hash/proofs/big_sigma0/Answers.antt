@@ -6,4 +6,4 @@ use Rattle.hash.proofs.big_sigma0.Goals as goal
 
 pub returns : goal.returns
 returns c =
-    rw (c.rotr-3.ensures, c.rotr-2.ensures, c.rotr.ensures) (sigma0-short c.args.x (omega arith))
+    rw (c.rotate_right-3.ensures, c.rotate_right-2.ensures, c.rotate_right.ensures) (sigma0-short c.args.x (omega arith))

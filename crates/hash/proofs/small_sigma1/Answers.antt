@@ -6,4 +6,4 @@ use Rattle.hash.proofs.small_sigma1.Goals as goal
 
 pub returns : goal.returns
 unfolding σ1
-returns c = rw (c.rotr-2.ensures, c.rotr.ensures) refl
+returns c = rw (c.rotate_right-2.ensures, c.rotate_right.ensures) refl
