@@ -5,7 +5,6 @@ use native.Mathlib.Omega.{arith}
 use lib.ListN.{length}
 use Rattle.tables.specs.Rows.{table_bytes}
 use Rattle.table_laws.specs.Checked.{fit-addresses, fit-blocks, dirty-checked}
-use Rattle.std.proofs.Common.{rules}
 use Rattle.checks.proofs.sound.tables_refused.Goals as goal
 use Rattle.checks.proofs.sound.tables_refused.Goals.{Else-blocks_unsound}
 
