@@ -10,19 +10,12 @@ use tables::{find, row};
 // The entries of an index: of 4,096 buckets, of 256 rows, and which bytes of a fingerprint give its bucket.
 pub const ENTRIES: usize = 4353;
 
-// A number of 16 bits as an index.
-pub(crate) fn wide(x: u16) -> usize
-    ensures { result ≡ x }
-{
-    x as usize
-}
-
 // The bucket of the fingerprint `g`, by its bytes `c` and `c + 1`.
 pub(crate) fn bucket_of(g: &[u8], c: usize) -> usize
     requires { IsPrint g.now × (c + 2 ≤ 32) }
     ensures { (result ≡ bucket c g.now) × (result < 4096) }
 {
-    ((row::byte_at(g, c) + 256 * row::byte_at(g, c + 1)) % 4096) as usize
+    usize::from(u16::from_le_bytes([g[c], g[c + 1]]) % 4096)
 }
 
 // The index of the first of `d` block rows from row `from` on, a row of the bucket of `g`, that is used and has the fingerprint `g`.
@@ -38,7 +31,7 @@ pub(crate) fn walk(t: &[u8], d: usize, heads: &[u16], from: usize, g: &[u8]) -> 
         if find::caches_fingerprint(t, k, g) {
             return Some(k);
         }
-        k = 256 - wide(heads[4096 + k]);
+        k = 256 - usize::from(heads[4096 + k]);
     }
     None
 }
@@ -49,8 +42,8 @@ pub fn find(t: &[u8], d: usize, heads: &[u16], g: &[u8]) -> Option<usize>
     requires indexed { Indexed d t.now heads.now }
     ensures { result ≡ find_from (caches g.now) 0 (rows d t.now) }
 {
-    let x = bucket_of(g, wide(heads[4352]));
-    let from = 256 - wide(heads[x]);
+    let x = bucket_of(g, usize::from(heads[4352]));
+    let from = 256 - usize::from(heads[x]);
     walk(t, d, heads, from, g)
 }
 
@@ -63,10 +56,7 @@ pub(crate) fn alone(t: &[u8], d: usize, heads: &[u16], k: usize, from: usize) ->
         → Goes (choice heads.now) (rows d t.now) x r (onward heads.now r) }
     ensures { result ≡ is_none (find_from (caches (read_block (row_at t.now k)).fingerprint) from (drop from (rows d t.now))) }
 {
-    match walk(t, d, heads, from, row::block_fingerprint(t, k)) {
-        Some(_) => false,
-        None => true,
-    }
+    walk(t, d, heads, from, row::block_fingerprint(t, k)).is_none()
 }
 
 // Puts row `k` of `d` before the rows behind it, whose index `heads` is, if it is used. Whether none of them has its fingerprint.
@@ -80,9 +70,9 @@ pub(crate) fn put_row(t: &[u8], d: usize, heads: &mut [u16], k: usize) -> bool
     if !row::is_used(t, k) {
         return true;
     }
-    let x = bucket_of(row::block_fingerprint(t, k), wide(heads[4352]));
+    let x = bucket_of(row::block_fingerprint(t, k), usize::from(heads[4352]));
     let h = heads[x];
-    let from = 256 - wide(h);
+    let from = 256 - usize::from(h);
     if !alone(t, d, heads, k, from) {
         return false;
     }
@@ -91,25 +81,21 @@ pub(crate) fn put_row(t: &[u8], d: usize, heads: &mut [u16], k: usize) -> bool
     true
 }
 
-// `c` where at most eight of the first `d` rows that are used are of one bucket by the bytes `c` and `c + 1`, else `c + 2`.
-pub(crate) fn less_crowded(t: &[u8], d: usize, c: u16) -> u16
+// Whether more than eight of the first `d` rows that are used are of one bucket by the bytes `c` and `c + 1`.
+pub(crate) fn is_crowded(t: &[u8], d: usize, c: u16) -> bool
     requires { HasRows t.now d × (c + 2 ≤ 32) }
-    ensures { (c ≤ result) × (result ≤ c + 2) }
 {
     let mut counts = [0u8; 4096];
-    let mut k = 0;
-    while k < d {
+    for k in 0..d {
         if row::is_used(t, k) {
-            let x = bucket_of(row::block_fingerprint(t, k), wide(c));
-            let before = counts[x];
-            if 8 <= before {
-                return c + 2;
+            let x = bucket_of(row::block_fingerprint(t, k), usize::from(c));
+            if 8 <= counts[x] {
+                return true;
             }
-            counts[x] = before + 1;
+            counts[x] += 1;
         }
-        k += 1;
     }
-    c
+    false
 }
 
 // Which bytes are to give the buckets of `d` rows: the first two, or others where too many rows would be of one bucket by them.
@@ -121,15 +107,12 @@ pub(crate) fn choose(t: &[u8], d: usize) -> u16
     if d <= 16 {
         return 0;
     }
-    let mut c = 0;
-    while c < 29 {
-        let next = less_crowded(t, d, c);
-        if next == c {
+    for c in (0..30).step_by(2) {
+        if !is_crowded(t, d, c) {
             return c;
         }
-        c = next;
     }
-    c
+    30
 }
 
 // Whether no two used rows of `d` have one fingerprint. If so, `heads`, 0 everywhere at first, is their index.
@@ -141,9 +124,7 @@ pub fn build(t: &[u8], d: usize, heads: &mut [u16]) -> bool
     ensures heads_len { length heads.new ≡ heads_length }
 {
     heads[4352] = choose(t, d);
-    let mut k = d;
-    while 0 < k {
-        k -= 1;
+    for k in (0..d).rev() {
         if !put_row(t, d, heads, k) {
             return false;
         }

@@ -16,11 +16,7 @@ pub(crate) fn address_ok(t: &[u8], k: usize, p: u32) -> bool
     requires { HasRow t.now k }
     ensures { result ≡ address_ok p (row_at t.now k) }
 {
-    let a = row::address_at(t, k);
-    if a.0 < p {
-        return row::seated_tail_ok(t, k);
-    }
-    false
+    row::address_at(t, k).0 < p && row::seated_tail_ok(t, k)
 }
 
 // Whether each of the first `n` rows is one of a held address.
@@ -28,14 +24,7 @@ pub(crate) fn addresses_ok(t: &[u8], n: usize, p: u32) -> bool
     requires { table_bytes n ≤ length t.now }
     ensures { result ≡ all (address_ok p) (rows n t.now) }
 {
-    let mut k = 0;
-    while k < n {
-        if !address_ok(t, k, p) {
-            return false;
-        }
-        k += 1;
-    }
-    true
+    (0..n).all(|k| address_ok(t, k, p))
 }
 
 // Whether the rows from row `n` on, of `m`, are zero.
@@ -43,14 +32,7 @@ pub(crate) fn rows_zero(t: &[u8], n: usize, m: usize) -> bool
     requires { HasRows t.now m }
     ensures { result ≡ all zero_row (drop n (rows m t.now)) }
 {
-    let mut k = n;
-    while k < m {
-        if !row::is_zero(t, k) {
-            return false;
-        }
-        k += 1;
-    }
-    true
+    (n..m).all(|k| row::is_zero(t, k))
 }
 
 // Whether the addresses of the first `n` rows, each below `p`, are all different.
@@ -87,10 +69,7 @@ pub(crate) fn used_from(t: &[u8], k: usize, used: bool) -> bool
     requires { HasRow t.now k }
     ensures { result ≡ is_used (row_at t.now k) && used }
 {
-    if row::is_used(t, k) {
-        return used;
-    }
-    false
+    row::is_used(t, k) && used
 }
 
 // Whether row `k` of `d` is a sound block row by itself; `used` tells whether the rows behind it are all used.
@@ -119,9 +98,7 @@ pub(crate) fn rows_ok(t: &[u8], d: usize) -> bool
     ensures { result ≡ every (row_ok d) (rows d t.now) }
 {
     let mut used = true;
-    let mut k = d;
-    while 0 < k {
-        k -= 1;
+    for k in (0..d).rev() {
         if !row_ok(t, d, k, used) {
             return false;
         }

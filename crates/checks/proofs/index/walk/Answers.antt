@@ -1,17 +1,16 @@
-use Prim.Native.Nat.{ℕ, ◌+◌, ◌-◌, ◌≤◌, ◌<◌}
+use Prim.Native.Nat.{ℕ, ◌-◌, ◌≤◌, ◌<◌}
 use native.Mathlib.Omega.{arith}
 use lib.ListN.{length, drop}
 use mathlib.Core.Path.{◌≡◌, refl, sym, ap, ◌∙◌, subst}
-use Rattle.std.proofs.Common.{rules}
 use Rattle.tables.specs.Rows.{rows}
 use Rattle.tables.specs.RowLaws.{rows-length, turn-hit, turn-miss, turn_end}
 use Rattle.tables.specs.Find.{find_from, caches}
 use Rattle.tables.specs.Index.{bucket, choice, In, onward, Goes}
 use Rattle.checks.proofs.index.walk.Goals as goal
-use Rattle.checks.proofs.index.walk.Goals.{After-wide-k}
+use Rattle.checks.proofs.index.walk.Goals.{After-from-k}
 
 -- where row k's entry leads
-goes : (c : After-wide-k)
+goes : (c : After-from-k)
     → (let a = c.args in
     Goes (choice a.heads.now) (rows a.d a.t.now) (bucket (choice a.heads.now) a.g.now) c.loop-k.k (onward a.heads.now c.loop-k.k))
 goes c =
@@ -27,10 +26,10 @@ returns-then-caches_fingerprint c =
     sym (c.loop-k.invariant.0 ∙ turn-hit (caches a.g.now) a.d a.t.now c.loop-k.k c.loop-k-test.true (sym c.caches_fingerprint.ensures ∙ c.if-caches_fingerprint.true))
 
 pub overflow_sub-k : goal.overflow_sub-k
-overflow_sub-k c = omega (arith, (goes c).0, c.wide-k.ensures)
+overflow_sub-k c = omega (arith, (goes c).0, c.from-k.ensures)
 
 pub loop-k-smaller : goal.loop-k-smaller
-loop-k-smaller c = omega (arith, (goes c).0, c.wide-k.ensures, c.loop-k-test.true)
+loop-k-smaller c = omega (arith, (goes c).0, c.from-k.ensures, c.loop-k-test.true)
 
 pub loop-k-preserved : goal.loop-k-preserved
 loop-k-preserved c =
@@ -49,7 +48,7 @@ loop-k-preserved c =
       omega (arith, i.1, p.0),
       p.1.0,
     ) in
-    let e : m ≡ 256 - c.wide-k.result = ap (λ (v : ℕ). 256 - v) (sym c.wide-k.ensures) in
+    let e : m ≡ 256 - c.from-k.result = ap (λ (v : ℕ). 256 - v) (sym c.from-k.ensures) in
     subst P e r
 
 pub returns : goal.returns

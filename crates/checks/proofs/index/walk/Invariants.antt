@@ -1,13 +1,10 @@
 -- Each turn goes on to the next row of the bucket. Assumes nothing.
-use Prim.Native.Nat.{ℕ, ◌+◌, ◌-◌, ◌≤◌, ◌<◌}
-use native.Mathlib.Omega.{arith}
+use Prim.Native.Nat.{◌-◌, ◌≤◌, ◌<◌}
 use lib.ListN.{length, drop}
-use mathlib.Core.Path.{◌≡◌, refl, sym, ap, ◌∙◌, subst}
-use Rattle.std.proofs.Common.{rules}
+use mathlib.Core.Path.{◌≡◌}
 use Rattle.tables.specs.Rows.{rows}
-use Rattle.tables.specs.RowLaws.{rows-length, turn-hit, turn-miss, turn_end}
 use Rattle.tables.specs.Find.{find_from, caches}
-use Rattle.tables.specs.Index.{bucket, choice, In, onward, Goes}
+use Rattle.tables.specs.Index.{bucket, choice, In}
 use Rattle.checks.proofs.index.walk.Given as goal
 
 abbrev pub invariant-loop-k : goal.invariant-loop-k

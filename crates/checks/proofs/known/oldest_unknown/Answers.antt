@@ -5,7 +5,6 @@ use native.Mathlib.Omega.{arith}
 use Rattle.tables.specs.Rows.{rows}
 use Rattle.tables.specs.SoundLaws.{fresh}
 use Rattle.table_laws.specs.Knowns.{unmarked-is}
-use Rattle.std.proofs.Common.{rules}
 use Rattle.checks.proofs.known.oldest_unknown.Goals as goal
 
 pub mark_known-requires : goal.mark_known-requires

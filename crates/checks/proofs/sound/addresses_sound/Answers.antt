@@ -2,7 +2,7 @@
 use Rattle.tables.specs.SoundLaws.{addrs-below}
 use Rattle.table_laws.specs.Checked.{rows-zero}
 use Rattle.tables.specs.Sound.{sound_addresses}
-use borrow.Author.Tests.{le-leb, lt-leb, not-true, not-false}
+use borrow.Author.Tests.{le-leb, lt-leb}
 use mathlib.Core.Path.{sym, ◌∙◌}
 use native.Mathlib.Omega.{arith}
 use Rattle.std.proofs.Common.{rules}

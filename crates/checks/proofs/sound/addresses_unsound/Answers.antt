@@ -1,7 +1,6 @@
 -- What does not fit, or is not sound: `addresses-checked`. Assumes nothing.
 use mathlib.Core.Path.{sym, ap, ◌∙◌}
 use mathlib.Core.Bool.{not}
-use Rattle.std.proofs.Common.{rules}
 use borrow.Author.Tests.{le-leb, lt-leb, eq-eqb, ne_eqb}
 use Rattle.tables.specs.Sound.{addresses_fit}
 use Rattle.table_laws.specs.Checked.{addresses-checked}

@@ -2,7 +2,6 @@
 use mathlib.Core.Path.{◌≡◌, refl, sym, ◌∙◌}
 use mathlib.Core.Bool.{Bool, true, false, not, false≢true}
 use Rattle.std.proofs.Common.{rules}
-use borrow.Author.Tests.{not-true, not-false}
 use Rattle.table_laws.specs.Checked.{blocks-checked}
 use Rattle.tables.specs.SoundLaws.{slots-below}
 use Rattle.checks.proofs.sound.blocks_sound.Goals as goal

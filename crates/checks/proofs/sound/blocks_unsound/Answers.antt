@@ -1,7 +1,6 @@
 -- What does not fit, or is not sound. Assumes nothing.
 use mathlib.Core.Path.{◌≡◌, refl, ap, ◌∙◌}
 use mathlib.Core.Bool.{Bool, true, false, not, true≢false}
-use Rattle.std.proofs.Common.{rules}
 use borrow.Author.Tests.{le-leb, lt-leb, eq-eqb, ne_eqb, not-false}
 use Rattle.tables.specs.Sound.{blocks_fit}
 use Rattle.checks.proofs.sound.blocks_unsound.Goals as goal

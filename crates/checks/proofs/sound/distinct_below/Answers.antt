@@ -1,6 +1,5 @@
 -- Below 4,096, or not. Assumes nothing.
 use native.Mathlib.Omega.{arith}
-use Rattle.std.proofs.Common.{rules}
 use Rattle.checks.proofs.sound.distinct_below.Goals as goal
 
 pub few_distinct-requires : goal.few_distinct-requires

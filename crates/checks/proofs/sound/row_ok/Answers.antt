@@ -1,7 +1,6 @@
 -- One return for each test that fails. Assumes nothing.
-use borrow.Author.Tests.{lt-ltb, le-ltb, not-true, not-false}
+use borrow.Author.Tests.{lt-ltb, le-ltb}
 use mathlib.Core.Path.{sym, ◌∙◌}
-use Rattle.std.proofs.Common.{rules}
 use Rattle.checks.proofs.sound.row_ok.Goals as goal
 
 pub returns-then-d-x : goal.returns-then-d-x
