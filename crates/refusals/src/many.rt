@@ -29,14 +29,7 @@ pub fn product_is(n: usize, s: usize, len: usize) -> bool
 pub(crate) fn any_outside(asked: &[u32], p: usize) -> bool
     ensures { result ≡ any_outside p asked.now }
 {
-    let mut k = 0;
-    while k < asked.len() {
-        if p <= asked[k] as usize {
-            return true;
-        }
-        k += 1;
-    }
-    false
+    asked.iter().any(|&a| p <= a as usize)
 }
 
 // What the list and a buffer of `len` bytes are refused with.

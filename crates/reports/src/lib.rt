@@ -37,21 +37,12 @@ pub(crate) fn row_bytes(addresses: &[u8], n: usize, k: usize) -> [u8; 7]
     ensures value { result ≡ row_in n addresses.now k }
     ensures result_len { length result ≡ 7 }
 {
-    let mut r = [0u8; 7];
     if n <= k {
-        return r;
+        return [0u8; 7];
     }
-    let a = row::address_at(addresses, k);
-    let x = a.0;
-    let z = row::seat_at(addresses, k);
-    r[0] = (x % 256) as u8;
-    r[1] = (x / 256 % 256) as u8;
-    r[2] = (x / 65536 % 256) as u8;
-    r[3] = (x / 16777216 % 256) as u8;
-    r[4] = rows::dirty_at(addresses, k);
-    r[5] = (z % 256) as u8;
-    r[6] = (z / 256 % 256) as u8;
-    r
+    let [a, b, c, d] = row::address_at(addresses, k).0.to_le_bytes();
+    let [low, high] = row::seat_at(addresses, k).to_le_bytes();
+    [a, b, c, d, rows::dirty_at(addresses, k), low, high]
 }
 
 // Fills the report of `m` rows, of which `n` are held, with the first `bytes` bytes of each.
@@ -59,11 +50,9 @@ pub fn fill(addresses: &[u8], m: usize, n: usize, bytes: usize, report: &mut [u8
     requires { (m ≤ 1024) × (bytes ≤ 7) × (length addresses.now ≡ table_bytes m) × (length report.old ≡ m * bytes) }
     ensures { report.new ≡ rows_in bytes n addresses.now m }
 {
-    let mut k = 0;
-    while k < m {
+    for k in 0..m {
         let r = row_bytes(addresses, n, k);
         block::put(&r[0..bytes], report, k * bytes);
-        k += 1;
     }
 }
 

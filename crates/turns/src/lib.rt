@@ -78,14 +78,8 @@ pub(crate) fn first_of(asked: &[u32], k: usize) -> usize
     requires { k < length asked.now }
     ensures { (result ≤ k) × (result ≡ index_where (λ x. eqb (get_or asked.now k 0) x) (take k asked.now)) }
 {
-    let mut i = 0;
-    while i < k {
-        if asked[k] == asked[i] {
-            return i;
-        }
-        i += 1;
-    }
-    k
+    let a = asked[k];
+    asked[..k].iter().position(|&x| a == x).unwrap_or(k)
 }
 
 // Where `i` is below `k`, block `i` of the buffer is written over its block `k`.
@@ -193,10 +187,8 @@ pub fn serve_many(
         primary: 0,
         fetches: 0,
     };
-    let mut k = 0;
-    while k < asked.len() {
+    for k in 0..asked.len() {
         t = turn(b, t, k, asked, disk, flash, addrs, blocks, buffer);
-        k += 1;
     }
     t
 }

@@ -2,7 +2,6 @@
 use mathlib.Core.Path.{◌≡◌, refl, sym, ap, ◌∙◌}
 use Prim.Native.Nat.{ℕ, ◌*◌}
 use native.Mathlib.Omega.{arith}
-use Rattle.std.proofs.Common.{rules}
 use Rattle.paper.specs.Cache.{Counters, no_counts}
 use Rattle.paper.specs.Reports.{report_refusal}
 use Rattle.parts.specs.Rep.{numbers_of}
