@@ -10,7 +10,7 @@ ghost use Rattle.arc.specs.Arc.{Sizes};
 ghost use Rattle.arc.specs.ArcLent.{oversized, lists_unsound};
 ghost use Rattle.arclists.specs.Holding.{rec_of, limits_of, Limits};
 
-use crate::{ListSizes, moves, names};
+use crate::{ListSizes, names};
 
 // "or pass these sizes": "T1, T2 and B3 hold at most C + X together, B1 and B2 together at most C"; for any numbers, so that no sum is too large.
 pub(crate) fn too_large(s: ListSizes) -> bool
@@ -68,7 +68,7 @@ pub fn lists_unsound(s: ListSizes, addresses: &[u8], n: usize, lists: &[u8]) -> 
     if s.cached < s.p {
         return true;
     }
-    let total = moves::total_of(s);
+    let total = s.total();
     if nonzero_from(lists, total * 4) {
         return true;
     }
