@@ -1,5 +1,5 @@
 -- The part of the slice is the block. Assumes nothing.
-use Rattle.std.proofs.Common.{rules, ap, ◌∙◌}
+use Rattle.std.proofs.Common.{ap, ◌∙◌}
 use Rattle.std.proofs.Math.ListN.{length}
 use Rattle.block.specs.Laws.{part-is, length_part}
 use Rattle.block.proofs.block_at.Goals as goal

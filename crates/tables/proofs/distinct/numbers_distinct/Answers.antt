@@ -1,5 +1,5 @@
 use Rattle.std.specs.Prelude.{◌≡◌, true, List, ℕ, ◌+◌, ◌-◌, ◌*◌, ◌≤◌, ◌<◌, map, drop, length}
-use Rattle.std.proofs.Common.{rules, arith, ap, sym, refl, subst, ◌∙◌, drop_of_length-le, eqb-true}
+use Rattle.std.proofs.Common.{arith, sym, refl, subst, ◌∙◌, drop_of_length-le, eqb-true}
 use Rattle.std.proofs.lemmas.Bool.{eqb-false}
 use Rattle.std.proofs.lemmas.List.{length-replicate}
 use Rattle.tables.specs.Bits.{bit_at, no_bits}

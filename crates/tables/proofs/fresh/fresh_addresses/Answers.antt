@@ -1,5 +1,5 @@
 -- As many zeros as there are bytes. Assumes nothing.
-use Rattle.std.specs.Prelude.{◌≡◌, ℕ, ◌-◌, ◌*◌, length, replicate}
+use Rattle.std.specs.Prelude.{◌≡◌, ◌-◌, ◌*◌, length, replicate}
 use Rattle.std.proofs.Common.{rules, arith, ap, ◌∙◌}
 use Rattle.tables.specs.Rows.{zeros, flat}
 use Rattle.tables.specs.Records.{address_table, fresh_addresses}

@@ -1,6 +1,6 @@
 -- Both sides are the same forty bytes. Assumes nothing.
 use Rattle.std.specs.Prelude.{List, ℕ, length, replicate}
-use Rattle.std.proofs.Common.{rules, ap, ◌∙◌, refl}
+use Rattle.std.proofs.Common.{ap, ◌∙◌}
 use Rattle.std.proofs.Math.Seq.{paste}
 use Rattle.tables.specs.Rows.{zeros}
 use Rattle.tables.specs.Records.{block_bytes}

@@ -1,6 +1,6 @@
 -- The address, then the fingerprint, then the dirty byte: `addr-made`; then the seat: `seat-made`. Assumes nothing.
-use Rattle.std.specs.Prelude.{List, [], ◌∷◌, ◌++◌, ◌≡◌, ℕ, ◌/◌, ◌%◌, length, get_or, set, replicate}
-use Rattle.std.proofs.Common.{rules, arith, ap, ◌∙◌, refl}
+use Rattle.std.specs.Prelude.{List, ◌++◌, ◌≡◌, ℕ, ◌/◌, ◌%◌, length, get_or, set, replicate}
+use Rattle.std.proofs.Common.{arith, ap, ◌∙◌, refl}
 use Rattle.std.proofs.Math.Seq.{paste}
 use Rattle.tables.specs.Records.{address_bytes, bytes4}
 use Rattle.tables.specs.ShiftLaws.{addr-made, seat-made}

@@ -1,6 +1,6 @@
 -- The two bytes are those of the row, and a number's digits. Assumes nothing.
 use Rattle.std.specs.Prelude.{◌≡◌, ℕ, ◌+◌, ◌*◌, ◌/◌, ◌%◌, ◌<◌}
-use Rattle.std.proofs.Common.{rules, arith, sym, ◌∙◌}
+use Rattle.std.proofs.Common.{arith, sym, ◌∙◌}
 use Rattle.tables.specs.Records.{read_address}
 use Rattle.tables.specs.RowLaws.{get_d-row_at}
 use Rattle.tables.proofs.row.seat_at.Goals as goal
