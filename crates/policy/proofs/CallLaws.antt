@@ -25,7 +25,6 @@ use Rattle.paper.specs.Layout.{addresses_of, blocks_of}
 use Rattle.paper.proofs.LayoutLaws.{passes-addrs, passes-blocks, passes-flash, passes-disk}
 use Rattle.parts.specs.declared.BoxRecord.{BoxRecord}
 use Rattle.policy.specs.declared.Word as CodeWord
-
 use Rattle.parts.specs.Rep.{numbers_of, Sized, Rep, with_held, engine}
 use Rattle.step.specs.Steps.{Out4, out4, Sure}
 use Rattle.serve.specs.declared.Served as CodeServed

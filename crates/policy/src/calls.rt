@@ -18,7 +18,14 @@ use serve::{Served, Write};
 use tables::SourceAddress;
 
 // What a served call gives back: its word, what it told, and the counters with its own counts.
-fn answered(b: BoxRecord, w: Word, s: Served, c: Counters, reads: u64, hits: u64) -> Outcome<Answered, BoxRecord>
+fn answered(
+    b: BoxRecord,
+    w: Word,
+    s: Served,
+    c: Counters,
+    reads: u64,
+    hits: u64,
+) -> Outcome<Answered, BoxRecord>
     requires { (c.reads + reads < 2 ^ 64) × (c.hits + hits < 2 ^ 64) × (c.flash + s.flashed < 2 ^ 64) × (c.primary + s.primary < 2 ^ 64) }
     ensures { result ≡ record {
       answer = Ok (record { word = w; flashed = s.flashed; primary = s.primary });
@@ -27,12 +34,13 @@ fn answered(b: BoxRecord, w: Word, s: Served, c: Counters, reads: u64, hits: u64
     } }
 {
     let k = counters::counted(c, reads, hits, s.flashed as u64, s.primary as u64);
+    let answer = Answered {
+        word: w,
+        flashed: s.flashed,
+        primary: s.primary,
+    };
     Outcome {
-        answer: Ok(Answered {
-            word: w,
-            flashed: s.flashed,
-            primary: s.primary,
-        }),
+        answer: Ok(answer),
         box_record: parts::with_held(b, s.held),
         counters: k,
     }
@@ -75,7 +83,9 @@ pub fn read(
         (Ask.read a.0 block.old) }
 {
     let mut heads = [0u16; index::ENTRIES];
-    if let Err(r) = refusals::of_access(b, a, disk, flash, addresses, blocks, c, block, &mut heads) {
+    if let Err(r) = refusals::of_access(
+        b, a, disk, flash, addresses, blocks, c, block, &mut heads,
+    ) {
         return refused(r, b, c);
     }
     let s = serve::serve_read(b, a, disk, flash, addresses, blocks, block, &heads);
@@ -101,7 +111,9 @@ pub fn write(
         (ask_of kind a.0 block.now seat) }
 {
     let mut heads = [0u16; index::ENTRIES];
-    if let Err(r) = refusals::of_access(b, a, disk, flash, addresses, blocks, c, block, &mut heads) {
+    if let Err(r) = refusals::of_access(
+        b, a, disk, flash, addresses, blocks, c, block, &mut heads,
+    ) {
         return refused(r, b, c);
     }
     let s = serve::serve_write(
