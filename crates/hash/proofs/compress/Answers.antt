@@ -1,6 +1,5 @@
 -- `hash::compress` meets its contract.
 -- Assumes nothing.
-use Rattle.std.proofs.Common.{rules}
 use Rattle.hash.specs.Sha256.{compress}
 use Rattle.hash.proofs.compress.Goals as goal
 

@@ -1,6 +1,5 @@
 -- `hash::round` meets its contract.
 -- Assumes nothing.
-use Rattle.std.proofs.Common.{rules}
 use Rattle.hash.specs.Sha256.{round}
 use Rattle.hash.proofs.round.Goals as goal
 
