@@ -15,14 +15,6 @@ returns-then-caches_fingerprint c =
     let a = c.args in
     sym (c.loop-k.invariant.0 ∙ turn-hit (caches a.g.now) a.d a.t.now c.loop-k.k c.loop-k-test.true (sym c.caches_fingerprint.ensures ∙ c.if-caches_fingerprint.true))
 
-pub entry-k-requires : goal.entry-k-requires
-entry-k-requires c =
-    let p = (c.loop-k.invariant.2 c.loop-k-test.true).0 in
-    (omega (arith, p), omega (arith, p))
-
-pub loop-k-smaller : goal.loop-k-smaller
-loop-k-smaller c = omega (arith, (c.loop-k.invariant.2 c.loop-k-test.true).0, c.entry-k.ensures)
-
 pub loop-k-preserved : goal.loop-k-preserved
 loop-k-preserved c =
     let a = c.args in

@@ -1,11 +1,11 @@
-use mathlib.Core.Path.{◌≡◌, sym, ◌∙◌, subst}
+use mathlib.Core.Path.{sym, ◌∙◌}
 use mathlib.Core.List.{map}
-use Prim.Native.Nat.{ℕ, ◌-◌, ◌<◌}
-use lib.ListN.{length, drop, get_or, length-set}
+use Prim.Native.Nat.{◌-◌, ◌<◌}
+use lib.ListN.{length, get_or, length-set}
 use native.Mathlib.Omega.{arith}
 use Rattle.tables.specs.Index.{place_in}
 use Rattle.tables.specs.Rows.{rows, row_at}
-use Rattle.tables.specs.SoundLaws.{Read, Marks, marked-none, marks-set, values-at, values_length}
+use Rattle.tables.specs.SoundLaws.{Read, marked-none, marks-set, values-at, values_length}
 use Rattle.table_laws.specs.Knowns.{place-below}
 use Rattle.checks.proofs.known.mark_known.Goals as goal
 use Rattle.checks.proofs.known.mark_known.Goals.{After-place_of-x}
@@ -38,15 +38,6 @@ loop-k-preserved c =
       has = below c;
     } in
     (simp length-set i.0, marks-set c.loop-k.known r i.1)
-
-pub returns : goal.returns
-returns c =
-    let a = c.args in
-    let e : c.loop-k.k ≡ 0 = omega arith in
-    record {
-      known_len = c.loop-k.invariant.0;
-      by_index_2 = subst (λ (k : ℕ). Marks c.loop-k.known (drop k (map (place_in (rows a.d a.t.now)) (rows a.n a.a.now)))) e c.loop-k.invariant.1;
-    }
 
 pub bounds-known-x : goal.bounds-known-x
 bounds-known-x = below

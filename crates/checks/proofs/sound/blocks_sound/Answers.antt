@@ -1,5 +1,5 @@
 -- A row that fails, a slot that is there twice or a fingerprint used twice: `blocks-checked`. Assumes nothing.
-use Rattle.std.proofs.Common.{◌≡◌, arith, sym, ◌∙◌}
+use Rattle.std.proofs.Common.{arith, sym, ◌∙◌}
 use Rattle.std.proofs.lemmas.Grind.{common_steps}
 use Rattle.table_laws.specs.Checked.{blocks-checked}
 use Rattle.tables.specs.SoundLaws.{slots-below}
