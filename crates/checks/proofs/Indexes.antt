@@ -134,19 +134,10 @@ unfolding find_from
 absent-from p j k [] = refl
 absent-from p j k (x ∷ xs) = elim (p x) as (λ q. is_none (cond q (Some j) (find_from p (suc j) xs)) ≡ is_none (cond q (Some k) (find_from p (suc k) xs))) [ true ↦ refl | false ↦ absent-from p (suc j) (suc k) xs ]
 
--- where a search for g starts, by its bucket x
-pub starts : (heads f g : List ℕ) (x w : ℕ) → x ≡ bucket (choice heads) f → f ≡ g → w ≡ entry heads x → w ≡ start heads g
-starts heads f g x w b e o = o ∙ ap (entry heads) (b ∙ ap (bucket (choice heads)) e)
-
 -- a search for g that starts where the index says, at row w
 module _ (heads : List ℕ) (rs : List (List ℕ)) (g : List ℕ) (w k : ℕ) (f : w ≡ start heads g) (i : Linked k heads rs) where
-  pub found-by : find_from (caches g) w (drop w rs) ≡ find_from (caches g) k (drop k rs)
+  found-by : find_from (caches g) w (drop w rs) ≡ find_from (caches g) k (drop k rs)
   found-by = sym (i.index g ∙ rw f)
-
-  pub from-bucket : w < length rs → In (choice heads) rs (bucket (choice heads) g) w
-  from-bucket =
-      subst (λ (v : ℕ). v < length rs → In (choice heads) rs (bucket (choice heads) g) v) (sym f)
-      (i.firsts (bucket (choice heads) g) (bucket-below (choice heads) g)).1.1
 
   pub from-links : (r y : ℕ) → w ≤ r → r < length rs → In (choice heads) rs y r → Goes (choice heads) rs y r (onward heads r)
   from-links r y h o n =

@@ -1,11 +1,13 @@
--- A search from where the index says finds the same: `found-by`. Assumes nothing.
-use Rattle.std.proofs.Common.{refl}
+-- The rows behind the first of a bucket are linked: `from-links`. Assumes nothing.
+use Rattle.std.proofs.Common.{◌≡◌, arith}
+use Rattle.std.proofs.lemmas.Grind.{common_steps}
 use Rattle.tables.specs.Rows.{rows}
-use Rattle.checks.proofs.Indexes.{from-links, starts}
+use Rattle.tables.specs.Index.{start}
+use Rattle.checks.proofs.Indexes.{from-links}
 use Rattle.checks.proofs.index.find.Goals as goal
 
 pub walk-requires-clause-by_index : goal.walk-requires-clause-by_index
 walk-requires-clause-by_index c =
     let a = c.args in
-    let s = starts a.heads.now a.g.now a.g.now c.bucket_in-x.result c.entry-from.result c.bucket_in-x.ensures.0 refl c.entry-from.ensures in
+    let s : c.entry-from.result ≡ start a.heads.now a.g.now = grind (arith, common_steps) in
     from-links a.heads.now (rows a.d a.t.now) a.g.now c.entry-from.result 0 s c.requires.indexed.1

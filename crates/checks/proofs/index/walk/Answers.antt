@@ -1,4 +1,5 @@
 use Rattle.std.proofs.Common.{◌≡◌, ℕ, ◌≤◌, ◌<◌, refl, sym, ◌∙◌, subst, arith, drop}
+use Rattle.std.proofs.lemmas.Grind.{common_steps}
 use Rattle.tables.specs.Rows.{rows}
 use Rattle.tables.specs.RowLaws.{rows-length, turn-hit, turn-miss, turn_end}
 use Rattle.tables.specs.Find.{find_from, caches}
@@ -8,12 +9,13 @@ use Rattle.checks.proofs.index.walk.Goals as goal
 pub loop-k-init : goal.loop-k-init
 loop-k-init c =
     let a = c.args in
-    (refl, omega arith, λ h. c.requires.by_index a.from (bucket (choice a.heads.now) a.g.now) (omega arith) (rw rows-length h) (c.requires.fact (rw rows-length h)))
+    let x = bucket (choice a.heads.now) a.g.now in
+    (refl, omega arith, λ h. c.requires.by_index a.from x (omega arith) (rw rows-length h) (c.requires.fact (rw rows-length h)))
 
 pub returns-then-caches_fingerprint : goal.returns-then-caches_fingerprint
 returns-then-caches_fingerprint c =
     let a = c.args in
-    sym (c.loop-k.invariant.0 ∙ turn-hit (caches a.g.now) a.d a.t.now c.loop-k.k c.loop-k-test.true (sym c.caches_fingerprint.ensures ∙ c.if-caches_fingerprint.true))
+    grind (arith, common_steps, turn-hit (caches a.g.now) a.d a.t.now c.loop-k.k)
 
 pub loop-k-preserved : goal.loop-k-preserved
 loop-k-preserved c =
@@ -25,10 +27,12 @@ loop-k-preserved c =
     let p = i.2 c.loop-k-test.true in
     let m = onward a.heads.now k in
     let further : a.from ≤ m = omega (arith, i.1, p.0) in
-    let P : ℕ → Type 0 = λ y. (find_from (caches a.g.now) a.from (drop a.from rs) ≡ find_from (caches a.g.now) y (drop y rs)) × (a.from ≤ y)
+    let P : ℕ → Type 0 = λ y. (find_from (caches a.g.now) a.from (drop a.from rs) ≡ find_from (caches a.g.now) y (drop y rs))
+    × (a.from ≤ y)
     × (y < a.d → Goes (choice a.heads.now) rs x y (onward a.heads.now y)) in
+    let missed = sym c.caches_fingerprint.ensures ∙ c.if-caches_fingerprint.false in
     let r : P m = (
-      i.0 ∙ turn-miss (caches a.g.now) a.d a.t.now k c.loop-k-test.true (sym c.caches_fingerprint.ensures ∙ c.if-caches_fingerprint.false) ∙ p.1.1 a.g.now refl,
+      i.0 ∙ turn-miss (caches a.g.now) a.d a.t.now k c.loop-k-test.true missed ∙ p.1.1 a.g.now refl,
       further,
       λ h. c.requires.by_index m x further (rw rows-length h) (p.1.0 (rw rows-length h)),
     ) in
@@ -37,4 +41,4 @@ loop-k-preserved c =
 pub returns : goal.returns
 returns c =
     let a = c.args in
-    sym (c.loop-k.invariant.0 ∙ turn_end (caches a.g.now) a.d a.t.now c.loop-k.k c.loop-k-test.false)
+    grind (arith, common_steps, turn_end (caches a.g.now) a.d a.t.now c.loop-k.k)
