@@ -16,6 +16,7 @@ use Rattle.tables.specs.Find.{all, find_from}
 use Rattle.tables.specs.RowLaws.{rows-length, rows_at, first-row}
 use Rattle.tables.specs.SoundLaws.{all-at, not-true-false}
 
+-- what holds of each holds of all
 all-each : {A : Type 0} (p : A → Bool) (xs : List A) (z : A) → ((k : ℕ) → k < length xs → p (get_or xs k z) ≡ true) → all p xs ≡ true
 unfolding all
 all-each p [] z h = refl
@@ -58,4 +59,5 @@ pub first-by-place : (p : List ℕ → Bool) (q : ℕ → Bool) (n : ℕ) (t : L
     → MatchOption r ((j : ℕ) → 0 ≤ j → j < n → q j ≡ false) (λ i. (0 ≤ i) × (i < n) × (q i ≡ true) × ((j : ℕ) → 0 ≤ j → j < i → q j ≡ false))
     → r ≡ find_from p 0 (rows n t)
 first-by-place p q n t None e h = first-row p n t None (λ j a b. sym (e j b) ∙ h j a b)
-first-by-place p q n t (Some i) e h = first-row p n t (Some i) (h.0, h.1, sym (e i h.1) ∙ h.2, λ j a b. sym (e j (omega (arith, b, h.1))) ∙ h.3 j a b)
+first-by-place p q n t (Some i) e h =
+    first-row p n t (Some i) (h.0, h.1, sym (e i h.1) ∙ h.2, λ j a b. sym (e j (omega (arith, b, h.1))) ∙ h.3 j a b)

@@ -1,9 +1,9 @@
 // An index over a block table's used rows: where the search for a fingerprint starts, and where it goes on.
-ghost use Rattle.std.specs.Prelude.{◌≡◌, true, ℕ, suc, ◌+◌, ◌<◌, ◌≤◌, length, drop, is_none};
+ghost use Rattle.std.specs.Prelude.{◌≡◌, true, ℕ, suc, ◌+◌, ◌<◌, ◌≤◌, length, get_or, drop, is_none};
 ghost use Rattle.tables.specs.Rows.{table_bytes, HasRows, IsPrint, rows, row_at};
 ghost use Rattle.tables.specs.Records.{read_block};
 ghost use Rattle.tables.specs.Find.{every, find_from, caches};
-ghost use Rattle.tables.specs.Index.{heads_length, BlockTable, Blank, bucket, choice, In, Goes, onward, Linked, Indexed, unique};
+ghost use Rattle.tables.specs.Index.{heads_length, BlockTable, Blank, bucket, choice, entry, In, Goes, onward, Linked, Indexed, unique};
 
 use tables::{find, row};
 
@@ -18,6 +18,22 @@ pub(crate) fn bucket_of(g: &[u8], c: usize) -> usize
     usize::from(u16::from_le_bytes([g[c], g[c + 1]]) % 4096)
 }
 
+// The bucket of the fingerprint `g`, by the bytes that `heads` chooses.
+pub(crate) fn bucket_in(heads: &[u16], g: &[u8]) -> usize
+    requires { (length heads.now ≡ heads_length) × (choice heads.now + 2 ≤ 32) × IsPrint g.now }
+    ensures { (result ≡ bucket (choice heads.now) g.now) × (result < 4096) }
+{
+    bucket_of(g, usize::from(heads[4352]))
+}
+
+// The row that entry `x` of `heads` stands for, 256 where it stands for none.
+pub(crate) fn entry(heads: &[u16], x: usize) -> usize
+    requires { (x < length heads.now) × (get_or heads.now x 0 ≤ 256) }
+    ensures { result ≡ entry heads.now x }
+{
+    256 - usize::from(heads[x])
+}
+
 // The index of the first of `d` block rows from row `from` on, a row of the bucket of `g`, that is used and has the fingerprint `g`.
 pub(crate) fn walk(t: &[u8], d: usize, heads: &[u16], from: usize, g: &[u8]) -> Option<usize>
     requires block_table { BlockTable d t.now × IsPrint g.now × (length heads.now ≡ heads_length) }
@@ -27,11 +43,12 @@ pub(crate) fn walk(t: &[u8], d: usize, heads: &[u16], from: usize, g: &[u8]) -> 
     ensures { result ≡ find_from (caches g.now) from (drop from (rows d t.now)) }
 {
     let mut k = from;
+    // The next row is read from the table: no range gives it.
     while k < d {
         if find::caches_fingerprint(t, k, g) {
             return Some(k);
         }
-        k = 256 - usize::from(heads[4096 + k]);
+        k = entry(heads, 4096 + k);
     }
     None
 }
@@ -42,8 +59,8 @@ pub fn find(t: &[u8], d: usize, heads: &[u16], g: &[u8]) -> Option<usize>
     requires indexed { Indexed d t.now heads.now }
     ensures { result ≡ find_from (caches g.now) 0 (rows d t.now) }
 {
-    let x = bucket_of(g, usize::from(heads[4352]));
-    let from = 256 - usize::from(heads[x]);
+    let x = bucket_in(heads, g);
+    let from = entry(heads, x);
     walk(t, d, heads, from, g)
 }
 
@@ -70,13 +87,12 @@ pub(crate) fn put_row(t: &[u8], d: usize, heads: &mut [u16], k: usize) -> bool
     if !row::is_used(t, k) {
         return true;
     }
-    let x = bucket_of(row::block_fingerprint(t, k), usize::from(heads[4352]));
-    let h = heads[x];
-    let from = 256 - usize::from(h);
+    let x = bucket_in(heads, row::block_fingerprint(t, k));
+    let from = entry(heads, x);
     if !alone(t, d, heads, k, from) {
         return false;
     }
-    heads[4096 + k] = h;
+    heads[4096 + k] = heads[x];
     heads[x] = (256 - k) as u16;
     true
 }

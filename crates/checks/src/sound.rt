@@ -48,20 +48,12 @@ pub(crate) fn distinct_below(t: &[u8], n: usize, p: u32) -> bool
 }
 
 // Whether the address table is sound: `n` rows of `m` held, over `p` disk blocks.
+#[tactic(auto, unfolding(tables::specs::Sound::sound_addresses))]
 pub(crate) fn addresses_sound(t: &[u8], m: usize, n: usize, p: u32) -> bool
     requires { (length t.now ≡ table_bytes m) × (p ≤ 65536) }
     ensures { result ≡ sound_addresses p m n t.now }
 {
-    if m < n {
-        return false;
-    }
-    if !addresses_ok(t, n, p) {
-        return false;
-    }
-    if !distinct_below(t, n, p) {
-        return false;
-    }
-    rows_zero(t, n, m)
+    n <= m && addresses_ok(t, n, p) && distinct_below(t, n, p) && rows_zero(t, n, m)
 }
 
 // Whether row `k` and the rows behind it, of which `used` tells, are all used.
@@ -78,18 +70,15 @@ pub(crate) fn row_ok(t: &[u8], d: usize, k: usize, used: bool) -> bool
     requires used_value { used ≡ all is_used (drop (suc k) (rows d t.now)) }
     ensures { result ≡ row_ok d (row_at t.now k) (drop (suc k) (rows d t.now)) }
 {
-    let slot = row::slot_at(t, k);
-    let x = slot.0;
-    if d <= x as usize {
+    let x = row::slot_at(t, k).0 as usize;
+    if d <= x || !row::tail_ok(t, k) {
         return false;
     }
-    if !row::tail_ok(t, k) {
-        return false;
+    if row::is_used(t, k) {
+        used
+    } else {
+        row::no_fingerprint(t, k)
     }
-    if !row::is_used(t, k) {
-        return row::no_fingerprint(t, k);
-    }
-    used
 }
 
 // Whether each of the `d` rows is a sound block row by itself.
@@ -115,45 +104,26 @@ pub(crate) fn blocks_sound(t: &[u8], d: usize, heads: &mut [u16]) -> bool
     ensures linked { result ≡ true → Linked 0 heads.new (rows d t.now) }
     ensures heads_len { length heads.new ≡ heads_length }
 {
-    if !rows_ok(t, d) {
-        return false;
-    }
-    if !distinct::slots_distinct(t, d) {
-        return false;
-    }
-    index::build(t, d, heads)
+    rows_ok(t, d) && distinct::slots_distinct(t, d) && index::build(t, d, heads)
 }
 
 // Refusal 6, of any bytes and numbers: whether the address table of `m` rows, `n` of them held, is unsound over `p` disk blocks.
+#[tactic(auto, unfolding(tables::specs::Sound::addresses_fit))]
 pub fn addresses_unsound(t: &[u8], m: usize, n: usize, p: usize) -> bool
     ensures { result ≡ not (addresses_fit p m t.now) || addresses_unsound p m n t.now }
 {
-    if 65536 < p {
-        return true;
-    }
-    if 1024 < m {
-        return true;
-    }
-    if t.len() != m * row::BYTES {
-        return true;
-    }
-    !addresses_sound(t, m, n, p as u32)
+    65536 < p || 1024 < m || t.len() != m * row::BYTES || !addresses_sound(t, m, n, p as u32)
 }
 
 // Refusal 7, of any bytes and numbers: whether the block table of `d` rows is unsound. If not, `heads`, 0 everywhere at first, is its index.
+#[tactic(auto, unfolding(tables::specs::Sound::blocks_fit))]
 pub fn blocks_unsound(t: &[u8], d: usize, heads: &mut [u16]) -> bool
     requires { Blank heads.old }
     ensures value { result ≡ not (blocks_fit d t.now) || blocks_unsound d t.now }
     ensures linked { result ≡ false → Linked 0 heads.new (rows d t.now) }
     ensures heads_len { length heads.new ≡ heads_length }
 {
-    if 256 < d {
-        return true;
-    }
-    if t.len() != d * row::BYTES {
-        return true;
-    }
-    !blocks_sound(t, d, heads)
+    256 < d || t.len() != d * row::BYTES || !blocks_sound(t, d, heads)
 }
 
 // The first of 6, 7 and 8 that applies, of any bytes and numbers. Where none does `heads`, 0 everywhere at first, is the block table's index.

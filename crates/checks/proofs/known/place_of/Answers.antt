@@ -14,4 +14,5 @@ pub returns : goal.returns
 unfolding place_in
 returns c =
     let a = c.args in
-    c.unwrap_or.ensures ∙ is-code c.find.result ∙ ap code (c.find.ensures ∙ ap (λ g. find_from (caches g) 0 (rows a.d a.t.now)) c.address_fingerprint.ensures.0)
+    c.unwrap_or.ensures ∙ is-code c.find.result
+    ∙ ap code (c.find.ensures ∙ ap (λ g. find_from (caches g) 0 (rows a.d a.t.now)) c.address_fingerprint.ensures.0)
