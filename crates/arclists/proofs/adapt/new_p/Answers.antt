@@ -1,5 +1,4 @@
 -- By the list that the address was in. Assumes nothing.
-use Rattle.std.proofs.Common.{rules, refl}
 use Rattle.arc.specs.Arc.{new_p}
 use Rattle.arclists.specs.declared.ListName.TheVariants.{T1, T2, B1, B2, B3}
 use Rattle.arclists.specs.AdaptLaws.{up, down, as-told}
