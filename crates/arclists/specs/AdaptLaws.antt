@@ -1,7 +1,6 @@
 -- p's two changes, from the sizes. Assumes nothing.
-use Rattle.std.specs.Prelude.{◌≡◌, refl, Option, Some, ℕ, ◌+◌, ◌-◌, ◌/◌, ◌^◌, ◌<◌, min, ltb}
+use Rattle.std.specs.Prelude.{◌≡◌, Option, Some, ℕ, ◌+◌, ◌-◌, ◌/◌, ◌^◌, ◌<◌, min, ltb}
 use Rattle.std.proofs.Math.Path.{sym}
-use Rattle.std.proofs.Math.Nat.{div-zero}
 use Rattle.std.proofs.Common.{arith, ltb-false}
 use borrow.Author.Tests.{ltb-true}
 use Rattle.arc.specs.Arc.{Lists, larger, smaller, new_p, in_b1, in_b2}

@@ -14,16 +14,10 @@ use Rattle.arclists.specs.declared.ListName.{ListName}
 use Rattle.arclists.specs.Listed.{listed, place_of, Removes}
 use Rattle.arclists.specs.ListedLaws.{lists-listed}
 use Rattle.arclists.specs.PlaceLaws.{place_in, place_out, place-first, place-second, out_at}
-use Rattle.arclists.specs.Holding.{total, Sized, Holds, Kept, was_of, which_at, size_of, less_of, left_sizes, Low}
+use Rattle.arclists.specs.Holding.{total, Sized, Holds, was_of, which_at, size_of, less_of, left_sizes, Low}
 use Rattle.arclists.specs.MoveLaws.{total-is, resized-by}
 
 -- a chain of tests, one at a time
-pub lt_yes : {A : Type 0} (m n : ℕ) (z x y : A) → m < n → z ≡ x → z ≡ cond (ltb m n) x y
-lt_yes m n z x y h e = rw (lt-ltb m n h) e
-
-pub lt_no : {A : Type 0} (m n : ℕ) (z x y : A) → n ≤ m → z ≡ y → z ≡ cond (ltb m n) x y
-lt_no m n z x y h e = rw (le-ltb m n h) e
-
 pub is_yes : {A : Type 0} (m n : ℕ) (z x y : A) → m < n → x ≡ z → cond (ltb m n) x y ≡ z
 is_yes m n z x y h e = rw (lt-ltb m n h) e
 

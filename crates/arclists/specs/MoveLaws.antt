@@ -218,8 +218,15 @@ apart B3 B1 h = absurd (omega (arith, h))
 apart B3 B2 h = absurd (omega (arith, h))
 apart B3 B3 h = absurd (omega (arith, h))
 
+pub others : (x y : ListName) (xs : List ℕ) (l : Lists) → rank x < rank y → names_of y (with_names x xs l) ≡ names_of y l
+others x y xs l h = (apart x y h).other xs l
+
 pub ends-later : (x y : ListName) (s : ListSizes) → rank x < rank y → start_of x s + size_of x s ≤ start_of y s
 ends-later x y s h = (apart x y h).further s
+
+-- an empty list has no oldest
+pub none-out : (x : ListName) (l : Lists) → length (names_of x l) ≡ 0 → out_of x l ≡ l
+none-out x l e = ap (λ u. with_names x u l) (none-goes (names_of x l) e) ∙ same-names x l
 
 pub moved-total : (x y : ListName) (s : ListSizes) → rank x < rank y → 1 ≤ size_of x s
     → total (with_size y (size_of y (less_of x s) + 1) (less_of x s)) ≡ total s
@@ -346,7 +353,7 @@ module _ {m : ℕ} {s : ListSizes} {t : List ℕ} {l : Lists} (h : Holds m s t l
   pub holds-moved-none : (x y : ListName) → rank x < rank y → size_of x s ≡ 0 → Holds m s t (moved x y l)
   holds-moved-none x y q e =
       let n : length (names_of x l) ≡ 0 = sym (size-is x h.sized) ∙ e in
-      let d : out_of x l ≡ l = ap (λ u. with_names x u l) (none-goes (names_of x l) n) ∙ same-names x l in
+      let d = none-out x l n in
       let w : moved x y l ≡ l
       = ap₂ {C = Lists} (λ u v. with_names y u v) (none-comes (names_of x l) (names_of y l) n) d ∙ same-names y l in
       subst (λ u. Holds m s t u) (sym w) h

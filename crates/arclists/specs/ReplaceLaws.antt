@@ -5,14 +5,13 @@ use Rattle.std.proofs.Common.{sym, ap, ap₂, ◌∙◌, arith}
 use borrow.Author.Tests.{lt-ltb, le-ltb}
 use Rattle.tables.specs.Rows.{le4}
 use Rattle.arc.specs.Arc.{Lists, is_nil, takes_t1}
-use Rattle.arc.specs.ArcLent.{end_to_end}
 use Rattle.arc.proofs.ArcEndsLaws.{get_seam}
 use Rattle.arclists.specs.declared.ListSizes.{ListSizes}
 use Rattle.arclists.specs.declared.ListName.{ListName}
 use Rattle.arclists.specs.Holding.{total, Sized, Holds, Low, names_of, size_of, start_of}
 use Rattle.arc.proofs.ArcLentLaws.{words-at}
 use Rattle.arclists.specs.LeaveLaws.{read_back}
-use Rattle.arclists.specs.MoveLaws.{Some, some_of, before, after, lies, size-is, start-is, resized-by}
+use Rattle.arclists.specs.MoveLaws.{some_of, before, after, lies, size-is, start-is, resized-by}
 
 -- the oldest of a list is read at its first place
 pub name_of : (x : ListName) {m : ℕ} {s : ListSizes} {t : List ℕ} {l : Lists} → Holds m s t l → Low l → (i r : ℕ) → i ≡ start_of x s → r ≡ le4 t (i * 4)

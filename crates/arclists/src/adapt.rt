@@ -21,15 +21,13 @@ fn raised(p: usize, by: usize, top: usize) -> usize
 
 // "A hit in B1 raises p by the larger of 1 and the quotient of B2's size by B1's, rounded down, to at most C. A hit in B2 lowers p by the larger of 1
 // and the opposite quotient, to at least 0." `s` has the sizes before the address leaves its list, which was `was`.
+#[tactic(auto, unfolding(arc::specs::Arc::new_p))]
 pub fn new_p(s: ListSizes, was: Option<ListName>) -> usize
     ensures { (l : Lists) → Sized s l → result ≡ new_p s.cached (was_of was) l }
 {
     match was {
         Some(ListName::B1) => raised(s.p, change(s.b2, s.b1), s.cached),
         Some(ListName::B2) => s.p.saturating_sub(change(s.b1, s.b2)),
-        Some(ListName::T1) => s.p,
-        Some(ListName::T2) => s.p,
-        Some(ListName::B3) => s.p,
-        None => s.p,
+        Some(ListName::T1 | ListName::T2 | ListName::B3) | None => s.p,
     }
 }

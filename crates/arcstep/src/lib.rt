@@ -8,7 +8,7 @@ pub mod metadata;
 pub mod request;
 pub mod victim;
 
-use arclists::{ListSizes, Was};
+use arclists::{ListName, ListSizes};
 
 // What runs through the parts of a step: how many rows are held, the lists' sizes with p, C and X, the blocks stored in the flash, and those copied
 // to the disk.
@@ -31,5 +31,5 @@ pub struct Cleared {
 #[derive(Clone, Copy)]
 pub struct Parted {
     pub running: Running,
-    pub was: Was,
+    pub was: Option<ListName>,
 }

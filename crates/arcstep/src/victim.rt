@@ -52,9 +52,7 @@ pub(crate) fn mark_tops(
     ensures by_index_3 { (x : ℕ) → x < length known.new → get_or known.new x 0
         ≡ mark (elem x (map (top_place seen.now (rows d blocks.now)) (rows n addrs.now))) }
 {
-    let mut k = n;
-    while 0 < k {
-        k -= 1;
+    for k in (0..n).rev() {
         let x = top_place(addrs, k, seen, blocks, d, heads);
         known[x] = 1;
     }

@@ -1,6 +1,6 @@
 -- By the running sums. Assumes nothing.
 use Rattle.std.specs.Prelude.{◌+◌}
-use Rattle.std.proofs.Common.{rules, refl, arith}
+use Rattle.std.proofs.Common.{refl, arith}
 use Rattle.arclists.specs.Holding.{which_at}
 use Rattle.arclists.specs.LeaveLaws.{is_yes, is_no}
 use Rattle.arclists.proofs.ListSizes.which.Goals as goal

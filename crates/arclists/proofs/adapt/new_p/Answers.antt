@@ -1,5 +1,4 @@
 -- By the list that the address was in. Assumes nothing.
-use Rattle.std.proofs.Common.{rules, refl}
 use Rattle.arc.specs.Arc.{new_p}
 use Rattle.arclists.specs.declared.ListName.TheVariants.{T1, T2, B1, B2, B3}
 use Rattle.arclists.specs.AdaptLaws.{up, down, as-told}
@@ -14,18 +13,3 @@ pub returns-in-Some-B2 : goal.returns-in-Some-B2
 returns-in-Some-B2 c =
     λ l z. as-told z _ _ B2 c.in-Some-B2.is (rw c.in-Some-B2.is at c.in-Some-B2.field-0-is) (down z _ c.change-in-Some-B2.ensures c.saturating_sub.ensures)
 
-pub returns-in-Some-T1 : goal.returns-in-Some-T1
-unfolding new_p
-returns-in-Some-T1 c = λ l z. as-told z _ _ T1 c.in-Some-T1.is (rw c.in-Some-T1.is at c.in-Some-T1.field-0-is) z.p-is
-
-pub returns-in-Some-T2 : goal.returns-in-Some-T2
-unfolding new_p
-returns-in-Some-T2 c = λ l z. as-told z _ _ T2 c.in-Some-T2.is (rw c.in-Some-T2.is at c.in-Some-T2.field-0-is) z.p-is
-
-pub returns-in-Some-B3 : goal.returns-in-Some-B3
-unfolding new_p
-returns-in-Some-B3 c = λ l z. as-told z _ _ B3 c.in-Some-B3.is (rw c.in-Some-B3.is at c.in-Some-B3.field-0-is) z.p-is
-
-pub returns-in-None : goal.returns-in-None
-unfolding new_p
-returns-in-None c = rw c.in-None.is (λ l z. z.p-is)

@@ -1,5 +1,4 @@
 -- The sum that is not too large for the type, to at most C. Assumes nothing.
-use Rattle.std.proofs.Common.{rules}
 use Rattle.arclists.specs.AdaptLaws.{sum-smaller}
 use Rattle.arclists.proofs.adapt.raised.Goals as goal
 

@@ -1,5 +1,4 @@
 -- The word at the list's first place is its oldest name. Assumes nothing.
-use Rattle.std.proofs.Common.{rules}
 use Rattle.arclists.specs.ReplaceLaws.{name_of}
 use Rattle.arclists.proofs.ghosts.oldest.Goals as goal
 

@@ -1,5 +1,4 @@
 -- The word at the list's first place is taken out. Assumes nothing.
-use Rattle.std.proofs.Common.{rules}
 use Rattle.arclists.specs.MoveLaws.{holds-out}
 use Rattle.arclists.proofs.ghosts.out_of.Goals as goal
 

@@ -1,6 +1,6 @@
 -- The address goes in behind the list's newest. Assumes nothing.
 use Rattle.std.specs.Prelude.{◌+◌}
-use Rattle.std.proofs.Common.{rules, arith}
+use Rattle.std.proofs.Common.{arith}
 use Rattle.arclists.specs.Holding.{size_of}
 use Rattle.arclists.specs.MoveLaws.{holds-last, resized-by}
 use Rattle.arclists.proofs.leave.join.Goals as goal

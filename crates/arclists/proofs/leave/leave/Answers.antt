@@ -1,6 +1,6 @@
 -- The place found is that of the address in the lists. Assumes nothing.
 use Rattle.std.specs.Prelude.{None, Some, ◌-◌}
-use Rattle.std.proofs.Common.{rules, refl, ap, arith, ◌∙◌}
+use Rattle.std.proofs.Common.{rules, ap, arith, ◌∙◌}
 use Rattle.arclists.specs.Holding.{size_of, which_at}
 use Rattle.arclists.specs.MoveLaws.{resized-by}
 use Rattle.arclists.specs.LeaveLaws.{was-is, past-all, left-none, left-some}

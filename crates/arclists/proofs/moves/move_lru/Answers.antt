@@ -1,7 +1,6 @@
 -- One rotation of the addresses: `holds-moved`. Assumes nothing.
 use Rattle.std.specs.Prelude.{◌-◌, ◌+◌}
-use Rattle.std.proofs.Common.{rules, ap₂, refl, arith}
-use Rattle.arclists.specs.Holding.{size_of, less_of}
+use Rattle.std.proofs.Common.{rules, ap₂, arith}
 use Rattle.arclists.specs.MoveLaws.{holds-moved, holds-moved-none, moved-total, moved-kept, ends-later, resized-by}
 use Rattle.arclists.proofs.moves.move_lru.Goals as goal
 

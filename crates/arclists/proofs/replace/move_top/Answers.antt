@@ -1,5 +1,4 @@
 -- By the list that it takes from. Assumes nothing.
-use Rattle.std.proofs.Common.{rules}
 use Rattle.arclists.specs.ReplaceLaws.{cond_yes, cond_no}
 use Rattle.arclists.proofs.replace.move_top.Goals as goal
 

@@ -1,6 +1,5 @@
 -- The name leaves, p moves, the row leaves. Assumes nothing.
-use mathlib.Core.Path.{sym, ap, ◌∙◌}
-use native.Mathlib.Omega.{arith}
+use mathlib.Core.Path.{ap, ◌∙◌}
 use Rattle.std.proofs.Common.{rules}
 use Rattle.arc.specs.Arc.{new_p}
 use Rattle.arc.specs.Arc as Arc
