@@ -1,5 +1,5 @@
 -- What a line leaves in the memory, from what it did in the box and in the output. By the parts of equal records.
-use Rattle.std.proofs.Common.{◌≡◌, ℕ, List, [], length, sym, refl, ap, ◌∙◌, ap₂, zero-add, ne_eqb}
+use Rattle.std.proofs.Common.{◌≡◌, Option, ℕ, List, [], length, sym, refl, ap, ◌∙◌, ap₂, zero-add, ne_eqb}
 use Rattle.block.specs.Blocks.{splice}
 use Rattle.counters.specs.declared.Counters as Code
 use Rattle.lines.specs.declared.Command.{Command}
@@ -28,12 +28,12 @@ line-done M stage number x k N t text B out r n h p =
     ∙ ap₂ (made N t.n t.counters (over t M.buffers).buffers) p.1 (p.0 ∙ zero-add (length text))
 
 -- line 1 by its number
-pub refused-is : (s : State) (c : Command) (n : ℕ) → n ≡ box_refusal c → (n ≡ 0 → ⊥)
+pub refused-is : (s : State) (c : Option Command) (n : ℕ) → n ≡ box_refusal c → (n ≡ 0 → ⊥)
     → record { state = record { stage = 2; kept = []; number = s.number; numbers = s.numbers; lent = s.lent }; text = answer_text 0 c (refused n) } ≡ first_line s c
 unfolding first_line
 refused-is s c n e h = rw (sym e, ne_eqb n 0 h) refl
 
-pub begun-is : (s : State) (c : Command) → box_refusal c ≡ 0
+pub begun-is : (s : State) (c : Option Command) → box_refusal c ≡ 0
     → record { state = record { stage = 1; kept = []; number = 1; numbers = box_numbers c; lent = started (box_numbers c) }; text = [] } ≡ first_line s c
 unfolding first_line
 begun-is s c e = rw e refl

@@ -1,5 +1,5 @@
 -- Replay byte by byte: what is known after some bytes of the input, and what the next one prints. Assumes nothing.
-use Rattle.std.specs.Prelude.{ℕ, cond, not, ◌||◌, List, [], ◌∷◌, ◌++◌, length, ◌==◌, nat_lt}
+use Rattle.std.specs.Prelude.{ℕ, Option, cond, not, ◌||◌, List, [], ◌∷◌, ◌++◌, length, ◌==◌, nat_lt}
 use Rattle.paper.specs.Cache.{Numbers}
 use Rattle.paper.specs.Lent.{Lent, refused}
 use Rattle.lines.specs.Lines.{parsed}
@@ -24,7 +24,7 @@ abbrev pub quiet : State → Replied
 quiet s = record { state = s; text = [] }
 
 -- line 1
-unfoldable pub first_line : State → Command → Replied
+unfoldable pub first_line : State → Option Command → Replied
 first_line s c =
     cond (box_refusal c == 0)
     (record { state = record { stage = 1; kept = []; number = 1; numbers = box_numbers c; lent = started (box_numbers c) }; text = [] })
@@ -34,7 +34,7 @@ first_line s c =
     })
 
 -- a later line
-unfoldable pub later_line : State → Command → Replied
+unfoldable pub later_line : State → Option Command → Replied
 later_line s c =
     let o = doing s.numbers s.lent (asked s.numbers c) in
     record {

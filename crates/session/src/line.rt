@@ -48,7 +48,7 @@ fn open_box(
 
 // Makes the call of a line.
 fn call_box(
-    c: Command,
+    c: Option<Command>,
     b: BoxRecord,
     disk: &mut [u8],
     flash: &mut [u8],
@@ -84,7 +84,7 @@ fn call_box(
 // Line 1: the box is opened, or the line refused and the replay over.
 pub fn first(
     s: Session,
-    c: Command,
+    c: Option<Command>,
     disk: &mut [u8],
     flash: &mut [u8],
     addresses: &mut [u8],
@@ -133,7 +133,7 @@ pub fn first(
 // A later line.
 pub fn later(
     s: Session,
-    c: Command,
+    c: Option<Command>,
     disk: &mut [u8],
     flash: &mut [u8],
     addresses: &mut [u8],
