@@ -21,7 +21,7 @@ use Rattle.lines.specs.declared.Command.TheVariants.{Box, Read, Look, Flush, Thr
 use Rattle.print.specs.Texts.{ask_text, word_text, counts_text, answer_text}
 use Rattle.answers.specs.Replay.{Opening, large, box_refusal, box_numbers, start_disk, started, asked, doing}
 use Rattle.print.specs.DecimalLaws.{decimal-length}
-use Rattle.session.specs.Bytewise.{State, Replied, first_line, later_line, end_line, keep, byte_in, at_end}
+use Rattle.session.specs.Bytewise.{stage_number, State, Replied, first_line, later_line, end_line, keep, byte_in, at_end}
 use Rattle.answers.specs.Done.{record_of}
 use Rattle.session.specs.Memory.{Memory, Sized, Holds, lengths_fit, numbers_fit, fits, over, state_in, stored, fed, ended}
 use Rattle.tables.specs.Rows.{table_bytes}
@@ -156,9 +156,9 @@ later-small s c h =
 end-small : (s : State) → Fitted s → Small (end_line s)
 unfolding end_line
 end-small s h =
-    by-test (s.stage == 0)
+    by-test (stage_number s.stage == 0)
     (λ e. rw e (first_small s (parsed s.kept) h))
-    (λ e. rw e (by-test (s.stage == 1)
+    (λ e. rw e (by-test (stage_number s.stage == 1)
     (λ f. rw f (later-small s (parsed s.kept) h))
     (λ f. rw f (record { state = h; text = omega arith }))))
 
