@@ -8,11 +8,11 @@ use lines::Command;
 use parts::BoxRecord;
 
 // The box record of a box line, zeros of any other line.
-pub fn box_of(c: Command) -> BoxRecord
+pub fn box_of(c: Option<Command>) -> BoxRecord
     ensures { result ≡ record_of (box_numbers c) 0 }
 {
     match c {
-        Command::Box(b, p, m, d) => {
+        Some(Command::Box(b, p, m, d)) => {
             parts::empty_box(
                 b as usize, p as usize, m as usize, d as usize, m as usize, [0u8; 64],
             )
@@ -39,10 +39,13 @@ pub fn too_large(b: BoxRecord) -> u32
 }
 
 // The number of line 1's refusal, 0 where the box is opened.
-pub fn box_refusal(c: Command) -> u32
+pub fn box_refusal(c: Option<Command>) -> u32
     ensures { result ≡ box_refusal c }
 {
-    let Command::Box(b, p, m, d) = c else {
+    let Some(line) = c else {
+        return 4;
+    };
+    let Command::Box(b, p, m, d) = line else {
         return 4;
     };
     let x = parts::empty_box(

@@ -1,6 +1,5 @@
 // The call that a line asks for, in slices of the box's lengths.
-ghost use Rattle.std.specs.Prelude.{◌≡◌, ◌≤◌, replicate};
-ghost use Rattle.std.proofs.Math.Option.{Option};
+ghost use Rattle.std.specs.Prelude.{◌≡◌, ◌≤◌, Some, replicate};
 ghost use Rattle.paper.specs.Lent.{Ask};
 ghost use Rattle.parts.specs.Rep.{numbers_of};
 ghost use Rattle.refusals.specs.Given.{counters_of, lent};
@@ -31,7 +30,7 @@ fn read(
     ensures box_record_value { numbers_of result.box_record ≡ numbers_of b }
     ensures blocks_after { done_of result disk.new flash.new addresses.new blocks.new
         ≡ doing (numbers_of b) (lent b disk.old flash.old addresses.old blocks.old (counters_of c))
-        (Option.some (Ask.read a.0 (replicate b.size 0))) }
+        (Some (Ask.read a.0 (replicate b.size 0))) }
 {
     let mut block = [0u8; 4096];
     let size = b.size;
@@ -54,7 +53,7 @@ fn write(
     ensures box_record_value { numbers_of result.box_record ≡ numbers_of b }
     ensures blocks_after { done_of result disk.new flash.new addresses.new blocks.new
         ≡ doing (numbers_of b) (lent b disk.old flash.old addresses.old blocks.old (counters_of c))
-        (Option.some (ask_of kind a.0 (replicate b.size x) 0)) }
+        (Some (ask_of kind a.0 (replicate b.size x) 0)) }
 {
     let block = [x; 4096];
     let size = b.size;
@@ -85,7 +84,7 @@ fn look(
     ensures box_record_value { numbers_of result.box_record ≡ numbers_of b }
     ensures blocks_value { done_of result disk.now flash.now addresses.now blocks.now
         ≡ doing (numbers_of b) (lent b disk.now flash.now addresses.now blocks.now (counters_of c))
-        (Option.some (Ask.look a.0)) }
+        (Some (Ask.look a.0)) }
 {
     let answer = look::look(b, a, disk, flash, addresses, blocks);
     Outcome {
@@ -108,7 +107,7 @@ fn unformed(b: BoxRecord, c: Counters) -> Outcome
 
 // The call of a line, of any form.
 pub fn call(
-    line: Command,
+    line: Option<Command>,
     b: BoxRecord,
     disk: &mut [u8],
     flash: &mut [u8],
@@ -123,10 +122,10 @@ pub fn call(
         (asked (numbers_of b) line) }
 {
     match line {
-        Command::Read(a) => read(b, SourceAddress(a), disk, flash, addresses, blocks, c),
-        Command::Look(a) => look(b, SourceAddress(a), disk, flash, addresses, blocks, c),
-        Command::Flush => policy::calls::flush(b, disk, flash, addresses, blocks, c),
-        Command::Through(a, x) => write(
+        Some(Command::Read(a)) => read(b, SourceAddress(a), disk, flash, addresses, blocks, c),
+        Some(Command::Look(a)) => look(b, SourceAddress(a), disk, flash, addresses, blocks, c),
+        Some(Command::Flush) => policy::calls::flush(b, disk, flash, addresses, blocks, c),
+        Some(Command::Through(a, x)) => write(
             Write::Through,
             b,
             SourceAddress(a),
@@ -137,7 +136,7 @@ pub fn call(
             blocks,
             c,
         ),
-        Command::Back(a, x) => write(
+        Some(Command::Back(a, x)) => write(
             Write::Back,
             b,
             SourceAddress(a),
@@ -148,7 +147,7 @@ pub fn call(
             blocks,
             c,
         ),
-        Command::Invalidate(a, x) => write(
+        Some(Command::Invalidate(a, x)) => write(
             Write::Invalidate,
             b,
             SourceAddress(a),
@@ -159,7 +158,7 @@ pub fn call(
             blocks,
             c,
         ),
-        Command::Box(_, _, _, _) => unformed(b, c),
-        Command::Unformed => unformed(b, c),
+        Some(Command::Box(_, _, _, _)) => unformed(b, c),
+        None => unformed(b, c),
     }
 }

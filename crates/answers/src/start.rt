@@ -13,11 +13,7 @@ use parts::BoxRecord;
 pub fn fill(s: &mut [u8], x: u8)
     ensures { s.new ≡ replicate (length s.old) x }
 {
-    let mut i = 0;
-    while i < s.len() {
-        s[i] = x;
-        i += 1;
-    }
+    s.fill(x);
 }
 
 // Fills block k of the disk with byte k.
@@ -25,12 +21,10 @@ fn fill_disk(disk: &mut [u8], size: usize, blocks: usize)
     requires { (size ≤ 4096) × (blocks ≤ 256) × (length disk.old ≡ blocks * size) }
     ensures { disk.new ≡ start_disk size blocks }
 {
-    let mut k = 0;
-    while k < blocks {
+    for k in 0..blocks {
         let at = k * size;
         let end = at + size;
         fill(&mut disk[at..end], k as u8);
-        k += 1;
     }
 }
 

@@ -44,20 +44,20 @@ fn named(out: &mut [u8], at: usize, s: &[u8], n: u64) -> usize
 }
 
 // The letter and the address of a call.
-fn ask(out: &mut [u8], at: usize, c: Command) -> usize
+fn ask(out: &mut [u8], at: usize, c: Option<Command>) -> usize
     requires { at + 23 ≤ length out.old }
     ensures upper_bound { result ≤ at + 23 }
     ensures put { Put at (ask_text c) out.old result out.new }
 {
     match c {
-        Command::Read(a) => named(out, at, b" R ", a as u64),
-        Command::Look(a) => named(out, at, b" L ", a as u64),
-        Command::Flush => text(out, at, b" F -"),
-        Command::Through(a, _) => named(out, at, b" T ", a as u64),
-        Command::Back(a, _) => named(out, at, b" B ", a as u64),
-        Command::Invalidate(a, _) => named(out, at, b" I ", a as u64),
-        Command::Box(_, _, _, _) => text(out, at, b""),
-        Command::Unformed => text(out, at, b""),
+        Some(Command::Read(a)) => named(out, at, b" R ", a as u64),
+        Some(Command::Look(a)) => named(out, at, b" L ", a as u64),
+        Some(Command::Flush) => text(out, at, b" F -"),
+        Some(Command::Through(a, _)) => named(out, at, b" T ", a as u64),
+        Some(Command::Back(a, _)) => named(out, at, b" B ", a as u64),
+        Some(Command::Invalidate(a, _)) => named(out, at, b" I ", a as u64),
+        Some(Command::Box(_, _, _, _)) => text(out, at, b""),
+        None => text(out, at, b""),
     }
 }
 
@@ -105,7 +105,7 @@ fn answered(
     out: &mut [u8],
     at: usize,
     number: u64,
-    c: Command,
+    c: Option<Command>,
     w: Word,
     flashed: u64,
     primary: u64,
@@ -121,7 +121,7 @@ fn answered(
 }
 
 // The line of an answer.
-pub fn answer(out: &mut [u8], at: usize, number: u64, c: Command, a: Answer) -> usize
+pub fn answer(out: &mut [u8], at: usize, number: u64, c: Option<Command>, a: Answer) -> usize
     requires { at + 92 ≤ length out.old }
     ensures upper_bound { result ≤ at + 92 }
     ensures put { Put at (answer_text number c (answer_of a)) out.old result out.new }

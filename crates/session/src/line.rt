@@ -7,7 +7,7 @@ ghost use Rattle.answers.specs.Replay.{Opening, started, asked, doing};
 ghost use Rattle.session.specs.Bytewise.{first_line, later_line};
 ghost use Rattle.session.specs.Memory.{buffers, within, held, over, memory, Sized, Holds, state_in, stored, after_of};
 
-use crate::{Fed, Session};
+use crate::{Fed, Session, Stage};
 use answers::{boxes, call, start};
 use counters::Counters;
 use lines::Command;
@@ -48,7 +48,7 @@ fn open_box(
 
 // Makes the call of a line.
 fn call_box(
-    c: Command,
+    c: Option<Command>,
     b: BoxRecord,
     disk: &mut [u8],
     flash: &mut [u8],
@@ -84,7 +84,7 @@ fn call_box(
 // Line 1: the box is opened, or the line refused and the replay over.
 pub fn first(
     s: Session,
-    c: Command,
+    c: Option<Command>,
     disk: &mut [u8],
     flash: &mut [u8],
     addresses: &mut [u8],
@@ -106,7 +106,7 @@ pub fn first(
         let k = s.counters;
         return Fed {
             session: Session {
-                stage: 2,
+                stage: Stage::Over,
                 kept: 0,
                 number: s.number,
                 box_record: b,
@@ -120,7 +120,7 @@ pub fn first(
     let k = x.counters;
     Fed {
         session: Session {
-            stage: 1,
+            stage: Stage::Open,
             kept: 0,
             number: 1,
             box_record: b,
@@ -133,7 +133,7 @@ pub fn first(
 // A later line.
 pub fn later(
     s: Session,
-    c: Command,
+    c: Option<Command>,
     disk: &mut [u8],
     flash: &mut [u8],
     addresses: &mut [u8],
@@ -158,7 +158,7 @@ pub fn later(
     let k2 = x.counters;
     Fed {
         session: Session {
-            stage: 1,
+            stage: Stage::Open,
             kept: 0,
             number: std::num::wrapping_add_u64(s.number, 1),
             box_record: b2,

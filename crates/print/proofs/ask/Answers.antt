@@ -2,34 +2,48 @@
 use Rattle.print.specs.Texts.{ask_text}
 use Rattle.print.proofs.ask.Goals as goal
 
-pub returns-in-Read-clause-put : goal.returns-in-Read-clause-put
+pub returns-in-Some-Read-clause-put : goal.returns-in-Some-Read-clause-put
 unfolding ask_text
-returns-in-Read-clause-put c = rw c.in-Read.is c.named.ensures.put
+returns-in-Some-Read-clause-put c =
+    let e = rw c.in-Some-Read.is at c.in-Some-Read.field-0-is in
+    rw (c.in-Some-Read.is, e) c.named.ensures.put
 
-pub returns-in-Look-clause-put : goal.returns-in-Look-clause-put
+pub returns-in-Some-Look-clause-put : goal.returns-in-Some-Look-clause-put
 unfolding ask_text
-returns-in-Look-clause-put c = rw c.in-Look.is c.named-in-Look.ensures.put
+returns-in-Some-Look-clause-put c =
+    let e = rw c.in-Some-Look.is at c.in-Some-Look.field-0-is in
+    rw (c.in-Some-Look.is, e) c.named-in-Some-Look.ensures.put
 
-pub returns-in-Flush-clause-put : goal.returns-in-Flush-clause-put
+pub returns-in-Some-Flush-clause-put : goal.returns-in-Some-Flush-clause-put
 unfolding ask_text
-returns-in-Flush-clause-put c = rw c.in-Flush.is c.text.ensures
+returns-in-Some-Flush-clause-put c =
+    let e = rw c.in-Some-Flush.is at c.in-Some-Flush.field-0-is in
+    rw (c.in-Some-Flush.is, e) c.text.ensures
 
-pub returns-in-Through-clause-put : goal.returns-in-Through-clause-put
+pub returns-in-Some-Through-clause-put : goal.returns-in-Some-Through-clause-put
 unfolding ask_text
-returns-in-Through-clause-put c = rw c.in-Through.is c.named-in-Through.ensures.put
+returns-in-Some-Through-clause-put c =
+    let e = rw c.in-Some-Through.is at c.in-Some-Through.field-0-is in
+    rw (c.in-Some-Through.is, e) c.named-in-Some-Through.ensures.put
 
-pub returns-in-Back-clause-put : goal.returns-in-Back-clause-put
+pub returns-in-Some-Back-clause-put : goal.returns-in-Some-Back-clause-put
 unfolding ask_text
-returns-in-Back-clause-put c = rw c.in-Back.is c.named-in-Back.ensures.put
+returns-in-Some-Back-clause-put c =
+    let e = rw c.in-Some-Back.is at c.in-Some-Back.field-0-is in
+    rw (c.in-Some-Back.is, e) c.named-in-Some-Back.ensures.put
 
-pub returns-in-Invalidate-clause-put : goal.returns-in-Invalidate-clause-put
+pub returns-in-Some-Invalidate-clause-put : goal.returns-in-Some-Invalidate-clause-put
 unfolding ask_text
-returns-in-Invalidate-clause-put c = rw c.in-Invalidate.is c.named-in-Invalidate.ensures.put
+returns-in-Some-Invalidate-clause-put c =
+    let e = rw c.in-Some-Invalidate.is at c.in-Some-Invalidate.field-0-is in
+    rw (c.in-Some-Invalidate.is, e) c.named-in-Some-Invalidate.ensures.put
 
-pub returns-in-Box-clause-put : goal.returns-in-Box-clause-put
+pub returns-in-Some-Box-clause-put : goal.returns-in-Some-Box-clause-put
 unfolding ask_text
-returns-in-Box-clause-put c = rw c.in-Box.is c.text-in-Box.ensures
+returns-in-Some-Box-clause-put c =
+    let e = rw c.in-Some-Box.is at c.in-Some-Box.field-0-is in
+    rw (c.in-Some-Box.is, e) c.text-in-Some-Box.ensures
 
-pub returns-in-Unformed-clause-put : goal.returns-in-Unformed-clause-put
+pub returns-in-None-clause-put : goal.returns-in-None-clause-put
 unfolding ask_text
-returns-in-Unformed-clause-put c = rw c.in-Unformed.is c.text-in-Unformed.ensures
+returns-in-None-clause-put c = rw c.in-None.is c.text-in-None.ensures

@@ -1,5 +1,6 @@
 -- A turn makes one more read, and leaves the memory that its bytes do. Assumes nothing.
 use Rattle.std.proofs.Common.{◌≡◌, sym, ap, ◌∙◌, subst, ◌&&◌, ◌∷◌, ℕ, suc, ◌+◌, ◌-◌, ◌^◌, ◌<◌, ◌≤◌, ltb, leb, length, arith}
+use Rattle.session.specs.Bytewise.{stage_number}
 use Rattle.session.specs.Memory.{Memory}
 use Rattle.replay_cli.specs.Chunks.{fed_first}
 use Rattle.replay_cli.specs.Reads.{Reading}
@@ -25,7 +26,7 @@ loop-turns-preserved g c =
         sym b.2 ∙ c.if-more.true,
         b.1,
       ),
-      c.goes_on-more.ensures ∙ ap (λ (K : Memory). ltb 0 r.count && leb K.session.stage 1) m,
+      c.goes_on-more.ensures ∙ ap (λ (K : Memory). ltb 0 r.count && leb (stage_number K.session.stage) 1) m,
       counted p.turns (length b.0) (omega arith) b.3,
       m,
     )

@@ -4,6 +4,7 @@ use Rattle.block.specs.Blocks.{splice}
 use Rattle.parts.specs.Rep.{numbers_of}
 use Rattle.refusals.specs.Given.{counters_of}
 use Rattle.answers.specs.Replay.{Opening, box_numbers, started}
+use Rattle.session.specs.declared.Stage.TheVariants.{Open, Over}
 use Rattle.session.specs.Memory.{memory, over, state_in, stored, Holds}
 use Rattle.session.specs.MemoryLaws.{opened-fits}
 use Rattle.session.specs.BufferLaws.{over-same}
@@ -19,7 +20,7 @@ returns-then-number-ne0 c =
     record {
       filled_bound = omega (arith, p.upper_bound);
       by_index = λ line. (let M = memory a.s line a.disk.now a.flash.now a.addresses.now a.blocks.now a.out.now in
-          line-done M 2 a.s.number a.s.box_record a.s.counters _ _ _ M.buffers _ _ refl (over-same a.s.box_record (counters_of a.s.counters) a.disk.now a.flash.now a.addresses.now a.blocks.now) p.put
+          line-done M Over a.s.number a.s.box_record a.s.counters _ _ _ M.buffers _ _ refl (over-same a.s.box_record (counters_of a.s.counters) a.disk.now a.flash.now a.addresses.now a.blocks.now) p.put
           ∙ ap (stored M) (refused-is (state_in M) a.c n.result n.ensures c.if-number-ne0.true));
     }
 
@@ -44,6 +45,6 @@ returns c =
     record {
       filled_bound = omega arith;
       by_index = λ line. (let M = memory a.s line a.disk.now a.flash.now a.addresses.now a.blocks.now a.out.now in
-          line-done M 1 1 o.result.box_record o.result.counters (box_numbers a.c) (started (box_numbers a.c)) [] _ a.out.now 0 (o.ensures.box_record_value ∙ ap numbers_of e) (o.ensures.blocks_after ∙ ap (λ b. over (started (numbers_of b)) M.buffers) e) (refl, refl)
+          line-done M Open 1 o.result.box_record o.result.counters (box_numbers a.c) (started (box_numbers a.c)) [] _ a.out.now 0 (o.ensures.box_record_value ∙ ap numbers_of e) (o.ensures.blocks_after ∙ ap (λ b. over (started (numbers_of b)) M.buffers) e) (refl, refl)
           ∙ ap (stored M) (begun-is (state_in M) a.c (sym n.ensures ∙ c.if-number-ne0.false)));
     }

@@ -6,6 +6,7 @@ use Rattle.policy.specs.Contract.{answer_of}
 use Rattle.print.specs.Texts.{answer_text}
 use Rattle.answers.specs.Replay.{asked, doing}
 use Rattle.session.specs.Bytewise.{later_line}
+use Rattle.session.specs.declared.Stage.TheVariants.{Open}
 use Rattle.session.specs.Memory.{memory, within, state_in, stored}
 use Rattle.session.proofs.Lining.{line-done}
 use Rattle.session.proofs.line.later.Goals as goal
@@ -22,6 +23,6 @@ returns c =
       by_index = λ line. (let M = memory a.s line a.disk.now a.flash.now a.addresses.now a.blocks.now a.out.now in
           let N = numbers_of a.s.box_record in
           let D = doing N (within a.s.box_record M.buffers (counters_of a.s.counters)) (asked N a.c) in
-          line-done M 1 w.result o.result.box_record o.result.counters (numbers_of a.s.box_record) D.lent (answer_text a.s.number a.c (answer_of o.result.answer)) _ _ _ o.ensures.box_record_value o.ensures.blocks_after p.put
-          ∙ ap₂ (λ k x. stored M (record { state = record { stage = 1; kept = []; number = k; numbers = numbers_of a.s.box_record; lent = D.lent }; text = answer_text a.s.number a.c x })) w.ensures.value o.ensures.answer_value);
+          line-done M Open w.result o.result.box_record o.result.counters (numbers_of a.s.box_record) D.lent (answer_text a.s.number a.c (answer_of o.result.answer)) _ _ _ o.ensures.box_record_value o.ensures.blocks_after p.put
+          ∙ ap₂ (λ k x. stored M (record { state = record { stage = Open; kept = []; number = k; numbers = numbers_of a.s.box_record; lent = D.lent }; text = answer_text a.s.number a.c x })) w.ensures.value o.ensures.answer_value);
     }
