@@ -1,6 +1,6 @@
 -- Laws on the message schedule, the blocks and the padding of SHA-256.
 -- Assumes nothing.
-use Rattle.std.proofs.Common.{◌≡◌, ℕ, zero, suc, ◌+◌, ◌-◌, ◌*◌, ◌/◌, ◌%◌, ◌^◌, ◌<◌, ◌≤◌, nat_lt, inl, inr, List, [], ◌∷◌, ◌++◌, length, get_or, take, drop, set, replicate, sym, refl, ap, subst, ◌∙◌, append_assoc, le_refl, add-zero, add-suc, add-one, arith, length-append, length-drop, length-set, take-append-drop, length-take, length-take-le, take_all, get_or-take, take-suc, take-suc-set, take_at, drop_at, drop-drop, le-ltb, lt-ltb}
+use Rattle.std.proofs.Common.{◌≡◌, ℕ, zero, suc, ◌+◌, ◌-◌, ◌*◌, ◌/◌, ◌%◌, ◌^◌, ◌<◌, ◌≤◌, nat_lt, inl, inr, List, [], ◌∷◌, ◌++◌, length, get_or, take, drop, set, replicate, sym, refl, ap, subst, ◌∙◌, append_assoc, le_refl, add-zero, add-suc, add-one, arith, length-append, length-drop, length-set, take-append-drop, length-take, length-take-le, take_all, get_or-take, take-suc-set, take_at, drop_at, drop-drop, le-ltb, lt-ltb}
 use Rattle.std.proofs.lemmas.List.{drop-replicate}
 use Rattle.std.proofs.lemmas.Slice.{take-put_mid}
 use borrow.Rule.Slice.PartMut.{put_mid}

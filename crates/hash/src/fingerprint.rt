@@ -6,6 +6,7 @@ ghost use Rattle.hash.specs.LastChunk.{Size, bit_length, last_chunk};
 use crate::{blocks, compress, digest, initial};
 
 // The bit length of a label and a block of `size` bytes, in seven cases; 0 for what is no size.
+#[tactic(auto, unfolding(crate::specs::LastChunk::bit_length))]
 pub(crate) fn bit_length(size: usize) -> u64
     ensures { result ≡ bit_length size }
 {

@@ -26,6 +26,7 @@ pub struct State {
 }
 
 // The initial hash value (5.3.3).
+#[tactic(auto, unfolding(crate::specs::Sha256::H0))]
 pub fn initial() -> State
     ensures { words result ≡ S.H0 }
 {
@@ -49,6 +50,7 @@ fn ch(x: u32, y: u32, z: u32) -> u32
 }
 
 // Maj, as the standard writes it.
+#[tactic(auto, unfolding(crate::specs::Sha256::Maj))]
 fn maj(x: u32, y: u32, z: u32) -> u32
     ensures { result ≡ S.Maj x y z }
 {
@@ -84,6 +86,7 @@ fn small_sigma1(x: u32) -> u32
 }
 
 // Word t of a block.
+#[tactic(auto, unfolding(crate::specs::Sha256::M))]
 fn load(block: &[u8], t: usize) -> u32
     requires { (t < 16) × (length block.now ≡ 64) }
     ensures { result ≡ S.M block.now t }
@@ -93,6 +96,7 @@ fn load(block: &[u8], t: usize) -> u32
 }
 
 // Word t of the schedule, made of the words before it.
+#[tactic(auto, unfolding(crate::specs::Sha256::next))]
 fn next_word(w: &[u32; 64], t: usize) -> u32
     requires { (16 ≤ t) × (t < 64) }
     ensures { result ≡ S.next w.now t }
@@ -104,6 +108,7 @@ fn next_word(w: &[u32; 64], t: usize) -> u32
 }
 
 // T1 of a round.
+#[tactic(auto, unfolding(crate::specs::Sha256::T1))]
 fn temp1(e: u32, f: u32, g: u32, h: u32, k: u32, w: u32) -> u32
     ensures { result ≡ S.T1 e f g h k w }
 {
@@ -114,6 +119,7 @@ fn temp1(e: u32, f: u32, g: u32, h: u32, k: u32, w: u32) -> u32
 }
 
 // T2 of a round.
+#[tactic(auto, unfolding(crate::specs::Sha256::T2))]
 fn temp2(a: u32, b: u32, c: u32) -> u32
     ensures { result ≡ S.T2 a b c }
 {
@@ -121,6 +127,7 @@ fn temp2(a: u32, b: u32, c: u32) -> u32
 }
 
 // One round on the working variables, at the constant k and the word w.
+#[tactic(auto, unfolding(crate::specs::Sha256::round))]
 fn round(s: State, k: u32, w: u32) -> State
     ensures { words result ≡ S.round k w (words s) }
 {
@@ -194,6 +201,7 @@ fn rounds(hash: State, block: &[u8]) -> State
 }
 
 // The sums of the words of two states.
+#[tactic(auto, unfolding(crate::specs::Sha256::sum8))]
 fn sum8(hash: State, s: State) -> State
     ensures { words result ≡ S.sum8 (words hash) (words s) }
 {
@@ -210,6 +218,7 @@ fn sum8(hash: State, s: State) -> State
 }
 
 // The hash value after one block of 64 bytes (6.2.2).
+#[tactic(auto, unfolding(crate::specs::Sha256::compress))]
 pub fn compress(hash: State, block: &[u8]) -> State
     requires { length block.now ≡ 64 }
     ensures { words result ≡ S.compress (words hash) block.now }

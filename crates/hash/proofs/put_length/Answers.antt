@@ -1,6 +1,6 @@
 -- `hash::put_length` meets its contract.
 -- Assumes nothing.
-use Rattle.std.proofs.Common.{◌∙◌, arith, rules}
+use Rattle.std.proofs.Common.{arith}
 use Rattle.hash.specs.Sha256.{bytes64}
 use Rattle.hash.proofs.Laws.{written}
 use Rattle.hash.proofs.put_length.Goals as goal

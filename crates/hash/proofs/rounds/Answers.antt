@@ -9,4 +9,3 @@ first-init c = (refl, omega arith, done_none _ _ _ refl)
 
 pub later-init : goal.later-init
 later-init c = (refl, omega arith, done_at c.first.t 16 (omega arith) c.first.invariant.2)
-

@@ -1,6 +1,6 @@
 -- `hash::sha256` meets its contract.
 -- Assumes nothing.
-use Rattle.std.proofs.Common.{◌≡◌, ℕ, ◌+◌, ◌-◌, ◌*◌, ◌/◌, ◌%◌, ◌^◌, List, length, take, drop, sym, refl, ap, ◌∙◌, le_refl, arith, length-drop, length-take, take_all, rules}
+use Rattle.std.proofs.Common.{◌≡◌, ℕ, ◌+◌, ◌-◌, ◌*◌, ◌/◌, ◌%◌, ◌^◌, List, length, take, drop, sym, refl, ap, ◌∙◌, le_refl, arith, length-drop, length-take, take_all}
 use Rattle.hash.specs.Sha256.{sha256, H0, digest, padded}
 use Rattle.hash.proofs.Laws.{tail-padded, message}
 use Rattle.hash.proofs.sha256.Goals as goal

@@ -1,6 +1,5 @@
 -- `hash::step` meets its contract.
 -- Assumes nothing.
-use Rattle.std.proofs.Common.{rules}
 use Rattle.hash.specs.Sha256.{K}
 use Rattle.hash.specs.Words.{words}
 use Rattle.hash.proofs.Laws.{done_more}

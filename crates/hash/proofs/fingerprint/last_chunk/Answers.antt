@@ -1,6 +1,5 @@
 -- `hash::fingerprint::last_chunk` meets its contract: the bytes stored are the definition's.
 -- Assumes nothing.
-use Rattle.std.proofs.Common.{rules}
 use Rattle.hash.specs.Sha256.{bytes64}
 use Rattle.hash.specs.LastChunk.{last_chunk}
 use Rattle.hash.proofs.fingerprint.last_chunk.Goals as goal
