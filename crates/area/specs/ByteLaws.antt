@@ -17,7 +17,7 @@ use Rattle.image.specs.Body.{body_of}
 use borrow.Rule.Slice.PartMut.{put_mid}
 use Rattle.block.specs.Blocks.{splice}
 use Rattle.block.specs.Laws.{length-splice}
-use Rattle.image.specs.Area.{mark, header, clearing, heading, save_writes, padded, put, applied, body_write, body_writes, writes_for}
+use Rattle.image.specs.Area.{mark, version, header, clearing, heading, save_writes, padded, put, applied, body_write, body_writes, writes_for}
 use Rattle.image.proofs.AreaLaws.{applied-append, length-padded}
 
 -- an element behind a list
@@ -155,10 +155,10 @@ none_yet body area = refl
 
 -- ---- the header, and all writes
 
-pub header_made : (h bs : List ℕ) (n : ℕ) → h ≡ splice 0 mark (replicate 64 0) → bs ≡ bytes4 n
-    → put_mid 5 4 (set h 3 1) bs ≡ header n
+pub header_made : (h vs bs : List ℕ) (n : ℕ) → h ≡ splice 0 mark (replicate 64 0) → vs ≡ version → bs ≡ bytes4 n
+    → put_mid 5 4 (put_mid 3 2 h vs) bs ≡ header n
 unfolding splice header zeros
-header_made h bs n e f = rw (e, f) refl
+header_made h vs bs n e v f = rw (e, v, f) refl
 
 pub writes_are : (n : ℕ) → writes_for n ≡ (n + 63) / 64
 unfolding writes_for

@@ -8,6 +8,9 @@ ghost use Rattle.block.specs.Blocks.{splice};
 ghost use Rattle.image.specs.Area.{mark, writes_for, put, applied, body_write, body_writes, header, clearing, save_writes};
 ghost use Rattle.area.specs.Given.{body_from, bytes_of};
 
+// The version of an image, in two bytes behind the mark.
+pub const VERSION: u16 = 1;
+
 // Writes the mark at the start of the area.
 pub fn put_mark(area: &mut [u8])
     requires { 3 ≤ length area.old }
@@ -96,7 +99,7 @@ pub(crate) fn header_bytes(n: u32) -> [u8; 64]
 {
     let mut h = [0u8; 64];
     put_mark(&mut h);
-    h[3] = 1;
+    h[3..5].copy_from_slice(&VERSION.to_le_bytes());
     h[5..9].copy_from_slice(&n.to_le_bytes());
     h
 }

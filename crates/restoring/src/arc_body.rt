@@ -43,9 +43,9 @@ pub(crate) fn arc_record_in(body: &[u8]) -> ArcRecord
         size: row::word_at(body, 4) as usize,
         blocks: row::word_at(body, 8) as usize,
         held: row::word_at(body, 20) as usize,
-        label: label,
+        label,
         limit: row::word_at(body, 24) as usize,
-        sizes: sizes,
+        sizes,
     }
 }
 

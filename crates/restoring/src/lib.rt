@@ -26,14 +26,7 @@ use tables::row;
 pub(crate) fn all_zero(t: &[u8]) -> bool
     ensures { result ≡ all is_zero t.now }
 {
-    let mut k = 0;
-    while k < t.len() {
-        if t[k] != 0 {
-            return false;
-        }
-        k += 1;
-    }
-    true
+    t.iter().all(|&x| x == 0)
 }
 
 // 15: whether the area's header is no image of version 1.
@@ -46,10 +39,7 @@ pub(crate) fn no_image(area: &[u8]) -> bool
     if !area::has_mark(area) {
         return true;
     }
-    if area[3] != 1 {
-        return true;
-    }
-    if area[4] != 0 {
+    if !area[3..].starts_with(&area::VERSION.to_le_bytes()) {
         return true;
     }
     !all_zero(&area[9..64])
@@ -69,7 +59,7 @@ pub(crate) fn label_in(part: &[u8]) -> [u8; 64]
     ensures { result ≡ part.now }
 {
     let mut label = [0u8; 64];
-    block::copy_all(part, &mut label);
+    label.copy_from_slice(part);
     label
 }
 
@@ -85,7 +75,7 @@ pub(crate) fn record_in(body: &[u8]) -> BoxRecord
         rows: row::word_at(body, 12) as usize,
         slots: row::word_at(body, 16) as usize,
         held: row::word_at(body, 20) as usize,
-        label: label,
+        label,
         limit: row::word_at(body, 24) as usize,
     }
 }
@@ -165,7 +155,7 @@ pub(crate) fn image_refusal(area: &[u8]) -> u32
 }
 
 // The body in an area that has an image.
-pub(crate) fn body_in<'a>(area: &'a [u8]) -> &'a [u8]
+pub(crate) fn body_in(area: &[u8]) -> &[u8]
     requires { image_refusal kinds area.now ≡ 0 }
     ensures { result.now ≡ body_in area.now }
 {
@@ -202,9 +192,9 @@ pub(crate) fn as_arc(b: BoxRecord) -> ArcRecord
         size: b.size,
         blocks: b.blocks,
         held: b.held,
-        label: label,
+        label,
         limit: b.limit,
-        sizes: sizes,
+        sizes,
     }
 }
 
@@ -241,13 +231,7 @@ pub(crate) fn found_in(body: &[u8]) -> Found
 pub(crate) fn wrong_tables(f: Found, addresses: usize, blocks: usize, lists: usize) -> bool
     ensures { result ≡ other_lengths f addresses blocks lists }
 {
-    if addresses != f.addresses {
-        return true;
-    }
-    if blocks != f.blocks {
-        return true;
-    }
-    lists != f.lists
+    addresses != f.addresses || blocks != f.blocks || lists != f.lists
 }
 
 // 15, 14, 16 or 2, the first that applies; 0 for none.
@@ -283,9 +267,9 @@ pub(crate) fn take_tables(
     let second = first + f.addresses;
     let third = second + f.blocks;
     let end = third + f.lists;
-    block::copy_all(&body[first..second], addresses);
-    block::copy_all(&body[second..third], blocks);
-    block::copy_all(&body[third..end], lists);
+    addresses.copy_from_slice(&body[first..second]);
+    blocks.copy_from_slice(&body[second..third]);
+    lists.copy_from_slice(&body[third..end]);
 }
 
 // The box whose image is in an area that isn't refused: its record, and its tables and lists in those lent.
@@ -326,11 +310,11 @@ pub(crate) fn given_back(number: u32, a: ArcRecord) -> Restored
         rows: a.sizes.cached,
         slots: a.sizes.extra,
         held: a.held,
-        label: label,
+        label,
         limit: a.limit,
     };
     Restored {
-        number: number,
+        number,
         box_record: b,
         arc_record: a,
     }

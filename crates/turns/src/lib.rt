@@ -29,29 +29,7 @@ pub struct Sums {
     pub fetches: usize,
 }
 
-// 1 for yes.
-pub(crate) fn one_if(yes: bool) -> usize
-    ensures value { result ≡ cond yes 1 0 }
-    ensures upper_bound { result ≤ 1 }
-{
-    if yes {
-        return 1;
-    }
-    0
-}
-
-// 1 for a fetch: the first read of an address, where it is a miss.
-pub(crate) fn fetch_if(first: bool, hit: bool) -> usize
-    ensures value { result ≡ cond (first && not hit) 1 0 }
-    ensures upper_bound { result ≤ 1 }
-{
-    if hit {
-        return 0;
-    }
-    one_if(first)
-}
-
-// The sums with those of one read more.
+// The sums with those of one read more. A fetch is the first read of an address, where it is a miss.
 pub(crate) fn summed(t: Sums, s: Served, first: bool) -> Sums
     requires { (t.hits ≤ 64) × (t.flashed ≤ 64) × (t.primary ≤ 65664) × (t.fetches ≤ 64) × (s.flashed ≤ 1) × (s.primary ≤ 1026) }
     ensures { result ≡ record {
@@ -62,14 +40,13 @@ pub(crate) fn summed(t: Sums, s: Served, first: bool) -> Sums
       fetches = t.fetches + cond (first && not s.yes) 1 0;
     } }
 {
-    let h = one_if(s.yes);
-    let f = fetch_if(first, s.yes);
+    let fetch = usize::from(first && !s.yes);
     Sums {
         held: s.held,
-        hits: t.hits + h,
+        hits: t.hits + usize::from(s.yes),
         flashed: t.flashed + s.flashed,
         primary: t.primary + s.primary,
-        fetches: t.fetches + f,
+        fetches: t.fetches + fetch,
     }
 }
 

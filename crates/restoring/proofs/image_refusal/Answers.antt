@@ -1,10 +1,7 @@
 -- 15, 14 and 16 in turn. Assumes nothing.
-use mathlib.Core.Path.{◌≡◌, sym, ◌∙◌}
-use mathlib.Core.Bool.{false}
-use Rattle.image.specs.Image.{no_image, too_short}
+use mathlib.Core.Path.{sym, ◌∙◌}
 use native.Mathlib.Omega.{arith}
 use Rattle.restoring.specs.FoundLaws.{long-enough, room_for, refused-15, refused-14, refused-16, refused-0}
-use Rattle.std.proofs.Common.{rules}
 use Rattle.restoring.proofs.image_refusal.Goals as goal
 
 pub returns-then-no_image : goal.returns-then-no_image

@@ -2,7 +2,6 @@
 use mathlib.Core.Path.{sym, ◌∙◌}
 use Rattle.restoring.specs.FoundLaws.{other-kind}
 use Rattle.restoring.specs.ArcBodyLaws.{short-body}
-use Rattle.std.proofs.Common.{rules}
 use Rattle.restoring.proofs.no_body.Goals as goal
 
 pub returns-then-body-lt92 : goal.returns-then-body-lt92

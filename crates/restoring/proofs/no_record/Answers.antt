@@ -2,7 +2,6 @@
 use mathlib.Core.Path.{ap, ◌∙◌}
 use Rattle.tables.specs.Rows.{zeros}
 use Rattle.restoring.specs.Given.{as_arc}
-use Rattle.std.proofs.Common.{rules}
 use Rattle.restoring.proofs.no_record.Goals as goal
 
 pub returns : goal.returns

@@ -1,29 +1,25 @@
 -- The record, the tables and the lists are those of the body found. Assumes nothing.
-use mathlib.Core.Path.{◌≡◌, sym, ap, ◌∙◌}
-use Rattle.image.specs.Image.{image_refusal}
-use Rattle.image.specs.Kinds.{string_at, kinds}
+use mathlib.Core.Path.{sym, ap, ◌∙◌}
+use Rattle.image.specs.Kinds.{string_at}
 use Rattle.restoring.specs.Given.{arc_of}
 use Rattle.restoring.specs.RestoreLaws.{image-passes, lengths-taken, found-body, found-fields}
-use Rattle.std.proofs.Common.{rules}
 use Rattle.restoring.proofs.take_box.Goals as goal
-use Rattle.restoring.proofs.take_box.Goals.{After-slice_known-3-1}
-
--- the image is not refused
-zero : (c : After-slice_known-3-1) → image_refusal kinds c.args.area.now ≡ 0
-zero c = let a = c.args in image-passes a.area.now a.addresses.now a.blocks.now a.lists.now c.requires
 
 pub body_in-body-requires : goal.body_in-body-requires
-body_in-body-requires c = zero c
+body_in-body-requires c =
+    let a = c.args in
+    image-passes a.area.now a.addresses.now a.blocks.now a.lists.now c.requires
 
 pub found_in-f-requires : goal.found_in-f-requires
 found_in-f-requires c =
-    let zero : image_refusal kinds c.args.area.now ≡ 0 = let a = c.args in image-passes a.area.now a.addresses.now a.blocks.now a.lists.now c.requires in
-    found-body c.args.area.now zero _ c.body_in-body.ensures
+    let a = c.args in
+    let zero = image-passes a.area.now a.addresses.now a.blocks.now a.lists.now c.requires in
+    found-body a.area.now zero _ c.body_in-body.ensures
 
 pub take_tables-requires : goal.take_tables-requires
 take_tables-requires c =
-    let zero : image_refusal kinds c.args.area.now ≡ 0 = let a = c.args in image-passes a.area.now a.addresses.now a.blocks.now a.lists.now c.requires in
     let a = c.args in
+    let zero = image-passes a.area.now a.addresses.now a.blocks.now a.lists.now c.requires in
     let d = c.found_in-f.ensures.laid in
     let l = lengths-taken a.area.now a.addresses.now a.blocks.now a.lists.now _ c.body_in-body.ensures c.found_in-f.result d zero
     c.requires in

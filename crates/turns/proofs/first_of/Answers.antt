@@ -1,5 +1,5 @@
 -- The place that is found, k where there is none. Assumes nothing.
-use Rattle.std.proofs.Common.{◌≡◌, ◌-◌, true, false, eqb, get_or, take, length, rules, arith, ap, length-take-le}
+use Rattle.std.proofs.Common.{◌≡◌, true, false, eqb, get_or, take, length, rules, arith, length-take-le}
 use borrow.Author.Tests.{tests}
 use Rattle.std.proofs.lemmas.Iterator.{YieldsList-from_slice, IsFirst-from_position}
 use Rattle.turns.proofs.Listing.{index-found}

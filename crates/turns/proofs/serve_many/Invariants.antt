@@ -1,5 +1,5 @@
 -- One turn more. Assumes nothing.
-use Rattle.std.specs.Prelude.{◌≡◌, length, take}
+use Rattle.std.specs.Prelude.{take}
 use Rattle.paper.specs.Cache.{Box, Counters}
 use Rattle.paper.specs.Engine.{Fixed}
 use Rattle.paper.specs.Batch.{batch, start}

@@ -1,18 +1,9 @@
 -- The record's numbers are small, and say where the tables and the lists lie. Assumes nothing.
 use mathlib.Core.Path.{refl}
 use native.Mathlib.Omega.{arith}
-use Prim.Native.Nat.{◌≤◌}
-use Rattle.arc.specs.Arc.{m_of}
-use Rattle.arcrefusals.specs.Given.{sizes_of}
 use Rattle.restoring.specs.Given.{arc_in}
 use Rattle.restoring.specs.ArcBodyLaws.{arc-long, arc-small, arc-laid, arc-record}
 use Rattle.restoring.proofs.arc_body.arc_found.Goals as goal
-use Rattle.restoring.proofs.arc_body.arc_found.Goals.{After-arc_record_in-a}
-
--- its numbers are small
-small : (c : After-arc_record_in-a) → (let a = c.arc_record_in-a.result in (a.sizes.cached ≤ 256) × (m_of (sizes_of a) ≤ 1024))
-small c =
-    arc-small c.args.body.now c.arc_record_in-a.result c.arc_record_in-a.ensures c.requires.1 c.requires.0
 
 pub arc_record_in-a-requires : goal.arc_record_in-a-requires
 arc_record_in-a-requires c =
@@ -21,33 +12,28 @@ arc_record_in-a-requires c =
 
 pub overflow_add-m : goal.overflow_add-m
 overflow_add-m c =
-    let small : (let a = c.arc_record_in-a.result in (a.sizes.cached ≤ 256) × (m_of (sizes_of a) ≤ 1024)) =
-    arc-small c.args.body.now c.arc_record_in-a.result c.arc_record_in-a.ensures c.requires.1 c.requires.0 in
-    let h = small.1 in omega (arith, h)
+    let small = arc-small c.args.body.now c.arc_record_in-a.result c.arc_record_in-a.ensures c.requires.1 c.requires.0 in
+    omega arith
 
 pub overflow_add-m-2 : goal.overflow_add-m-2
 overflow_add-m-2 c =
-    let small : (let a = c.arc_record_in-a.result in (a.sizes.cached ≤ 256) × (m_of (sizes_of a) ≤ 1024)) =
-    arc-small c.args.body.now c.arc_record_in-a.result c.arc_record_in-a.ensures c.requires.1 c.requires.0 in
-    let h = small.1 in omega (arith, h)
+    let small = arc-small c.args.body.now c.arc_record_in-a.result c.arc_record_in-a.ensures c.requires.1 c.requires.0 in
+    omega arith
 
 pub overflow_mul-result : goal.overflow_mul-result
 overflow_mul-result c =
-    let small : (let a = c.arc_record_in-a.result in (a.sizes.cached ≤ 256) × (m_of (sizes_of a) ≤ 1024)) =
-    arc-small c.args.body.now c.arc_record_in-a.result c.arc_record_in-a.ensures c.requires.1 c.requires.0 in
-    let h = small.1 in omega (arith, h)
+    let small = arc-small c.args.body.now c.arc_record_in-a.result c.arc_record_in-a.ensures c.requires.1 c.requires.0 in
+    omega arith
 
 pub overflow_mul-result-2 : goal.overflow_mul-result-2
 overflow_mul-result-2 c =
-    let small : (let a = c.arc_record_in-a.result in (a.sizes.cached ≤ 256) × (m_of (sizes_of a) ≤ 1024)) =
-    arc-small c.args.body.now c.arc_record_in-a.result c.arc_record_in-a.ensures c.requires.1 c.requires.0 in
-    let h = small.0 in omega (arith, h)
+    let small = arc-small c.args.body.now c.arc_record_in-a.result c.arc_record_in-a.ensures c.requires.1 c.requires.0 in
+    omega arith
 
 pub overflow_mul-result-3 : goal.overflow_mul-result-3
 overflow_mul-result-3 c =
-    let small : (let a = c.arc_record_in-a.result in (a.sizes.cached ≤ 256) × (m_of (sizes_of a) ≤ 1024)) =
-    arc-small c.args.body.now c.arc_record_in-a.result c.arc_record_in-a.ensures c.requires.1 c.requires.0 in
-    let h = small.1 in omega (arith, h)
+    let small = arc-small c.args.body.now c.arc_record_in-a.result c.arc_record_in-a.ensures c.requires.1 c.requires.0 in
+    omega arith
 
 pub returns : goal.returns
 returns c =

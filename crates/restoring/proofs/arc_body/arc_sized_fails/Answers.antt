@@ -8,7 +8,6 @@ use lib.ListN.{length-replicate}
 use Rattle.tables.specs.SoundLaws.{filled-with}
 use Rattle.paper.specs.Cache.{no_counts}
 use Rattle.restoring.specs.ArcBodyLaws.{parts-fit, arc-long-body, arc-tables-body}
-use Rattle.std.proofs.Common.{rules}
 use Rattle.restoring.proofs.arc_body.arc_sized_fails.Goals as goal
 
 pub returns-then-body-end : goal.returns-then-body-end
