@@ -12,7 +12,7 @@ use crate::Running;
 use arclists::names;
 use checks::known;
 use parts::BoxRecord;
-use tables::{row};
+use tables::row;
 
 // The place of the block row of row `k`, if its address has its bit; 256 for none.
 pub(crate) fn top_place(

@@ -4,7 +4,7 @@ ghost use Rattle.tables.specs.Sound.{blocks_fit};
 ghost use Rattle.tables_probe.specs.Probe.{number, fits, fits_with, fits_row, fits_more, fits_table, fits_block, fits_block_with};
 ghost use Rattle.tables.specs.Rows.{table_bytes};
 
-use tables::{row};
+use tables::row;
 
 // The answer where there is no such row, or what is given does not fit.
 pub(crate) const NONE: usize = 4294967295;
