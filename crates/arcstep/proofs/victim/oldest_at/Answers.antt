@@ -1,12 +1,16 @@
 -- The names of T1 and T2 are marked, then their rows' block rows; the first that isn't is the oldest. Assumes nothing.
 use mathlib.Core.Path.{◌≡◌, refl, sym, ap, ◌∙◌, subst}
 use mathlib.Core.List.{List, []}
-use Prim.Native.Nat.{ℕ, ◌+◌}
+use Prim.Native.Nat.{ℕ, ◌+◌, ◌<◌}
 use native.Mathlib.Omega.{arith}
 use lib.ListN.{length-replicate}
+use Rattle.std.proofs.Common.{rules}
+use Rattle.tables.specs.Rows.{row_at}
 use Rattle.tables.specs.Bits.{bit_at, has-bit, no_bits}
+use Rattle.tables.specs.Sound.{row_address}
 use Rattle.tables.specs.SoundLaws.{Marked, fresh}
 use Rattle.tables.specs.declared.Found.{Found}
+use Rattle.tables.specs.declared.Found.TheVariants.{At, Nothing}
 use Rattle.paper.specs.Layout.{Blocks}
 use Rattle.arclists.specs.Names.{fine}
 use Rattle.parts.specs.Rep.{no_row}
@@ -15,7 +19,7 @@ use Rattle.parts.specs.TableLaws.{placed}
 use Rattle.step.specs.Unique.{unique-is}
 use Rattle.arcstep.specs.Runs.{Within, Runs}
 use Rattle.arcstep.specs.Victim.{oldest_at}
-use Rattle.arcstep.proofs.Naming.{tops-fine, tops-read}
+use Rattle.arcstep.proofs.Naming.{tops, tops-fine, tops-read}
 use Rattle.arcstep.proofs.Victims.{found-oldest}
 use Rattle.arcstep.proofs.victim.oldest_at.Goals as goal
 use Rattle.arcstep.proofs.victim.oldest_at.Goals.{After-first_unknown}
