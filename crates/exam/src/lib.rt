@@ -10,11 +10,11 @@ ghost use Rattle.paper.specs.Lent.{split, with_label};
 ghost use Rattle.paper.specs.Machines.{content_of};
 ghost use Rattle.parts.specs.Rep.{numbers_of};
 ghost use Rattle.exam.specs.Scores as Paper;
-ghost use Rattle.exam.specs.Small.{listed, empty};
+ghost use Rattle.exam.specs.Small.{empty};
 ghost use Rattle.exam.specs.Contract.{counts_bytes, wrong_lent, too_large, question_refusal, question, told};
 
 use parts::BoxRecord;
-use search::{Four, Nine, Question, State};
+use search::{Question, State};
 
 // The number of a refusal, 0 where there is none, and how many lists have 0, 1, up to 8 hits.
 #[derive(Clone, Copy)]
@@ -76,30 +76,23 @@ pub(crate) fn refusal(b: BoxRecord, label: &[u8], disk: &[u8], k: usize, room: u
 pub(crate) fn fresh() -> State
     ensures { result ≡ empty }
 {
-    let none = Four {
-        first: 4,
-        second: 4,
-        third: 4,
-        newest: 4,
-    };
     State {
-        held: none,
-        cached: none,
+        held: [4; 4],
+        cached: [4; 4],
     }
 }
 
 // The counts, where nothing is refused.
-pub(crate) fn counts(b: BoxRecord, disk: &[u8], k: usize) -> Nine
+pub(crate) fn counts(b: BoxRecord, disk: &[u8], k: usize) -> [u64; 9]
     requires { (b.blocks ≤ 4) × (1 ≤ b.rows) × (1 ≤ b.slots) × (length disk.now ≡ b.blocks * 64) × (k ≤ 8) }
-    ensures { listed result ≡ Paper.scores (fingerprinting b.label 64).same b.rows b.slots
+    ensures { result ≡ Paper.scores (fingerprinting b.label 64).same b.rows b.slots
         (content_of (fingerprinting b.label 64) (split 64 b.blocks disk.now)) b.blocks k }
 {
-    let told = content::contents(b, disk);
     let q = Question {
         blocks: b.blocks as u8,
         rows: b.rows,
         slots: b.slots,
-        contents: told,
+        contents: content::contents(b, disk),
     };
     search::search(q, fresh(), k as u8)
 }
@@ -128,9 +121,8 @@ pub fn scores(
             counts: [0; 9],
         };
     }
-    let c = counts(open::with_label(b, label), disk, k);
     Tally {
         number: 0,
-        counts: [c.n0, c.n1, c.n2, c.n3, c.n4, c.n5, c.n6, c.n7, c.n8],
+        counts: counts(open::with_label(b, label), disk, k),
     }
 }
