@@ -8,6 +8,7 @@ use parts::BoxRecord;
 use tables::find;
 
 // The fingerprint of block a.
+#[tactic(auto, unfolding(crate::specs::Small::print_at))]
 pub(crate) fn print_at(b: BoxRecord, disk: &[u8], a: usize) -> [u8; 32]
     requires { (a < 4) × (a * 64 + 64 ≤ length disk.now) }
     ensures { result ≡ print_at b.label disk.now a }
@@ -49,5 +50,10 @@ pub(crate) fn contents(b: BoxRecord, disk: &[u8]) -> [u8; 4]
     requires { b.blocks * 64 ≤ length disk.now }
     ensures { result ≡ contents_of b.label disk.now b.blocks }
 {
-    [told_by(b, disk, 0), told_by(b, disk, 1), told_by(b, disk, 2), told_by(b, disk, 3)]
+    [
+        told_by(b, disk, 0),
+        told_by(b, disk, 1),
+        told_by(b, disk, 2),
+        told_by(b, disk, 3),
+    ]
 }

@@ -27,6 +27,7 @@ pub struct Tally {
 pub const COUNTS: usize = 72;
 
 // Refusal 2: the length of the label, of the disk or of what is lent for the counts isn't right.
+#[tactic(auto, unfolding(crate::specs::Contract::wrong_lent))]
 pub(crate) fn lengths_wrong(b: BoxRecord, label: &[u8], disk: &[u8], room: usize) -> bool
     requires { (b.size ≤ 4096) × (b.blocks ≤ 65536) }
     ensures { result ≡ wrong_lent (with_label (numbers_of b) label.now) disk.now room }
@@ -41,6 +42,7 @@ pub(crate) fn lengths_wrong(b: BoxRecord, label: &[u8], disk: &[u8], room: usize
 }
 
 // Refusal 17: more than the search is for.
+#[tactic(auto, unfolding(crate::specs::Contract::too_large))]
 pub(crate) fn too_large(b: BoxRecord, k: usize) -> bool
     ensures { result ≡ too_large (numbers_of b) k }
 {

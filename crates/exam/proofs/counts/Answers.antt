@@ -1,6 +1,5 @@
 -- What the search gives, of the contents told by the first address that has each. Assumes nothing.
 use mathlib.Core.Path.{ap, ◌∙◌}
-use Rattle.std.proofs.Common.{rules}
 use Rattle.paper.specs.Engine.{fingerprinting}
 use Rattle.paper.specs.Lent.{split}
 use Rattle.paper.specs.Machines.{content_of}

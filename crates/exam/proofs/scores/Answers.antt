@@ -1,6 +1,5 @@
 -- The answer by the number. Assumes nothing.
 use mathlib.Core.Path.{◌≡◌, sym, ap, ◌∙◌}
-use Rattle.std.proofs.Common.{rules}
 use Rattle.paper.specs.Cache.{Numbers}
 use Rattle.paper.specs.Engine.{fingerprinting}
 use Rattle.paper.specs.Lent.{split, with_label}
