@@ -1,39 +1,30 @@
 -- What the image is refused with, and then the lengths of its tables and lists. Assumes nothing.
-use mathlib.Core.Path.{◌≡◌, sym, ◌∙◌}
-use Rattle.image.specs.Image.{image_refusal}
-use Rattle.image.specs.Kinds.{kinds}
+use Rattle.std.proofs.Common.{rules, sym, ◌∙◌}
+use Rattle.std.proofs.lemmas.Result.{err_from_is_err_and}
+use Rattle.refusal.specs.Numbers.{refused}
 use Rattle.restoring.specs.RestoreLaws.{image-refused, found-body, refused-2, refused_none}
-use Rattle.std.proofs.Common.{rules}
 use Rattle.restoring.proofs.restore_refusal.Goals as goal
-use Rattle.restoring.proofs.restore_refusal.Goals.{Else-number-ne0}
 
--- the image is not refused
-zero : (c : Else-number-ne0) → image_refusal kinds c.args.area.now ≡ 0
-zero c = sym c.image_refusal-number.ensures ∙ c.if-number-ne0.false
-
-pub returns-then-number-ne0 : goal.returns-then-number-ne0
-returns-then-number-ne0 c =
+pub returns-in_err-image_refusal : goal.returns-in_err-image_refusal
+returns-in_err-image_refusal c =
     let a = c.args in
-    image-refused a.area.now a.addresses.now a.blocks.now a.lists.now _ c.image_refusal-number.ensures c.if-number-ne0.true
+    let p = err_from_is_err_and c.from_residual.result c.from_residual.ensures.1 in
+    rw (p.1, p.2) (image-refused a.area.now a.addresses.now a.blocks.now a.lists.now _ c.in_err-image_refusal.ensures (refused _))
 
 pub body_in-requires : goal.body_in-requires
-body_in-requires c = zero c
+body_in-requires c = sym c.in_ok-image_refusal.ensures
 
 pub found_in-f-requires : goal.found_in-f-requires
-found_in-f-requires c =
-    let zero : image_refusal kinds c.args.area.now ≡ 0 = sym c.image_refusal-number.ensures ∙ c.if-number-ne0.false in
-    found-body c.args.area.now zero _ c.body_in.ensures
+found_in-f-requires c = found-body c.args.area.now (sym c.in_ok-image_refusal.ensures) _ c.body_in.ensures
 
 pub returns-then-wrong_tables : goal.returns-then-wrong_tables
 returns-then-wrong_tables c =
-    let zero : image_refusal kinds c.args.area.now ≡ 0 = sym c.image_refusal-number.ensures ∙ c.if-number-ne0.false in
     let a = c.args in
     refused-2 a.area.now a.addresses.now a.blocks.now a.lists.now _ c.body_in.ensures c.found_in-f.result c.found_in-f.ensures.laid
-    zero (sym c.wrong_tables.ensures ∙ c.if-wrong_tables.true)
+    (sym c.in_ok-image_refusal.ensures) (sym c.wrong_tables.ensures ∙ c.if-wrong_tables.true)
 
 pub returns : goal.returns
 returns c =
-    let zero : image_refusal kinds c.args.area.now ≡ 0 = sym c.image_refusal-number.ensures ∙ c.if-number-ne0.false in
     let a = c.args in
     refused_none a.area.now a.addresses.now a.blocks.now a.lists.now _ c.body_in.ensures c.found_in-f.result c.found_in-f.ensures.laid
-    zero (sym c.wrong_tables.ensures ∙ c.if-wrong_tables.false)
+    (sym c.in_ok-image_refusal.ensures) (sym c.wrong_tables.ensures ∙ c.if-wrong_tables.false)

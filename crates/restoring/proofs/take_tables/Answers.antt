@@ -11,7 +11,7 @@ returns c =
     let t = c.args.body.now in
     let at₂ = f.start + f.addresses in
     record {
-      addresses_after = c.copy_all.ensures ∙ part-is f.start f.addresses t;
-      blocks_after = c.copy_all-2.ensures ∙ part-is at₂ f.blocks t;
-      lists_after = c.copy_all-3.ensures ∙ part-is (at₂ + f.blocks) f.lists t;
+      addresses_after = c.copy_from_slice.ensures.after ∙ part-is f.start f.addresses t;
+      blocks_after = c.copy_from_slice-2.ensures.after ∙ part-is at₂ f.blocks t;
+      lists_after = c.copy_from_slice-3.ensures.after ∙ part-is (at₂ + f.blocks) f.lists t;
     }
