@@ -8,18 +8,6 @@ use Rattle.restoring.proofs.body_in.Goals as goal
 pub word_at-requires : goal.word_at-requires
 word_at-requires c = omega (arith, found-header c.args.area.now c.requires)
 
-pub overflow_cast-end : goal.overflow_cast-end
-overflow_cast-end c = search rules
-
-pub overflow_add-end : goal.overflow_add-end
-overflow_add-end c = search rules
-
-pub slice_bounds-result-count : goal.slice_bounds-result-count
-slice_bounds-result-count c = search rules
-
-pub slice_bounds-result-start : goal.slice_bounds-result-start
-slice_bounds-result-start c = search rules
-
 pub slice_bounds-result-end : goal.slice_bounds-result-end
 slice_bounds-result-end c = found-room c.args.area.now c.requires _ c.word_at.ensures
 

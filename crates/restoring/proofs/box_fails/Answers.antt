@@ -13,16 +13,10 @@ use Rattle.refusals.proofs.numbers_unfit.Reads as numbers-unfit-reads
 use Rattle.restoring.proofs.sized_fails.Reads as sized-fails-reads
 use Rattle.restoring.proofs.box_fails.Goals as goal
 
-pub numbers_unfit-requires : goal.numbers_unfit-requires
-numbers_unfit-requires c = search rules
-
 pub returns-then-numbers_unfit : goal.returns-then-numbers_unfit
 returns-then-numbers_unfit c e k =
     let a = c.args in
     unfit-body a.body.now a.b e k (sym c.numbers_unfit.ensures ∙ c.if-numbers_unfit.true)
-
-pub limit_unfit-requires : goal.limit_unfit-requires
-limit_unfit-requires c = search rules
 
 pub returns-then-limit_unfit : goal.returns-then-limit_unfit
 returns-then-limit_unfit c e k =

@@ -9,9 +9,6 @@ use Rattle.restoring.proofs.tables_fail.Lts as lts
 use Rattle.refusals.proofs.of_tables.Reads as of-tables-reads
 use Rattle.restoring.proofs.tables_fail.Goals as goal
 
-pub slice_bounds-of_tables-end : goal.slice_bounds-of_tables-end
-slice_bounds-of_tables-end c = search rules
-
 pub of_tables-requires : goal.of_tables-requires
 of_tables-requires c =
     record {
