@@ -3,7 +3,7 @@
 
 mod arc_body;
 
-ghost use Rattle.std.specs.Prelude.{◌≡◌, false, ◌+◌, ◌*◌, ◌≤◌, length, take, drop};
+ghost use Rattle.std.specs.Prelude.{◌≡◌, false, ◌+◌, ◌*◌, ◌≤◌, length, take, drop, IfOk};
 ghost use Rattle.tables.specs.Rows.{le4, table_bytes};
 ghost use Rattle.tables.specs.Find.{all};
 ghost use Rattle.tables.specs.Sound.{is_zero};
@@ -12,9 +12,8 @@ ghost use Rattle.parts.specs.Rep.{numbers_of};
 ghost use Rattle.refusal.specs.Numbers.{number_of};
 ghost use Rattle.image.specs.Body.{no_body};
 ghost use Rattle.image.specs.Image.{no_image, too_short, body_in, image_refusal};
-ghost use Rattle.image.specs.Kinds.{string_at, kinds};
+ghost use Rattle.image.specs.Kinds.{kinds};
 ghost use Rattle.image.specs.Saved as Saved;
-ghost use Rattle.image.specs.Saved.{fields_found, restore_refusal};
 ghost use Rattle.restoring.specs.Given.{arc_of, box_in, as_arc, as_box, body_fields, Laid, other_lengths, failing, records_of, left};
 
 use arclists::ListSizes;
@@ -141,9 +140,10 @@ pub(crate) fn no_body(body: &[u8]) -> bool
     arc_body::arc_fails(body)
 }
 
-// Refusals 15, 14 and 16.
-pub(crate) fn image_refusal(area: &[u8]) -> Result<(), Refusal>
-    ensures { number_of result ≡ image_refusal kinds area.now }
+// The body in an area that has an image, else refusal 15, 14 or 16.
+pub(crate) fn body_in<'a>(area: &'a [u8]) -> Result<&'a [u8], Refusal>
+    ensures value { number_of result ≡ image_refusal kinds area.now }
+    ensures body { IfOk result (λ body. body.now ≡ body_in area.now) }
 {
     if no_image(area) {
         return Err(Refusal::NoImage);
@@ -153,19 +153,11 @@ pub(crate) fn image_refusal(area: &[u8]) -> Result<(), Refusal>
         return Err(Refusal::NoRoom);
     }
     let end = 64 + n as usize;
-    if no_body(&area[64..end]) {
+    let body = &area[64..end];
+    if no_body(body) {
         return Err(Refusal::BadImage);
     }
-    Ok(())
-}
-
-// The body in an area that has an image.
-pub(crate) fn body_in<'a>(area: &'a [u8]) -> &'a [u8]
-    requires { image_refusal kinds area.now ≡ 0 }
-    ensures { result.now ≡ body_in area.now }
-{
-    let end = 64 + row::word_at(area, 5) as usize;
-    &area[64..end]
+    Ok(body)
 }
 
 // What a restore finds in a body: the record, and where the tables and the lists lie, from `start` on, as long as these numbers say.
@@ -245,18 +237,6 @@ pub(crate) fn wrong_tables(f: Found, addresses: usize, blocks: usize, lists: usi
     lists != f.lists
 }
 
-// Refusals 15, 14, 16 and 2.
-pub(crate) fn restore_refusal(area: &[u8], addresses: &[u8], blocks: &[u8], lists: &[u8]) -> Result<(), Refusal>
-    ensures { number_of result ≡ restore_refusal kinds area.now addresses.now blocks.now lists.now }
-{
-    image_refusal(area)?;
-    let f = found_in(body_in(area));
-    if wrong_tables(f, addresses.len(), blocks.len(), lists.len()) {
-        return Err(Refusal::WrongLength);
-    }
-    Ok(())
-}
-
 // Copies the tables and the lists that were found in a body into those lent.
 pub(crate) fn take_tables(
     f: Found,
@@ -278,25 +258,6 @@ pub(crate) fn take_tables(
     addresses.copy_from_slice(&body[first..second]);
     blocks.copy_from_slice(&body[second..third]);
     lists.copy_from_slice(&body[third..end]);
-}
-
-// The box whose image is in an area that isn't refused: its record, and its tables and lists in those lent.
-pub(crate) fn take_box(
-    area: &[u8],
-    addresses: &mut [u8],
-    blocks: &mut [u8],
-    lists: &mut [u8],
-) -> ArcRecord
-    requires { restore_refusal kinds area.now addresses.old blocks.old lists.old ≡ 0 }
-    ensures value { result ≡ arc_of (fields_found kinds area.now) }
-    ensures addresses_after { addresses.new ≡ string_at (fields_found kinds area.now) 1 }
-    ensures blocks_after { blocks.new ≡ string_at (fields_found kinds area.now) 2 }
-    ensures lists_after { lists.new ≡ string_at (fields_found kinds area.now) 3 }
-{
-    let body = body_in(area);
-    let f = found_in(body);
-    take_tables(f, body, addresses, blocks, lists);
-    f.arc_record
 }
 
 // What a restore gives back: the record of a box of either kind, by the first number of the body.
@@ -344,8 +305,12 @@ pub fn restore(
     }
         ≡ left (Saved.restore kinds area.old addresses.old blocks.old lists.old) }
 {
-    restore_refusal(area, addresses, blocks, lists)?;
-    let a = take_box(area, addresses, blocks, lists);
+    let body = body_in(area)?;
+    let f = found_in(body);
+    if wrong_tables(f, addresses.len(), blocks.len(), lists.len()) {
+        return Err(Refusal::WrongLength);
+    }
+    take_tables(f, body, addresses, blocks, lists);
     area::clear_header(area);
-    Ok(given_back(a))
+    Ok(given_back(f.arc_record))
 }
