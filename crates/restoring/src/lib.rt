@@ -72,14 +72,13 @@ pub(crate) fn record_in(body: &[u8]) -> BoxRecord
     requires { 92 ≤ length body.now }
     ensures { result ≡ box_in body.now }
 {
-    let label = label_in(&body[28..92]);
     BoxRecord {
         size: row::word_at(body, 4) as usize,
         blocks: row::word_at(body, 8) as usize,
         rows: row::word_at(body, 12) as usize,
         slots: row::word_at(body, 16) as usize,
         held: row::word_at(body, 20) as usize,
-        label: label,
+        label: label_in(&body[28..92]),
         limit: row::word_at(body, 24) as usize,
     }
 }
@@ -129,15 +128,11 @@ pub(crate) fn no_body(body: &[u8]) -> bool
     if body.len() < 92 {
         return true;
     }
-    let kind = row::word_at(body, 0);
-    if kind == 0 {
-        let b = record_in(body);
-        return box_fails(b, body);
+    match row::word_at(body, 0) {
+        0 => box_fails(record_in(body), body),
+        1 => arc_body::arc_fails(body),
+        _ => true,
     }
-    if kind != 1 {
-        return true;
-    }
-    arc_body::arc_fails(body)
 }
 
 // The body in an area that has an image, else refusal 15, 14 or 16.
@@ -175,23 +170,22 @@ pub(crate) fn as_arc(b: BoxRecord) -> ArcRecord
     ensures { result ≡ as_arc b }
 {
     let label = b.label;
-    let sizes = ListSizes {
-        t1: 0,
-        t2: 0,
-        b1: 0,
-        b2: 0,
-        b3: 0,
-        p: 0,
-        cached: b.rows,
-        extra: b.slots,
-    };
     ArcRecord {
         size: b.size,
         blocks: b.blocks,
         held: b.held,
-        label: label,
+        label,
         limit: b.limit,
-        sizes: sizes,
+        sizes: ListSizes {
+            t1: 0,
+            t2: 0,
+            b1: 0,
+            b2: 0,
+            b3: 0,
+            p: 0,
+            cached: b.rows,
+            extra: b.slots,
+        },
     }
 }
 
@@ -202,9 +196,8 @@ pub(crate) fn lru_found(body: &[u8]) -> Found
     ensures laid { Laid body.now (body_fields body.now) result.start result.addresses result.blocks result.lists }
 {
     let b = record_in(body);
-    let a = as_arc(b);
     Found {
-        arc_record: a,
+        arc_record: as_arc(b),
         start: 92,
         addresses: b.rows * row::BYTES,
         blocks: b.slots * row::BYTES,
@@ -272,17 +265,16 @@ pub(crate) fn given_back(a: ArcRecord) -> Restored
     ensures { result ≡ record { box_record = as_box a; arc_record = a } }
 {
     let label = a.label;
-    let b = BoxRecord {
-        size: a.size,
-        blocks: a.blocks,
-        rows: a.sizes.cached,
-        slots: a.sizes.extra,
-        held: a.held,
-        label: label,
-        limit: a.limit,
-    };
     Restored {
-        box_record: b,
+        box_record: BoxRecord {
+            size: a.size,
+            blocks: a.blocks,
+            rows: a.sizes.cached,
+            slots: a.sizes.extra,
+            held: a.held,
+            label,
+            limit: a.limit,
+        },
         arc_record: a,
     }
 }

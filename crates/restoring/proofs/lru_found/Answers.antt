@@ -36,6 +36,6 @@ returns c =
     let b = c.record_in-b.result in
     let e = c.record_in-b.ensures in
     record {
-      arc_record_value = c.as_arc-a.ensures ∙ lru-record t b e c.requires.1 c.requires.0;
+      arc_record_value = c.as_arc.ensures ∙ lru-record t b e c.requires.1 c.requires.0;
       laid = lru-laid t b e c.requires.1 c.requires.0;
     }
