@@ -1,5 +1,5 @@
 -- 8 of the lists, row by row. Assumes nothing.
-use Rattle.std.specs.Prelude.{◌≡◌, Bool, ◌&&◌, ◌||◌, cond, ℕ, suc, ◌≤◌, ◌<◌, eqb, ltb, length, None, Option, Some, is_none}
+use Rattle.std.specs.Prelude.{◌≡◌, Bool, ◌&&◌, ◌||◌, cond, ℕ, ◌≤◌, ◌<◌, eqb, ltb, length, None, Option, Some, is_none}
 use Rattle.std.proofs.Math.Path.{refl, ap₂}
 use Rattle.std.proofs.Common.{sym, ap, ◌∙◌, arith, lt-ltb, le-ltb}
 use Rattle.std.proofs.Math.Bool.{true, false, not}
@@ -15,9 +15,9 @@ use Rattle.tables.specs.SoundLaws.{Marked}
 use Rattle.tables.specs.Index.{code, place_in, cached_in}
 use Rattle.tables.specs.OperationLaws.{Wide}
 use Rattle.tables.proofs.OperationLaws.{wide_rows}
-use Rattle.paper.specs.KeyedLaws.{All, by-test}
+use Rattle.paper.specs.KeyedLaws.{All}
 use Rattle.paper.specs.Cache.{Numbers, cached}
-use Rattle.paper.specs.Engine.{Fixed, fit, labelled}
+use Rattle.paper.specs.Engine.{fit, labelled}
 use Rattle.paper.specs.Lent.{Lent, as_held, used_rows, box_in}
 use Rattle.paper.proofs.SoundTestsLaws.{held-print-is, cached-is}
 use Rattle.arc.specs.Arc.{is_in}
