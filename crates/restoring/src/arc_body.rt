@@ -67,7 +67,8 @@ pub(crate) fn arc_sized_fails(a: ArcRecord, body: &[u8]) -> bool
         &body[second..third],
         &body[third..end],
         &mut heads,
-    ) != 0
+    )
+    .is_err()
 }
 
 // Whether a body that starts with 1 isn't as long as its record says, or fails 11, 12, 6, 7, 8 or 13.

@@ -1,6 +1,5 @@
 -- 15, 14 and 16 in turn; the body follows the header, as long as that says. Assumes nothing.
-use Rattle.std.specs.Prelude.{◌≡◌, false}
-use Rattle.std.proofs.Common.{rules, arith, sym, ◌∙◌}
+use Rattle.std.proofs.Common.{arith, sym, ◌∙◌}
 use Rattle.restoring.specs.FoundLaws.{long-enough, room_for, taken-body, refused-15, refused-14, refused-16, refused-0}
 use Rattle.restoring.proofs.body_in.Goals as goal
 

@@ -1,13 +1,7 @@
 -- Each test in turn is one of the definition. Assumes nothing.
 use mathlib.Core.Path.{sym, ap, ◌∙◌}
 use mathlib.Core.Bool.{not}
-use borrow.Author.Tests.{not-true, not-false}
 use Rattle.restoring.specs.FoundLaws.{short-area, no-mark, no-version-3, no-version-4, image-zeros}
-use Rattle.std.proofs.Common.{rules}
-use Rattle.restoring.proofs.no_image.Reads as reads
-use Rattle.restoring.proofs.no_image.Lts as lts
-use Rattle.restoring.proofs.all_zero.Reads as all-zero-reads
-use Rattle.area.proofs.has_mark.Reads as has-mark-reads
 use Rattle.restoring.proofs.no_image.Goals as goal
 
 pub returns-then-area-lt64 : goal.returns-then-area-lt64

@@ -1,6 +1,5 @@
 -- The record of the words read and the label. Assumes nothing.
 use Rattle.restoring.specs.FoundLaws.{record-made}
-use Rattle.std.proofs.Common.{rules}
 use Rattle.restoring.proofs.record_in.Goals as goal
 
 pub returns : goal.returns

@@ -1,5 +1,5 @@
 -- A refused restore keeps all; a served one fills the tables and the lists and clears the header. Assumes nothing.
-use Rattle.std.proofs.Common.{rules, sym, ap, ◌∙◌}
+use Rattle.std.proofs.Common.{sym, ap, ◌∙◌}
 use Rattle.std.proofs.lemmas.Result.{err_from_is_err_and}
 use Rattle.refusal.specs.Numbers.{refused}
 use Rattle.refusal.specs.declared.Refusal.TheVariants.{WrongLength}

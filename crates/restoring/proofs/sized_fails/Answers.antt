@@ -1,9 +1,5 @@
 -- The length is the record's or another; then the tables tell. Assumes nothing.
 use Rattle.restoring.specs.FoundLaws.{long-body, tables-body}
-use Rattle.std.proofs.Common.{rules}
-use Rattle.restoring.proofs.sized_fails.Reads as reads
-use Rattle.restoring.proofs.sized_fails.Lts as lts
-use Rattle.restoring.proofs.tables_fail.Reads as tables-fail-reads
 use Rattle.restoring.proofs.sized_fails.Goals as goal
 
 pub returns-then-body-end : goal.returns-then-body-end

@@ -3,10 +3,7 @@ use Prim.Native.Nat.{ℕ}
 use lib.ListN.{length-replicate}
 use Rattle.tables.specs.SoundLaws.{filled-with}
 use Rattle.restoring.specs.FoundLaws as Laws
-use Rattle.std.proofs.Common.{rules, ◌∙◌}
-use Rattle.restoring.proofs.tables_fail.Reads as reads
-use Rattle.restoring.proofs.tables_fail.Lts as lts
-use Rattle.refusals.proofs.of_tables.Reads as of-tables-reads
+use Rattle.std.proofs.Common.{◌∙◌}
 use Rattle.restoring.proofs.tables_fail.Goals as goal
 
 pub of_tables-requires : goal.of_tables-requires

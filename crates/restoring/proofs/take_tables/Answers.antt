@@ -2,7 +2,6 @@
 use mathlib.Core.Path.{◌∙◌}
 use Prim.Native.Nat.{◌+◌}
 use Rattle.restoring.specs.FoundLaws.{part-is}
-use Rattle.std.proofs.Common.{rules}
 use Rattle.restoring.proofs.take_tables.Goals as goal
 
 pub returns : goal.returns

@@ -2,8 +2,6 @@
 use Rattle.restoring.specs.FoundLaws.{short-is}
 use Rattle.std.specs.Prelude.{◌≡◌, ◌+◌, ◌*◌, ◌/◌, ltb, length}
 use Rattle.std.proofs.Common.{arith, ap, ◌∙◌}
-use Rattle.restoring.proofs.too_short.Reads as reads
-use Rattle.restoring.proofs.too_short.Lts as lts
 use Rattle.restoring.proofs.too_short.Goals as goal
 
 pub returns : goal.returns

@@ -1,6 +1,5 @@
 -- The record of the words read, the label and the sizes. Assumes nothing.
 use Rattle.restoring.specs.ArcBodyLaws.{arc-made}
-use Rattle.std.proofs.Common.{rules}
 use Rattle.restoring.proofs.arc_body.arc_record_in.Goals as goal
 
 pub returns : goal.returns
