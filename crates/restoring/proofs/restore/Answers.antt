@@ -5,7 +5,8 @@ use Rattle.refusal.specs.Numbers.{refused}
 use Rattle.refusal.specs.declared.Refusal.TheVariants.{WrongLength}
 use Rattle.image.specs.Kinds.{string_at}
 use Rattle.restoring.specs.Given.{arc_of}
-use Rattle.restoring.specs.RestoreLaws.{image-refused, found-header, found-body, found-fields, refused-2, refused_none, lengths-taken, restore-refused, restore-served}
+use Rattle.restoring.specs.RestoreLaws.{image-refused, found-header, found-body, found-fields, refused-2, refused_none}
+use Rattle.restoring.specs.RestoreLaws.{lengths-taken, restore-refused, restore-served}
 use Rattle.restoring.proofs.restore.Goals as goal
 
 pub returns-in_err-body : goal.returns-in_err-body
