@@ -1,5 +1,5 @@
 -- The answers by the number. Assumes nothing.
-use mathlib.Core.Path.{◌≡◌, refl, sym, ap, ◌∙◌}
+use mathlib.Core.Path.{◌≡◌, sym, ap, ◌∙◌}
 use mathlib.Core.List.{List}
 use Prim.Native.Nat.{ℕ}
 use Rattle.paper.specs.Cache.{Numbers}
@@ -7,7 +7,7 @@ use Rattle.paper.specs.Engine.{fingerprinting}
 use Rattle.paper.specs.Lent.{split}
 use Rattle.paper.specs.Machines.{content_of}
 use Rattle.exam.specs.Scores.{nine_zeros, scores}
-use Rattle.exam.specs.Contract.{question_refusal, counts_of, Counted, question}
+use Rattle.exam.specs.Contract.{question_refusal, Counted, question}
 use Rattle.exam.proofs.QuestionLaws.{posed, question-refused, question-posed}
 
 module _ (N : Numbers) (disk : List ℕ) (k room : ℕ) where

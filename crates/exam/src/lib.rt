@@ -10,11 +10,11 @@ ghost use Rattle.paper.specs.Lent.{split, with_label};
 ghost use Rattle.paper.specs.Machines.{content_of};
 ghost use Rattle.parts.specs.Rep.{numbers_of};
 ghost use Rattle.exam.specs.Scores as Paper;
-ghost use Rattle.exam.specs.Small.{listed, empty};
+ghost use Rattle.exam.specs.Small.{empty};
 ghost use Rattle.exam.specs.Contract.{counts_bytes, wrong_lent, too_large, question_refusal, question, told};
 
 use parts::BoxRecord;
-use search::{Four, Nine, Question, State};
+use search::{Question, State};
 
 // The number of a refusal, 0 where there is none, and how many lists have 0, 1, up to 8 hits.
 #[derive(Clone, Copy)]
@@ -27,6 +27,7 @@ pub struct Tally {
 pub const COUNTS: usize = 72;
 
 // Refusal 2: the length of the label, of the disk or of what is lent for the counts isn't right.
+#[tactic(auto, unfolding(crate::specs::Contract::wrong_lent))]
 pub(crate) fn lengths_wrong(b: BoxRecord, label: &[u8], disk: &[u8], room: usize) -> bool
     requires { (b.size ≤ 4096) × (b.blocks ≤ 65536) }
     ensures { result ≡ wrong_lent (with_label (numbers_of b) label.now) disk.now room }
@@ -41,6 +42,7 @@ pub(crate) fn lengths_wrong(b: BoxRecord, label: &[u8], disk: &[u8], room: usize
 }
 
 // Refusal 17: more than the search is for.
+#[tactic(auto, unfolding(crate::specs::Contract::too_large))]
 pub(crate) fn too_large(b: BoxRecord, k: usize) -> bool
     ensures { result ≡ too_large (numbers_of b) k }
 {
@@ -76,30 +78,23 @@ pub(crate) fn refusal(b: BoxRecord, label: &[u8], disk: &[u8], k: usize, room: u
 pub(crate) fn fresh() -> State
     ensures { result ≡ empty }
 {
-    let none = Four {
-        first: 4,
-        second: 4,
-        third: 4,
-        newest: 4,
-    };
     State {
-        held: none,
-        cached: none,
+        held: [4; 4],
+        cached: [4; 4],
     }
 }
 
 // The counts, where nothing is refused.
-pub(crate) fn counts(b: BoxRecord, disk: &[u8], k: usize) -> Nine
+pub(crate) fn counts(b: BoxRecord, disk: &[u8], k: usize) -> [u64; 9]
     requires { (b.blocks ≤ 4) × (1 ≤ b.rows) × (1 ≤ b.slots) × (length disk.now ≡ b.blocks * 64) × (k ≤ 8) }
-    ensures { listed result ≡ Paper.scores (fingerprinting b.label 64).same b.rows b.slots
+    ensures { result ≡ Paper.scores (fingerprinting b.label 64).same b.rows b.slots
         (content_of (fingerprinting b.label 64) (split 64 b.blocks disk.now)) b.blocks k }
 {
-    let told = content::contents(b, disk);
     let q = Question {
         blocks: b.blocks as u8,
         rows: b.rows,
         slots: b.slots,
-        contents: told,
+        contents: content::contents(b, disk),
     };
     search::search(q, fresh(), k as u8)
 }
@@ -128,9 +123,8 @@ pub fn scores(
             counts: [0; 9],
         };
     }
-    let c = counts(open::with_label(b, label), disk, k);
     Tally {
         number: 0,
-        counts: [c.n0, c.n1, c.n2, c.n3, c.n4, c.n5, c.n6, c.n7, c.n8],
+        counts: counts(open::with_label(b, label), disk, k),
     }
 }

@@ -1,14 +1,13 @@
 -- The four tests are 1, 12, 2 and 17 of the definition, and numbers that pass 1 are not too large for the product of 2. Assumes nothing.
 use mathlib.Core.Path.{sym, ◌∙◌}
 use mathlib.Core.List.{[], ◌∷◌}
-use Rattle.std.proofs.Common.{rules}
 use Rattle.paper.specs.Cache.{Numbers}
 use Rattle.paper.specs.Lent.{unfit, limit_outside, with_label}
 use Rattle.paper.specs.RefusalLaws.{NoneOf}
 use Rattle.parts.specs.Rep.{numbers_of}
 use Rattle.refusals.specs.Sizes.{most}
 use Rattle.exam.specs.Contract.{too_large}
-use Rattle.exam.proofs.QuestionLaws.{ExactlyQuestion, exactly-question}
+use Rattle.exam.proofs.QuestionLaws.{exactly-question}
 use Rattle.exam.proofs.refusal.Goals as goal
 use Rattle.exam.proofs.refusal.Goals.{Else-limit_unfit, Start}
 

@@ -1,6 +1,5 @@
 -- The answer by the number. Assumes nothing.
 use mathlib.Core.Path.{◌≡◌, sym, ap, ◌∙◌}
-use Rattle.std.proofs.Common.{rules}
 use Rattle.paper.specs.Cache.{Numbers}
 use Rattle.paper.specs.Engine.{fingerprinting}
 use Rattle.paper.specs.Lent.{split, with_label}
@@ -53,8 +52,8 @@ returns-then-no-ne0 c =
     ∙ ap (λ (x : BoxRecord). question_refusal (with_label (numbers_of x) a.label.now) a.disk.now a.k a.room) c.empty_box-b.ensures in
     refused-answer numbers c.args.disk.now c.args.k c.args.room c.refusal-no.result number_is c.if-no-ne0.true
 
-pub counts-c-requires : goal.counts-c-requires
-counts-c-requires c =
+pub counts-requires : goal.counts-requires
+counts-requires c =
     let numbers : Numbers = let a = c.args in record { B = a.size; P = a.blocks; m = a.rows; d = a.slots; label = a.label.now; t = a.limit } in
     let number_is : (c.refusal-no.result ≡ question_refusal numbers c.args.disk.now c.args.k c.args.room) =
     let a = c.args in
@@ -79,7 +78,7 @@ returns c =
     ∙ ap (λ (x : BoxRecord). relabelled x a.label.now) c.empty_box-b.ensures in
     let a = c.args in
     posed-answer numbers a.disk.now a.k a.room _ (sym number_is ∙ c.if-no-ne0.false)
-    (c.counts-c.ensures
+    (c.counts.ensures
     ∙ ap (λ (x : BoxRecord). scores (fingerprinting x.label 64).same x.rows x.slots
     (content_of (fingerprinting x.label 64) (split 64 x.blocks a.disk.now)) x.blocks a.k) labelled-is)
 
