@@ -2,7 +2,7 @@
 use Rattle.std.specs.Prelude.{◌≡◌, refl, List, [], ◌∷◌, ◌++◌, ℕ, ◌+◌, ◌-◌, ◌≤◌, ◌<◌, length, take, drop}
 use Rattle.std.proofs.Common.{sym, ap, ap₂, ◌∙◌, subst, append-nil, append_assoc, arith, length-append, length-drop}
 use Rattle.tables.specs.Rows.{remove_at}
-use Rattle.arc.specs.Arc.{Lists}
+use Rattle.arc.specs.Arc.{Lists, t1b1, t2b2, t1b3, b1b3, b2b3, b1_out, b2_out, b3_out, join_t1, join_t2}
 use Rattle.arc.specs.Tally.{first_one, length_none}
 use Rattle.arc.specs.ArcLent.{list_bytes, end_to_end}
 use Rattle.arc.proofs.ArcLentLaws.{total-end}
@@ -27,6 +27,37 @@ some_of (x ∷ xs) h = record { first = x; more = xs; is = refl }
 
 pub total-is : (s : ListSizes) (l : Lists) → Sized s l → length (end_to_end l) ≡ total s
 total-is s l h = total-end l ∙ omega (arith, h.t1-is, h.t2-is, h.b1-is, h.b2-is, h.b3-is)
+
+-- the paper's moves, leavings and joinings
+pub is-t1b1 : (l : Lists) → moved T1 B1 l ≡ t1b1 l
+is-t1b1 l = refl
+
+pub is-t2b2 : (l : Lists) → moved T2 B2 l ≡ t2b2 l
+is-t2b2 l = refl
+
+pub is-t1b3 : (l : Lists) → moved T1 B3 l ≡ t1b3 l
+is-t1b3 l = refl
+
+pub is-b1b3 : (l : Lists) → moved B1 B3 l ≡ b1b3 l
+is-b1b3 l = refl
+
+pub is-b2b3 : (l : Lists) → moved B2 B3 l ≡ b2b3 l
+is-b2b3 l = refl
+
+pub is-b1_out : (l : Lists) → out_of B1 l ≡ b1_out l
+is-b1_out l = refl
+
+pub is-b2_out : (l : Lists) → out_of B2 l ≡ b2_out l
+is-b2_out l = refl
+
+pub is-b3_out : (l : Lists) → out_of B3 l ≡ b3_out l
+is-b3_out l = refl
+
+pub is-join_t1 : (a : ℕ) (l : Lists) → with_last T1 a l ≡ join_t1 a l
+is-join_t1 a l = refl
+
+pub is-join_t2 : (a : ℕ) (l : Lists) → with_last T2 a l ≡ join_t2 a l
+is-join_t2 a l = refl
 
 -- an empty list loses nothing, and nothing of it comes to another
 none-goes : (xs : List ℕ) → length xs ≡ 0 → drop 1 xs ≡ xs

@@ -1,7 +1,8 @@
 -- A row taken out after its block is copied, by what the code finds. Assumes nothing.
 use mathlib.Core.Path.{◌≡◌, refl, sym, ap, ◌∙◌}
-use mathlib.Core.Bool.{Bool, true, ◌&&◌, cond}
-use mathlib.Core.List.{List, [], ◌∷◌}
+use mathlib.Core.Bool.{Bool, true, false, ◌&&◌, cond}
+use mathlib.Core.List.{List, [], ◌∷◌, ◌++◌}
+use mathlib.Core.Option.{some}
 use Prim.Native.Nat.{ℕ, zero, suc, ◌+◌, ◌-◌, ◌≤◌, ◌<◌}
 use native.Mathlib.Nat.{add-zero}
 use native.Mathlib.Omega.{arith}
@@ -17,7 +18,7 @@ use Rattle.paper.specs.Layout.{Addrs, addresses_of}
 use Rattle.arc.specs.Arc.{row_out}
 use Rattle.parts.specs.declared.BoxRecord.{BoxRecord}
 use Rattle.parts.specs.Rep.{Rep, Copied, copied_row, no_row, clean, engine}
-use Rattle.step.specs.Dropping.{row_is, addrs-without, stays}
+use Rattle.step.specs.Dropping.{without-row, row_is, addrs-without, stays}
 use Rattle.arcstep.specs.Runs.{RowGone}
 
 -- row i made clean, or left

@@ -1,16 +1,19 @@
 -- A block row made newest, or filled, by what the code finds. Assumes nothing.
 use mathlib.Core.Path.{◌≡◌, refl, sym, ap, ◌∙◌, subst}
-use mathlib.Core.Bool.{Bool, true, false}
+use mathlib.Core.Bool.{Bool, true, false, cond}
 use mathlib.Core.List.{List, [], ◌∷◌, ◌++◌}
-use Prim.Native.Nat.{ℕ, zero, suc, ◌+◌, ◌≤◌, ◌<◌}
+use mathlib.Core.Option.{Option, none, some}
+use Prim.Native.Nat.{ℕ, zero, suc, ◌+◌, ◌-◌, ◌≤◌, ◌<◌}
+use native.Mathlib.Nat.{zero-add}
 use native.Mathlib.Omega.{arith}
-use lib.ListN.{length, get_or, length-set, length-append}
+use lib.Dec.{eqb}
+use lib.ListN.{length, get_or, set, length-set, length-append}
 use Rattle.tables.specs.Rows.{remove_at}
 use Rattle.tables.specs.Operations.{row_newest}
 use Rattle.tables.proofs.OperationLaws.{length-remove_at}
-use Rattle.paper.specs.KeyedLaws.{All, all_append, all_without, by-test, by-option, clash, distinct_snoc, distinct_without, has-without-other, has-without-self}
+use Rattle.paper.specs.KeyedLaws.{All, all_append, all_without, by-test, by-option, clash, Distinct, distinct_snoc, distinct_without, has-without-other, has-without-self}
 use Rattle.paper.proofs.SoundLaws.{length-cleaned, all-cleaned, distinct-cleaned, length-copied}
-use Rattle.paper.specs.Cache.{BlockRow, Box, block_row, without_block, slot_of, cached, is_lost, taken_used, stored}
+use Rattle.paper.specs.Cache.{AddressRow, BlockRow, Box, Taken, block_row, without_block, slot_of, cached, cleaned, is_lost, taken_used, stored}
 use Rattle.paper.specs.Engine.{Fixed, comparing}
 use Rattle.paper.specs.Index.{index_where}
 use Rattle.paper.proofs.IndexLaws.{has-yes, has_no, without-yes}
@@ -23,6 +26,7 @@ use Rattle.parts.specs.CopyLaws.{slot_of-below}
 use Rattle.step.specs.Steps.{OnceEach, Picked, picked_taken, Out4, out4}
 use Rattle.step.specs.Taking.{renewed-at}
 use Rattle.arcstep.specs.declared.Running.{Running}
+use Rattle.arcstep.specs.Victim.{victim_at}
 use Rattle.arcstep.specs.Runs.{Within, Runs}
 use Rattle.arcstep.specs.Runs as R
 use Rattle.arcstep.proofs.Evicting.{get-all}

@@ -22,7 +22,8 @@ unfolding evicted
 none_out_lem b from R e =
     λ i. record { kept = none-out from R.kept (ap length e) i; stepped = ap (λ x. evicted (engine b) x R.stepped) e i }
 
-module _ (b : BoxRecord) (t : Running) (disk flash addrs blocks lists : List ℕ) (R : Within b) (h : Runs b t disk flash addrs blocks lists R) (from : ListName) where
+module _ (b : BoxRecord) (t : Running) (disk flash addrs blocks lists : List ℕ) (R : Within b) (h : Runs b t disk flash addrs blocks lists R)
+    (from : ListName) where
   pub stays : names_of from R.kept ≡ [] → Runs b t disk flash addrs blocks lists (evicted_from b from R)
   stays e = subst (λ x. Runs b t disk flash addrs blocks lists x) (sym (none_out_lem b from R e)) h
 

@@ -2,16 +2,17 @@
 use mathlib.Core.Path.{◌≡◌, refl, sym, subst}
 use mathlib.Core.Bool.{Bool, true, false, true≢false}
 use mathlib.Core.List.{List}
-use Prim.Native.Nat.{ℕ, ◌+◌, ◌≤◌}
+use Prim.Native.Nat.{ℕ, ◌+◌, ◌≤◌, ◌<◌}
 use native.Mathlib.Omega.{arith}
+use lib.ListN.{length}
 use Rattle.paper.specs.Cache.{Seat, Box, Request}
 use Rattle.paper.specs.Engine.{Fixed}
-use Rattle.arc.specs.Arc.{Sizes, Lists, Was, in_t1, in_t2, in_b1, in_b2, in_b3, unheld, list_of, was_b2, parted, check, checked, inserted, joined, arc_step, arc_step_as}
+use Rattle.arc.specs.Arc.{Sizes, Lists, Was, in_t1, in_t2, in_b1, in_b2, in_b3, unheld, list_of, left, was_b2, parted, check, checked, inserted, joined, arc_step, arc_step_as}
 use Rattle.arc.proofs.ArcFew.{arc-spends}
 use Rattle.arc.specs.ArcRuns.{tops}
 use Rattle.arc.proofs.ArcRunsLaws.{cleared-ends}
 use Rattle.arc.specs.ArcStep.{ArcSound}
-use Rattle.arc.proofs.ArcStepLaws.{left-few, mid-parted, Ready, ready}
+use Rattle.arc.proofs.ArcStepLaws.{left-few, mid-parted, up_to, Ready, ready}
 use Rattle.arclists.specs.declared.ListSizes.{ListSizes}
 use Rattle.arclists.specs.Holding.{total}
 use Rattle.parts.specs.declared.BoxRecord.{BoxRecord}

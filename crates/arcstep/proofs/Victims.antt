@@ -1,13 +1,15 @@
 -- The block row that is taken, by the marks of the rows of T1 and T2. Assumes nothing.
 use Rattle.std.specs.Prelude.{Option, unwrap_or}
-use mathlib.Core.Path.{◌≡◌, refl, ap, ap₂, ◌∙◌}
-use mathlib.Core.Bool.{Bool, true, false, not, ◌||◌}
-use mathlib.Core.List.{List, [], ◌∷◌, map}
-use Prim.Native.Nat.{ℕ, ◌≤◌, ◌<◌}
+use mathlib.Core.Path.{◌≡◌, refl, sym, ap, ap₂, ◌∙◌}
+use mathlib.Core.Bool.{Bool, true, false, not, ◌||◌, cond}
+use mathlib.Core.List.{List, [], ◌∷◌, ◌++◌, map}
+use mathlib.Core.Option.{Option, none, some}
+use Prim.Native.Nat.{ℕ, ◌+◌, ◌≤◌, ◌<◌}
+use native.Mathlib.Nat.{zero-add}
 use native.Mathlib.Omega.{arith}
-use lib.Dec.{eqb}
+use lib.Dec.{eqb, ltb}
 use lib.ListN.{length, get_or}
-use borrow.Author.Tests.{ne_eqb}
+use borrow.Author.Tests.{ne_eqb, lt-ltb, le-ltb, ltb-true, ltb-false}
 use Rattle.tables.specs.Rows.{rows, row_at}
 use Rattle.tables.specs.Bits.{bit_at}
 use Rattle.tables.specs.Find.{every, find_from, is_used}
@@ -18,16 +20,19 @@ use Rattle.tables.specs.Index.{unique, place_in, unknown_in}
 use Rattle.table_laws.specs.Written.{address-address}
 use Rattle.table_laws.specs.Knowns.{Tells, unmarked-is, place-below}
 use Rattle.paper.specs.KeyedLaws.{All, by-test, clash, has-append}
-use Rattle.paper.specs.Cache.{AddressRow, BlockRow, Box, known}
-use Rattle.paper.specs.Engine.{Fixed, comparing}
+use Rattle.paper.specs.Cache.{Numbers, AddressRow, BlockRow, Box, Taken, known, oldest_unknown}
+use Rattle.paper.specs.Engine.{Fixed, labelled, comparing}
 use Rattle.paper.specs.Index.{index_where}
+use Rattle.paper.proofs.IndexLaws.{unknown-yes, unknown-no}
 use Rattle.paper.specs.Lent.{held_row}
 use Rattle.paper.specs.Layout.{Addrs, Blocks}
-use Rattle.arc.specs.Arc.{Lists, is_nil, on_top, top_rows}
+use Rattle.arc.specs.Arc.{Lists, is_nil, is_in, on_top, top_rows, is_some, has_row, taken_by, victim_of}
 use Rattle.arclists.specs.NameLaws.{mark-test, elem_in}
 use Rattle.parts.specs.Asked.{no_block}
 use Rattle.parts.specs.MoveLaws.{first-flag, used-flag}
 use Rattle.parts.specs.TableLaws.{addr_bytes, rows-addrs, unknown-first}
+use Rattle.step.specs.Steps.{OnceEach, Picked, picked_taken}
+use Rattle.step.specs.Taking.{taken_at}
 use Rattle.arcstep.specs.Victim.{top_place, oldest_at, victim_at}
 use Rattle.arcstep.proofs.Naming.{tops}
 

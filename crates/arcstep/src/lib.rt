@@ -20,7 +20,7 @@ pub struct Running {
     pub primary: usize,
 }
 
-// What runs on, and the place of the block row that can be taken then, the count of block rows for none.
+// What runs on, and the place of the block row that can be taken then, the count of block rows for none: a number, as `victim_at` of the specs has it.
 #[derive(Clone, Copy)]
 pub struct Cleared {
     pub running: Running,

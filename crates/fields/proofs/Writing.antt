@@ -1,11 +1,7 @@
--- The lengths, and what is written of an answer, a look's place and an opening. Assumes nothing.
-use mathlib.Core.Path.{◌≡◌, refl, sym, ap, ◌∙◌}
-use mathlib.Core.Bool.{false}
+-- What is written of an answer, a look's place and an opening. Assumes nothing.
+use mathlib.Core.Path.{◌≡◌, refl, ap, ◌∙◌}
 use mathlib.Core.List.{List}
 use Prim.Native.Nat.{ℕ, ◌*◌}
-use lib.Dec.{eqb}
-use lib.ListN.{length}
-use borrow.Author.Tests.{ne_eqb, eq-eqb}
 use Rattle.tables.specs.declared.FlashSlot.{FlashSlot}
 use Rattle.paper.specs.Cache.{Counters}
 use Rattle.policy.specs.declared.Word.{Word}
@@ -16,18 +12,8 @@ use Rattle.policy.specs.declared.many.Answer.TheVariants.{Refused as Refusal, Ba
 use Rattle.look.specs.declared.Place.{Place}
 use Rattle.look.specs.declared.Place.TheVariants.{Refused as NoPlace, Flash, Disk}
 use Rattle.policy.specs.Contract.{word_of, answer_of, many_answer_of}
-use Rattle.fields.specs.Fields.{put8, put_state, put_answer, put_many, word_number, fitting, state_bytes}
+use Rattle.fields.specs.Fields.{put_state, put_answer, put_many, word_number}
 use Rattle.fields.specs.Noted.{Noted, noted, noted_many, LeftLook, noted_place}
-
--- ---- the lengths
-
-pub fitting-is : (n : ℕ) (s l : List ℕ) → length s ≡ state_bytes → eqb (length l) n ≡ fitting n s l
-unfolding fitting
-fitting-is n s l h = rw (eq-eqb (length s) state_bytes h) refl
-
-pub not-fitting : (n : ℕ) (s l : List ℕ) → (length s ≡ state_bytes → ⊥) → false ≡ fitting n s l
-unfolding fitting
-not-fitting n s l h = rw (ne_eqb (length s) state_bytes h) refl
 
 -- ---- what is written of an answer
 

@@ -19,26 +19,21 @@ use policy::calls::Outcome;
 use policy::{Answer, Word, many};
 use tables::SourceAddress;
 
-// A byte, widened.
-fn wide(x: u8) -> u64
-    ensures { (result ≡ x) × (result < 256) }
-{
-    x as u64
-}
-
 // The number in the eight bytes from index `at` on, little-endian.
 pub fn get8(s: &[u8], at: usize) -> u64
     requires { at + 8 ≤ length s.now }
     ensures { result ≡ le8 s.now at }
 {
-    wide(s[at])
-        + 256 * wide(s[at + 1])
-        + 65536 * wide(s[at + 2])
-        + 16777216 * wide(s[at + 3])
-        + 4294967296 * wide(s[at + 4])
-        + 1099511627776 * wide(s[at + 5])
-        + 281474976710656 * wide(s[at + 6])
-        + 72057594037927936 * wide(s[at + 7])
+    u64::from_le_bytes([
+        s[at],
+        s[at + 1],
+        s[at + 2],
+        s[at + 3],
+        s[at + 4],
+        s[at + 5],
+        s[at + 6],
+        s[at + 7],
+    ])
 }
 
 // Writes the eight bytes of `v` from index `at` on, little-endian.
@@ -46,30 +41,18 @@ pub fn put8(s: &mut [u8], at: usize, v: u64)
     requires { at + 8 ≤ length s.old }
     ensures { s.new ≡ splice at (low_bytes 8 v) s.old }
 {
-    let w = [
-        (v % 256) as u8,
-        (v / 256 % 256) as u8,
-        (v / 256 / 256 % 256) as u8,
-        (v / 256 / 256 / 256 % 256) as u8,
-        (v / 256 / 256 / 256 / 256 % 256) as u8,
-        (v / 256 / 256 / 256 / 256 / 256 % 256) as u8,
-        (v / 256 / 256 / 256 / 256 / 256 / 256 % 256) as u8,
-        (v / 256 / 256 / 256 / 256 / 256 / 256 / 256 % 256) as u8,
-    ];
-    block::put(&w, s, at);
+    block::put(&v.to_le_bytes(), s, at);
 }
 
 // The bytes of the state.
 pub const STATE: usize = 144;
 
 // Whether the state has its bytes and the answer `n`.
+#[tactic(auto, unfolding(crate::specs::Fields::fitting))]
 pub fn fit(n: usize, state: &[u8], answer: &[u8]) -> bool
     ensures { result ≡ fitting n state.now answer.now }
 {
-    if state.len() != STATE {
-        return false;
-    }
-    answer.len() == n
+    state.len() == STATE && answer.len() == n
 }
 
 // The label in the state.
@@ -78,28 +61,29 @@ pub(crate) fn label_in(state: &[u8]) -> [u8; 64]
     ensures { result ≡ part 72 64 state.now }
 {
     let mut label = [0u8; 64];
-    block::copy_all(&state[72..136], &mut label);
+    label.copy_from_slice(&state[72..136]);
     label
 }
 
 // The box record in the state.
+#[tactic(auto, unfolding(crate::specs::Fields::get8))]
 pub fn record_in(state: &[u8]) -> BoxRecord
     requires { length state.now ≡ state_bytes }
     ensures { result ≡ record_in state.now }
 {
-    let label = label_in(state);
     BoxRecord {
         size: get8(state, 0) as usize,
         blocks: get8(state, 8) as usize,
         rows: get8(state, 16) as usize,
         slots: get8(state, 24) as usize,
         held: get8(state, 32) as usize,
-        label: label,
+        label: label_in(state),
         limit: get8(state, 136) as usize,
     }
 }
 
 // The counters in the state.
+#[tactic(auto, unfolding(crate::specs::Fields::get8))]
 pub fn counters_in(state: &[u8]) -> Counters
     requires { length state.now ≡ state_bytes }
     ensures { result ≡ counters_in state.now }
@@ -113,6 +97,7 @@ pub fn counters_in(state: &[u8]) -> Counters
 }
 
 // Writes n and the counters into the state.
+#[tactic(auto, unfolding(crate::specs::Fields::put_state, crate::specs::Fields::put8))]
 pub fn put_state(state: &mut [u8], held: usize, c: Counters)
     requires { length state.old ≡ state_bytes }
     ensures { state.new ≡ put_state held (counters_of c) state.old }
@@ -125,6 +110,7 @@ pub fn put_state(state: &mut [u8], held: usize, c: Counters)
 }
 
 // Writes an answer's three numbers.
+#[tactic(auto, unfolding(crate::specs::Fields::put_answer, crate::specs::Fields::put8))]
 pub fn put_answer(answer: &mut [u8], word: u64, second: usize, third: usize)
     requires { length answer.old ≡ 24 }
     ensures { answer.new ≡ put_answer word second third answer.old }
@@ -135,6 +121,7 @@ pub fn put_answer(answer: &mut [u8], word: u64, second: usize, third: usize)
 }
 
 // Writes the four numbers of a folder read's answer.
+#[tactic(auto, unfolding(crate::specs::Fields::put_many, crate::specs::Fields::put8))]
 pub fn put_many(answer: &mut [u8], hits: usize, flash: usize, primary: usize, fetches: usize)
     requires { length answer.old ≡ 32 }
     ensures { answer.new ≡ put_many hits flash primary fetches answer.old }
@@ -152,10 +139,8 @@ pub fn put_counts(s: &mut [u8], c: [u64; 9])
     if s.len() != exam::COUNTS {
         return;
     }
-    let mut h = 0;
-    while h < 9 {
+    for h in 0..9 {
         put8(s, h * 8, c[h]);
-        h += 1;
     }
 }
 
@@ -226,6 +211,7 @@ pub(crate) fn put_opening(state: &mut [u8], number: u32, held: usize, c: Counter
 }
 
 // Writes a label into the state.
+#[tactic(auto, unfolding(crate::specs::Fields::put_label))]
 pub(crate) fn put_label(state: &mut [u8], label: [u8; 64])
     requires { length state.old ≡ state_bytes }
     ensures { state.new ≡ put_label label state.old }
@@ -234,6 +220,7 @@ pub(crate) fn put_label(state: &mut [u8], label: [u8; 64])
 }
 
 // Writes the box record into the state; the counters stay.
+#[tactic(auto, unfolding(crate::specs::Fields::put_record, crate::specs::Fields::put_label, crate::specs::Fields::put8))]
 pub fn put_record(state: &mut [u8], b: BoxRecord)
     requires { length state.old ≡ state_bytes }
     ensures { state.new ≡ put_record b state.old }
@@ -243,8 +230,7 @@ pub fn put_record(state: &mut [u8], b: BoxRecord)
     put8(state, 16, b.rows as u64);
     put8(state, 24, b.slots as u64);
     put8(state, 32, b.held as u64);
-    let label = b.label;
-    put_label(state, label);
+    put_label(state, b.label);
     put8(state, 136, b.limit as u64);
 }
 
@@ -259,8 +245,7 @@ pub fn write_opening(state: &mut [u8], o: Begun) -> u32
     let c = o.counters;
     let number = opening_number(a);
     put_opening(state, number, b.held, c);
-    let label = b.label;
-    put_label(state, label);
+    put_label(state, b.label);
     number
 }
 

@@ -3,7 +3,6 @@ use mathlib.Core.Path.{refl, ap, ◌∙◌}
 use native.Mathlib.Omega.{arith}
 use lib.ListN.{length}
 use borrow.Author.Tests.{eq-eqb, ne_eqb}
-use Rattle.std.proofs.Common.{rules}
 use Rattle.refusals.specs.Given.{counters_of}
 use Rattle.fields.specs.Fields.{put8}
 use Rattle.fields.specs.FieldLaws.{length-put8, length-put_state}

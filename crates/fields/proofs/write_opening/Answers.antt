@@ -3,7 +3,6 @@ use mathlib.Core.Path.{ap, ◌∙◌}
 use mathlib.Core.Bool.{cond}
 use Prim.Native.Nat.{ℕ}
 use lib.Dec.{eqb}
-use Rattle.std.proofs.Common.{rules}
 use Rattle.refusals.specs.Given.{counters_of}
 use Rattle.fields.specs.Fields.{put8, put_state, put_label}
 use Rattle.fields.proofs.write_opening.Goals as goal

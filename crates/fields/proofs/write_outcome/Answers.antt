@@ -1,5 +1,4 @@
 -- By the answer: refused, nothing is written; else the state and the answer. Assumes nothing.
-use Rattle.std.proofs.Common.{rules}
 use Rattle.refusals.specs.Given.{counters_of}
 use Rattle.fields.proofs.Writing.{noted-refused, noted-served}
 use Rattle.fields.proofs.write_outcome.Goals as goal

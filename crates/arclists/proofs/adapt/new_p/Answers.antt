@@ -12,4 +12,3 @@ returns-in-Some-B1 c =
 pub returns-in-Some-B2 : goal.returns-in-Some-B2
 returns-in-Some-B2 c =
     λ l z. as-told z _ _ B2 c.in-Some-B2.is (rw c.in-Some-B2.is at c.in-Some-B2.field-0-is) (down z _ c.change-in-Some-B2.ensures c.saturating_sub.ensures)
-

@@ -1,5 +1,6 @@
 -- The name leaves, p moves, the row leaves. Assumes nothing.
-use mathlib.Core.Path.{ap, ◌∙◌}
+use mathlib.Core.Path.{sym, ap, ◌∙◌}
+use native.Mathlib.Omega.{arith}
 use Rattle.std.proofs.Common.{rules}
 use Rattle.arc.specs.Arc.{new_p}
 use Rattle.arc.specs.Arc as Arc

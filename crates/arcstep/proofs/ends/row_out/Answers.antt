@@ -1,6 +1,7 @@
 -- By whether there is a row. Assumes nothing.
 use mathlib.Core.Path.{sym, ◌∙◌, subst}
 use native.Mathlib.Omega.{arith}
+use Rattle.std.proofs.Common.{rules}
 use Rattle.paper.specs.Layout.{Addrs}
 use Rattle.parts.specs.Rep.{no_row}
 use Rattle.parts.specs.MoveLaws.{removed}

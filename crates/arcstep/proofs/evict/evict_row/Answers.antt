@@ -3,6 +3,7 @@ use mathlib.Core.Path.{◌∙◌}
 use mathlib.Core.Bool.{true, ◌&&◌}
 use native.Mathlib.Omega.{arith}
 use lib.ListN.{get_or}
+use Rattle.std.proofs.Common.{rules}
 use Rattle.parts.specs.Rep.{no_row}
 use Rattle.parts.specs.MoveLaws.{removed}
 use Rattle.arcstep.proofs.Evicting.{clean_at, none-gone, addrs-clean, row-gone}

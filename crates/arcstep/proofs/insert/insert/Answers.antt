@@ -1,10 +1,14 @@
 -- By whether the fingerprint is cached; where it isn't, a row is cleared and then filled. Assumes nothing.
-use mathlib.Core.Path.{refl, ◌∙◌}
+use mathlib.Core.Path.{◌≡◌, refl, sym, ◌∙◌}
+use mathlib.Core.Bool.{true}
 use native.Mathlib.Omega.{arith}
+use Rattle.std.proofs.Common.{rules}
+use borrow.Author.Tests.{ltb-true}
 use Rattle.arc.specs.Arc.{cleared! }
 use Rattle.parts.specs.Rep.{engine}
+use Rattle.arcstep.specs.Runs.{Within, Taken, Clears, Ends}
 use Rattle.arcstep.proofs.Ways.{told}
-use Rattle.arcstep.proofs.Clearing.{has-taken}
+use Rattle.arcstep.proofs.Clearing.{row-tells, has-taken}
 use Rattle.arcstep.proofs.Inserting.{not-cached, is-cached, newest-runs, inserted-hit, inserted-miss}
 use Rattle.arcstep.proofs.insert.insert.Goals as goal
 

@@ -1,6 +1,7 @@
 -- The row taken is the paper's: `store-runs`. Assumes nothing.
 use mathlib.Core.Path.{refl}
 use native.Mathlib.Omega.{arith}
+use Rattle.std.proofs.Common.{rules}
 use Rattle.arcstep.proofs.Inserting.{at-picked, store-runs}
 use Rattle.arcstep.proofs.insert.store.Goals as goal
 

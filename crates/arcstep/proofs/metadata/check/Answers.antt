@@ -1,6 +1,7 @@
 -- By whether T1, T2 and B3 are full, and B3 is empty. Assumes nothing.
 use mathlib.Core.Path.{refl, ◌∙◌}
 use native.Mathlib.Omega.{arith}
+use Rattle.std.proofs.Common.{rules}
 use Rattle.arc.specs.Arc.{manage}
 use Rattle.parts.specs.Rep.{engine}
 use Rattle.arcstep.proofs.Ways.{told, fits-less, check-not, check-none, check-some}

@@ -16,7 +16,8 @@ replace-requires c =
     let m = c.move_lru-s.ensures in
     record {
       fits = rw c.with_sizes-r.ensures (p.0, p.1, p.2, p.3, p.4, p.5, omega (arith, p.6, m.result_value.0), omega (arith, p.7, m.result_value.1.0, m.result_value.1.1), p.8);
-      some_runs = rw c.with_sizes-r.ensures (listed (engine c.args.b) b2b3 q.0, relisted b2b3 _ _ q.1 (small-moved B2 B3 (omega arith) _ q.1.low) (m.by_index _ _ q.1.names));
+      some_runs = rw c.with_sizes-r.ensures
+          (listed (engine c.args.b) b2b3 q.0, relisted b2b3 _ _ q.1 (small-moved B2 B3 (omega arith) _ q.1.low) (m.by_index _ _ q.1.names));
     }
 
 pub returns-then-t-2 : goal.returns-then-t-2

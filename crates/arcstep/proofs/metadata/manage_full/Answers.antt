@@ -16,7 +16,8 @@ replace-requires c =
     let m = c.move_lru-s.ensures in
     record {
       fits = rw c.with_sizes-r.ensures (p.0, p.1, p.2, p.3, p.4, p.5, omega (arith, p.6, m.result_value.0), omega (arith, p.7, m.result_value.1.0, m.result_value.1.1), p.8);
-      some_runs = rw c.with_sizes-r.ensures (listed (engine c.args.b) b1b3 q.0, relisted b1b3 _ _ q.1 (small-moved B1 B3 (omega arith) _ q.1.low) (m.by_index _ _ q.1.names));
+      some_runs = rw c.with_sizes-r.ensures
+          (listed (engine c.args.b) b1b3 q.0, relisted b1b3 _ _ q.1 (small-moved B1 B3 (omega arith) _ q.1.low) (m.by_index _ _ q.1.names));
     }
 
 pub returns-then-t : goal.returns-then-t
@@ -52,6 +53,6 @@ returns c =
     record {
       less = rw c.with_sizes-2.ensures (omega arith, omega arith, omega (arith, m.result_value.0, w.result_value.0), (w.result_value.1.0 ∙ m.result_value.1.0, w.result_value.1.1 ∙ m.result_value.1.1));
       runs = rw c.with_sizes-2.ensures (λ R h. told (way-both a.b a.t.sizes R h.names.sized a.b2 c.requires.fits.1 c.if-t.false (omega (arith, n)))
-          (relisted t1b1 _ _ (relisted b1b3 _ _ h (small-moved B1 B3 (omega arith) _ h.low) (m.by_index _ _ h.names)) (small-moved T1 B1 (omega arith) _ (small-moved B1 B3 (omega arith) _ h.low))
-          (w.by_index _ _ (m.by_index _ _ h.names))));
+          (relisted t1b1 _ _ (relisted b1b3 _ _ h (small-moved B1 B3 (omega arith) _ h.low) (m.by_index _ _ h.names))
+          (small-moved T1 B1 (omega arith) _ (small-moved B1 B3 (omega arith) _ h.low)) (w.by_index _ _ (m.by_index _ _ h.names))));
     }

@@ -28,5 +28,6 @@ returns c =
       runs = rw c.with_sizes.ensures (λ R h.
           let q = e.runs R h in
           told (replace-some a.b a.t.sizes R h.names.sized _ _ c.takes_t1-top.result (omega (arith, n)) (c.takes_t1-top.ensures R.kept h.names.sized))
-          (topped c.takes_t1-top.result _ _ q (small-moved T1 B1 (omega arith) _ q.low) (small-moved T2 B2 (omega arith) _ q.low) (m.by_index a.b.rows _ q.names)));
+          (topped c.takes_t1-top.result _ _ q (small-moved T1 B1 (omega arith) _ q.low) (small-moved T2 B2 (omega arith) _ q.low)
+          (m.by_index a.b.rows _ q.names)));
     }

@@ -1,6 +1,7 @@
 -- By the sizes of B1 and B2. Assumes nothing.
 use mathlib.Core.Path.{refl}
 use native.Mathlib.Omega.{arith}
+use Rattle.std.proofs.Common.{rules}
 use Rattle.arcstep.proofs.Ways.{told, room-there, room-b1, room-b2}
 use Rattle.arcstep.proofs.metadata.room.Goals as goal
 

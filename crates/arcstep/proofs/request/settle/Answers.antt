@@ -1,8 +1,14 @@
 -- The insertion, and then the check, if the list asks for one. Assumes nothing.
-use mathlib.Core.Path.{refl, sym, ◌∙◌}
+use mathlib.Core.Path.{◌≡◌, refl, sym, ◌∙◌}
+use mathlib.Core.Bool.{Bool}
 use native.Mathlib.Omega.{arith}
+use Rattle.std.proofs.Common.{rules}
+use borrow.Author.Tests.{not-true, not-false}
 use Rattle.paper.specs.Engine.{Fixed}
+use Rattle.arc.specs.Arc.{was_b2, inserted, check}
 use Rattle.arclists.specs.Holding.{was_of}
+use Rattle.parts.specs.Rep.{engine}
+use Rattle.arcstep.specs.Runs.{Within, Runs, Ends}
 use Rattle.arcstep.proofs.Ways.{told}
 use Rattle.arcstep.proofs.Requests.{not-checked, is-checked}
 use Rattle.arcstep.proofs.request.settle.Goals as goal

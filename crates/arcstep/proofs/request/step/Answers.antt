@@ -1,8 +1,9 @@
 -- The parts in turn; what the paper's step keeps gives the loop its end and the address its room. Assumes nothing.
 use mathlib.Core.Path.{◌≡◌, refl, sym, ◌∙◌}
 use mathlib.Core.Bool.{Bool}
-use Prim.Native.Nat.{◌≤◌}
+use Prim.Native.Nat.{ℕ, ◌≤◌}
 use native.Mathlib.Omega.{arith}
+use Rattle.std.proofs.Common.{rules}
 use Rattle.tables.specs.Records.{bytes2}
 use Rattle.paper.specs.Cache.{Box}
 use Rattle.paper.specs.Engine.{Fixed}

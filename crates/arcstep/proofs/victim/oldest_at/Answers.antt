@@ -2,10 +2,13 @@
 use Rattle.std.specs.Prelude.{Option, unwrap_or}
 use mathlib.Core.Path.{◌≡◌, refl, sym, ap, ◌∙◌, subst}
 use mathlib.Core.List.{List, []}
-use Prim.Native.Nat.{ℕ, ◌+◌}
+use Prim.Native.Nat.{ℕ, ◌+◌, ◌<◌}
 use native.Mathlib.Omega.{arith}
 use lib.ListN.{length-replicate}
+use Rattle.std.proofs.Common.{rules}
+use Rattle.tables.specs.Rows.{row_at}
 use Rattle.tables.specs.Bits.{bit_at, has-bit, no_bits}
+use Rattle.tables.specs.Sound.{row_address}
 use Rattle.tables.specs.SoundLaws.{Marked, fresh}
 use Rattle.paper.specs.Layout.{Blocks}
 use Rattle.arclists.specs.Names.{fine}
@@ -14,7 +17,7 @@ use Rattle.parts.specs.MoveLaws.{address_is, address_below}
 use Rattle.step.specs.Unique.{unique-is}
 use Rattle.arcstep.specs.Runs.{Within, Runs}
 use Rattle.arcstep.specs.Victim.{oldest_at}
-use Rattle.arcstep.proofs.Naming.{tops-fine, tops-read}
+use Rattle.arcstep.proofs.Naming.{tops, tops-fine, tops-read}
 use Rattle.arcstep.proofs.Victims.{found-oldest}
 use Rattle.arcstep.proofs.victim.oldest_at.Goals as goal
 use Rattle.arcstep.proofs.victim.oldest_at.Goals.{After-first_unknown}

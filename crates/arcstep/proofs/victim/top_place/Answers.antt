@@ -1,5 +1,7 @@
 -- The bit of the row's address, and then its block row's place. Assumes nothing.
 use mathlib.Core.Path.{refl, sym, ◌∙◌}
+use Rattle.std.proofs.Common.{rules}
+use borrow.Author.Tests.{not-true, not-false}
 use Rattle.arcstep.proofs.victim.top_place.Goals as goal
 
 pub returns-then-not-row_named : goal.returns-then-not-row_named

@@ -1,5 +1,7 @@
 -- By whether the first row is free. Assumes nothing.
 use mathlib.Core.Path.{sym, ◌∙◌}
+use Rattle.std.proofs.Common.{rules}
+use borrow.Author.Tests.{not-true, not-false}
 use Rattle.arcstep.proofs.Victims.{free-first, none_free, first-free, first-used}
 use Rattle.arcstep.proofs.victim.victim.Goals as goal
 
