@@ -1,5 +1,6 @@
 -- The block row that is taken, by the marks of the rows of T1 and T2. Assumes nothing.
-use Rattle.std.specs.Prelude.{Option, unwrap_or}
+use Rattle.std.specs.Prelude.{unwrap_or}
+use Rattle.std.specs.Prelude.{Option as Optional}
 use mathlib.Core.Path.{◌≡◌, refl, sym, ap, ap₂, ◌∙◌}
 use mathlib.Core.Bool.{Bool, true, false, not, ◌||◌, cond}
 use mathlib.Core.List.{List, [], ◌∷◌, ◌++◌, map}
@@ -73,9 +74,9 @@ module _ (P m n d : ℕ) (addrs blocks seen bytes : List ℕ) (l : Lists) (rs : 
       ∙ ap (λ (x : List (List ℕ)). mark (elem k (map (top_place seen (rows d blocks)) x))) (rows-addrs P m n addrs rs ha)
       ∙ ap mark (marks-tops seen l marked (rows d blocks) k (omega (arith, h, s)) rs (low rs ha.below)))
 
-  pub found-oldest : (f : Option ℕ) → ((hs : List (List ℕ)) → Tells d blocks bytes hs → f ≡ find_from (unknown_in hs) 0 (rows d blocks))
+  pub found-oldest : (f : Optional ℕ) → ((hs : List (List ℕ)) → Tells d blocks bytes hs → f ≡ find_from (unknown_in hs) 0 (rows d blocks))
       → unwrap_or f d ≡ index_where (λ u. not (known comparing u.fingerprint (top_rows l rs))) used
-  found-oldest f e = ap (λ (x : Option ℕ). unwrap_or x d) (e (map addr_bytes (top_rows l rs)) tells) ∙ unknown-first (top_rows l rs) d blocks used hb
+  found-oldest f e = ap (λ (x : Optional ℕ). unwrap_or x d) (e (map addr_bytes (top_rows l rs)) tells) ∙ unknown-first (top_rows l rs) d blocks used hb
 
 -- a free row is first
 pub free-first : {X : Type 0} (l : Lists) (s : Box (Fixed 32) X) → is_nil s.free ≡ false → 0 ≡ victim_at l s

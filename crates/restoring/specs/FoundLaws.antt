@@ -1,15 +1,14 @@
 -- The checks of an area, case by case. Assumes nothing.
 use Rattle.std.specs.Prelude.{◌≡◌, Bool, true, false, ◌&&◌, ◌||◌, cond, List, [], ◌∷◌, ℕ, ◌+◌, ◌-◌, ◌*◌, ◌/◌, ◌≤◌, ◌<◌, eqb, ltb, length, take, drop}
+use Rattle.std.specs.Prelude.{Result, Ok, Err, is_err}
+use Rattle.std.specs.List.{list_all}
 use Rattle.std.proofs.Math.Path.{refl, sym, ap, subst}
-use Rattle.std.proofs.Common.{◌∙◌}
+use Rattle.std.proofs.Common.{ap₂, ◌∙◌, get_or-take, drop-cons, length-take-le}
 use Rattle.std.proofs.Math.Bool.{not}
 use native.Mathlib.Omega.{arith}
 use Rattle.std.proofs.Math.ListN.{get_or}
 use Rattle.std.proofs.Math.Seq.{take-take, drop-drop}
 use borrow.Author.Tests.{lt-ltb, le-ltb, ltb-false, eq-eqb, ne_eqb, eqb-true, not-false}
-use Rattle.std.specs.List.{list_all}
-use Rattle.std.specs.Cmp.Lexicographic.{pointwise}
-use Rattle.std.proofs.lemmas.List.{take_rest}
 use Rattle.tables.specs.Rows.{le4}
 use Rattle.tables.specs.Find.{all, same}
 use Rattle.tables.specs.Sound.{is_zero}
@@ -21,6 +20,8 @@ use Rattle.arc.proofs.ArcLentLaws.{words-at}
 use Rattle.tables.specs.Records.{held_rows}
 use Rattle.parts.specs.declared.BoxRecord.{BoxRecord}
 use Rattle.parts.specs.Rep.{numbers_of}
+use Rattle.refusal.specs.declared.Refusal.{Refusal}
+use Rattle.refusal.specs.Numbers.{code, number_of, refused}
 use Rattle.refusals.specs.Sizes.{most}
 use Rattle.refusals.specs.Checks.{tables_refusal}
 use Rattle.image.specs.Body.{Fields, Form, pieces, total, body_length, numbers_in, fields_in, fails_as, fails_in, no_body}
@@ -28,7 +29,6 @@ use Rattle.image.specs.Area.{mark, version, writes_for}
 use Rattle.image.specs.Image.{is_image, no_image, length_in, body_in, too_short, image_refusal}
 use Rattle.image.specs.Kinds.{string_at, lru_form, arc_form, kinds, lru_checks}
 use Rattle.image.proofs.AreaLaws.{writes-enough}
-use Rattle.area.specs.ByteLaws.{same-turned}
 use Rattle.restoring.specs.Given as Given
 use Rattle.restoring.specs.Given.{arc_of, long_of, failing, body_fields, Laid}
 
@@ -42,38 +42,47 @@ and-false : (b : Bool) → (b && false) ≡ false
 and-false true = refl
 and-false false = refl
 
+-- whether all pass a test
+pub each-passes : {A : Type 0} (p : A → Bool) (xs : List A) → list_all p xs ≡ all p xs
+unfolding all
+each-passes p [] = refl
+each-passes p (x ∷ xs) = ap (λ b. p x && b) (each-passes p xs)
+
 pub short-area : (area : List ℕ) → length area < 64 → true ≡ no_image area
 unfolding no_image
 short-area area h = rw (lt-ltb (length area) 64 h)
 
--- two bytes behind the mark that begin with the two of the version
-pub version-is : (area v : List ℕ) (r : Bool) → v ≡ version → r ≡ pointwise eqb v (take (length v) (take (length area - 3) (drop 3 area)))
-    → r ≡ same (take 2 (drop 3 area)) version
-version-is area v r e h =
-    h ∙ ap (λ x. pointwise eqb v (take (length v) x)) (take_rest area 3) ∙ ap (λ x. pointwise eqb x (take (length x) (drop 3 area))) e
-    ∙ same-turned (take 2 (drop 3 area)) version
-
--- all of a list, one by one
-pub all-listed : (p : ℕ → Bool) (xs : List ℕ) → list_all p xs ≡ all p xs
-unfolding all
-all-listed p [] = refl
-all-listed p (x ∷ xs) = ap (λ b. p x && b) (all-listed p xs)
-
 module _ (area : List ℕ) (l : 64 ≤ length area) where
-  front-version : take 2 (drop 3 (take 64 area)) ≡ take 2 (drop 3 area)
-  front-version = ap (take 2) (drop-take 3 61 area) ∙ take-take 2 61 (drop 3 area) (omega arith)
+  front_long : length (take 64 area) ≡ 64
+  front_long = length-take-le 64 area l
+
+  -- bytes 3 and 4 of the header
+  version_of : take 2 (drop 3 (take 64 area)) ≡ get_or area 3 0 ∷ get_or area 4 0 ∷ []
+  version_of =
+      let h = take 64 area in
+      let e = front_long in
+      ap (take 2) (drop-cons h 3 0 (omega arith) ∙ ap {B = List ℕ} (λ r. get_or h 3 0 ∷ r) (drop-cons h 4 0 (omega arith)))
+      ∙ ap₂ {C = List ℕ} (λ x y. x ∷ y ∷ []) (get_or-take 64 area 3 0 (omega arith)) (get_or-take 64 area 4 0 (omega arith))
+
+  other-version : same (get_or area 3 0 ∷ get_or area 4 0 ∷ []) version ≡ false → true ≡ no_image area
+  unfolding no_image is_image
+  other-version e = rw (version_of, e, and-false (same (take 3 (take 64 area)) mark), or-true (ltb (length area) 64))
 
   pub no-mark : same (take 3 area) mark ≡ false → true ≡ no_image area
   unfolding no_image is_image
   no-mark e = rw (take-take 3 64 area (omega arith), e, or-true (ltb (length area) 64))
 
-  pub no-version : same (take 2 (drop 3 area)) version ≡ false → true ≡ no_image area
-  unfolding no_image is_image
-  no-version e = rw (front-version, e, and-false (same (take 3 (take 64 area)) mark), or-true (ltb (length area) 64))
+  pub no-version-3 : (get_or area 3 0 ≡ 1 → ⊥) → true ≡ no_image area
+  unfolding same
+  no-version-3 n = other-version (rw (ne_eqb (get_or area 3 0) 1 n) refl)
 
-  pub image-zeros : same (take 3 area) mark ≡ true → same (take 2 (drop 3 area)) version ≡ true → not (all is_zero (take 55 (drop 9 area))) ≡ no_image area
-  unfolding no_image is_image
-  image-zeros m v = rw (le-ltb (length area) 64 l, take-take 3 64 area (omega arith), m, front-version, v, drop-take 9 55 area)
+  pub no-version-4 : get_or area 3 0 ≡ 1 → (get_or area 4 0 ≡ 0 → ⊥) → true ≡ no_image area
+  unfolding same
+  no-version-4 e n = other-version (rw (e, ne_eqb (get_or area 4 0) 0 n) refl)
+
+  pub image-zeros : same (take 3 area) mark ≡ true → get_or area 3 0 ≡ 1 → get_or area 4 0 ≡ 0 → not (all is_zero (take 55 (drop 9 area))) ≡ no_image area
+  unfolding no_image is_image same
+  image-zeros m v w = rw (le-ltb (length area) 64 l, take-take 3 64 area (omega arith), m, version_of, v, w, drop-take 9 55 area)
 
 -- ---- 14
 
@@ -227,10 +236,15 @@ module _ (body : List ℕ) (b : BoxRecord) (e : b ≡ Given.box_in body) where
       unfolding fields_in numbers_in lru_form words
       lru-record = ap Given.as_arc e ∙ ap arc_of (sym (lru-fields body k))
 
+-- what is refused has another number than 0
+pub err-numbered : (r : Result Unit Refusal) → is_err r ≡ not (eqb (number_of r) 0)
+err-numbered (Ok x) = refl
+err-numbered (Err e) = ap not (sym (ne_eqb (code e) 0 (refused e)))
+
 -- 6, 7, 8 and 13 of tables
-pub tables-fail : (b : BoxRecord) (a t : List ℕ) (r : ℕ) → r ≡ tables_refusal b a t → not (eqb r 0) ≡ failing b a t
+pub tables-fail : (b : BoxRecord) (a t : List ℕ) (r : Result Unit Refusal) → number_of r ≡ tables_refusal b a t → is_err r ≡ failing b a t
 unfolding tables_refusal box_in held_rows
-tables-fail b a t r e = ap (λ n. not (eqb n 0)) e
+tables-fail b a t r e = err-numbered r ∙ ap (λ n. not (eqb n 0)) e
 
 -- ---- 15, 14 and 16 in turn
 

@@ -1,6 +1,5 @@
 -- The record's numbers are small, and say where the tables lie. Assumes nothing.
-use mathlib.Core.Path.{refl, ◌∙◌}
-use native.Mathlib.Omega.{arith}
+use Rattle.std.proofs.Common.{arith, refl, ◌∙◌}
 use Rattle.restoring.specs.Given.{box_in}
 use Rattle.restoring.specs.FoundLaws.{lru-long, lru-small, lru-laid, lru-record}
 use Rattle.restoring.proofs.lru_found.Goals as goal
@@ -11,21 +10,16 @@ record_in-b-requires c =
     omega (arith, l)
 
 pub overflow_mul-result : goal.overflow_mul-result
-overflow_mul-result c =
-    let small = lru-small c.args.body.now c.record_in-b.result c.record_in-b.ensures c.requires.1 c.requires.0 in
-    omega arith
+overflow_mul-result c = let h = (lru-small c.args.body.now _ c.record_in-b.ensures c.requires.1 c.requires.0).0 in omega (arith, h)
 
 pub overflow_mul-result-2 : goal.overflow_mul-result-2
-overflow_mul-result-2 c =
-    let small = lru-small c.args.body.now c.record_in-b.result c.record_in-b.ensures c.requires.1 c.requires.0 in
-    omega arith
+overflow_mul-result-2 c = let h = (lru-small c.args.body.now _ c.record_in-b.ensures c.requires.1 c.requires.0).1 in omega (arith, h)
 
 pub returns : goal.returns
 returns c =
     let t = c.args.body.now in
-    let b = c.record_in-b.result in
     let e = c.record_in-b.ensures in
     record {
-      arc_record_value = c.as_arc-a.ensures ∙ lru-record t b e c.requires.1 c.requires.0;
-      laid = lru-laid t b e c.requires.1 c.requires.0;
+      arc_record_value = c.as_arc.ensures ∙ lru-record t _ e c.requires.1 c.requires.0;
+      laid = lru-laid t _ e c.requires.1 c.requires.0;
     }

@@ -3,6 +3,7 @@ use Prim.Native.Nat.{ℕ}
 use lib.ListN.{length-replicate}
 use Rattle.tables.specs.SoundLaws.{filled-with}
 use Rattle.restoring.specs.FoundLaws as Laws
+use Rattle.std.proofs.Common.{◌∙◌}
 use Rattle.restoring.proofs.tables_fail.Goals as goal
 
 pub of_tables-requires : goal.of_tables-requires
@@ -15,4 +16,4 @@ of_tables-requires c =
 pub returns : goal.returns
 returns c u w =
     let a = c.args in
-    Laws.tables-fail a.b a.addresses.now a.blocks.now _ c.of_tables.ensures.value
+    c.is_err.ensures.value ∙ Laws.tables-fail a.b a.addresses.now a.blocks.now _ c.of_tables.ensures.value
