@@ -6,7 +6,8 @@ use Rattle.std.proofs.Math.Dec.{ltb}
 use Rattle.std.specs.Prelude.{Result, Ok, Err}
 use Rattle.refusal.specs.declared.Refusal.{Refusal}
 use Rattle.refusal.specs.declared.Refusal.TheVariants.{Outside, WrongLength, NoAddress, Unformed, BoxTooLarge, BadAddresses, BadBlocks}
-use Rattle.refusal.specs.declared.Refusal.TheVariants.{DirtyUncached, CounterFull, BadCount, ArcOutside, BadLimit, TooDirty, NoRoom, NoImage, BadImage, TooLarge}
+use Rattle.refusal.specs.declared.Refusal.TheVariants.{DirtyUncached, CounterFull, BadCount}
+use Rattle.refusal.specs.declared.Refusal.TheVariants.{ArcOutside, BadLimit, TooDirty, NoRoom, NoImage, BadImage, TooLarge}
 use Rattle.refusal.specs.Numbers.{number_of}
 use borrow.Author.Tests.{eq-eqb, le-leb, ltb-false, not-true, not-false}
 use Rattle.tables.specs.Rows.{HasRows, rows, row_at, le4, table_bytes}

@@ -56,14 +56,6 @@ pub(crate) fn addresses_sound(t: &[u8], m: usize, n: usize, p: u32) -> bool
     n <= m && addresses_ok(t, n, p) && distinct_below(t, n, p) && rows_zero(t, n, m)
 }
 
-// Whether row `k` and the rows behind it, of which `used` tells, are all used.
-pub(crate) fn used_from(t: &[u8], k: usize, used: bool) -> bool
-    requires { HasRow t.now k }
-    ensures { result ≡ is_used (row_at t.now k) && used }
-{
-    row::is_used(t, k) && used
-}
-
 // Whether row `k` of `d` is a sound block row by itself; `used` tells whether the rows behind it are all used.
 pub(crate) fn row_ok(t: &[u8], d: usize, k: usize, used: bool) -> bool
     requires k_lt_d { (k < d) × (length t.now ≡ table_bytes d) }
@@ -91,7 +83,8 @@ pub(crate) fn rows_ok(t: &[u8], d: usize) -> bool
         if !row_ok(t, d, k, used) {
             return false;
         }
-        used = used_from(t, k, used);
+        // Behind a used row that passes, all rows are used.
+        used = row::is_used(t, k);
     }
     true
 }

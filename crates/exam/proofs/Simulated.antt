@@ -89,7 +89,8 @@ module _ {F : Type 0} (same : F → F → Bool) (content : ℕ → F) (q : Quest
       (has-four c (cq.small a l) v.cached_is ∙ sym (has-told same content c (content a) v.told (all_tell a l v.told v.told_some))
       ∙ ap (has same (λ x. x) (content a)) (sym v.told_is))
 
-  next-same : (s : State) (p : Printed F) (a : ℕ) → a < q.blocks → Same s p → Same (next_small q s a (pick q.contents a)) (printed_next same q.rows q.slots content p a)
+  next-same : (s : State) (p : Printed F) (a : ℕ) → a < q.blocks → Same s p
+      → Same (next_small q s a (pick q.contents a)) (printed_next same q.rows q.slots content p a)
   unfolding next_small printed_next
   next-same s p a l v =
       let c = pick q.contents a in

@@ -1,4 +1,5 @@
 // What a line prints, put into the output. Each function gives the index after its text.
+// The output and the index stay two parameters: fixed memory, lent by the caller.
 #![tactic(auto)]
 
 ghost use Rattle.std.specs.Prelude.{◌++◌, ◌+◌, ◌≤◌, length};

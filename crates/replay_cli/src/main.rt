@@ -180,8 +180,8 @@ fn last(
     f
 }
 
-// Replays the input to its end. A proved loop has to end, and nothing says that the input does, so the loop counts its turns down from a number
-// that no run uses up.
+// Replays the input to its end. A proved loop has to end, and nothing says that the input does, so the loop counts its turns up to a number
+// that no run comes to.
 fn all(
     rt: &(impl Input + Print + Eprint + AllocGlobal),
     chunk: &mut [u8],
@@ -197,13 +197,12 @@ fn all(
         (memory result line.new disk.new flash.new addresses.new blocks.new out.new) }
 {
     let mut s = feed::begin();
-    let mut more = true;
-    let mut turns = u64::MAX;
-    while 0 < turns && more {
-        turns -= 1;
+    for _turn in 0..u64::MAX {
         let t = turn(rt, s, chunk, line, disk, flash, addresses, blocks, out);
         s = t.session;
-        more = goes_on(t.count, s.stage);
+        if !goes_on(t.count, s.stage) {
+            return s;
+        }
     }
     s
 }

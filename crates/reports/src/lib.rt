@@ -2,6 +2,7 @@
 #![tactic(auto)]
 
 ghost use Rattle.std.specs.Prelude.{◌≡◌, ◌*◌, ◌≤◌, length};
+ghost use Rattle.refusal.specs.Numbers.{number_of};
 ghost use Rattle.tables.specs.Rows.{table_bytes, HasRow};
 ghost use Rattle.paper.specs.Cache.{Counters};
 ghost use Rattle.paper.specs.Reports.{width};
@@ -11,6 +12,7 @@ ghost use Rattle.reports.specs.Contract.{reader_of, reports};
 ghost use Rattle.reports.specs.RowByRow.{row_in, rows_in};
 
 use parts::{BoxRecord, rows};
+use refusal::Refusal;
 use tables::row;
 
 // Whose report it is.
@@ -65,24 +67,13 @@ pub fn report(
     addresses: &[u8],
     blocks: &[u8],
     report: &mut [u8],
-) -> u32
-    ensures { (k : Counters) → record { number = result; report = report.new }
+) -> Result<(), Refusal>
+    ensures { (k : Counters) → record { number = number_of result; report = report.new }
         ≡ reports (reader_of reader) (numbers_of b) (lent b disk.now flash.now addresses.now blocks.now k)
         report.old }
 {
     let bytes = width_of(reader);
-    let number = refusals::report::of_report(
-        b,
-        bytes,
-        report.len(),
-        disk,
-        flash,
-        addresses,
-        blocks,
-    );
-    if number != 0 {
-        return number;
-    }
+    refusals::report::of_report(b, bytes, report.len(), disk, flash, addresses, blocks)?;
     fill(addresses, b.rows, b.held, bytes, report);
-    0
+    Ok(())
 }

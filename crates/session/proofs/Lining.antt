@@ -12,7 +12,7 @@ use Rattle.print.specs.Put.{Put}
 use Rattle.print.specs.Texts.{answer_text}
 use Rattle.answers.specs.Replay.{box_refusal, box_numbers, started}
 use Rattle.session.specs.declared.Stage.{Stage}
-use Rattle.session.specs.declared.Stage.TheVariants.{Before, Open, Over}
+use Rattle.session.specs.declared.Stage.TheVariants.{Open, Over}
 use Rattle.session.specs.Bytewise.{State, first_line}
 use Rattle.answers.specs.Done.{record_of}
 use Rattle.session.specs.Memory.{Buffers, Held, held, over, Memory, FedMemory, code_counters, stored}

@@ -42,7 +42,8 @@ pub extern "C" fn tables_probe_refused(
     ensures { result ≡ refused p m n d addresses.now blocks.now }
 {
     let mut heads = [0u16; index::ENTRIES];
-    sound::tables_refused(addresses, m, n, p, blocks, d, &mut heads)
+    let refused = sound::tables_refused(addresses, m, n, p, blocks, d, &mut heads);
+    refusal::number(&refused)
 }
 
 // Whether both tables are sound. If so, `heads`, 0 everywhere at first, is the block table's index.
@@ -61,7 +62,7 @@ fn passed(
     ensures sound { result ≡ true → Passed p m n d addresses.now blocks.now }
     ensures indexed { result ≡ true → Indexed d blocks.now heads.new }
 {
-    sound::tables_refused(addresses, m, n, p, blocks, d, heads) == 0
+    sound::tables_refused(addresses, m, n, p, blocks, d, heads).is_ok()
 }
 
 // The index of the block row of held row `k`, 256 where its fingerprint isn't cached.

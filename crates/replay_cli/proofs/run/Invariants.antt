@@ -1,5 +1,5 @@
 -- After each byte the memory is that of the definition, and at most a page waits. Assumes nothing.
-use Rattle.std.proofs.Common.{◌≡◌, ◌-◌, ◌≤◌, length}
+use Rattle.std.proofs.Common.{◌≡◌, ◌≤◌, length}
 use Rattle.session.specs.Memory.{memory}
 use Rattle.replay_cli.specs.Chunks.{fed_first}
 use Rattle.replay_cli.proofs.run.Given as goal

@@ -6,7 +6,8 @@ use Rattle.tables.specs.SoundLaws.{filled-with}
 use Rattle.parts.specs.Rep.{numbers_of}
 use Rattle.refusals.specs.Given.{counters_of, lent}
 use Rattle.saving.specs.Given.{told}
-use Rattle.saving.specs.SaveLaws.{save-refused, lru-flush-0, writable-after, save-served}
+use Rattle.image.proofs.BoxLaws.{lru-flush-0}
+use Rattle.saving.specs.SaveLaws.{save-refused, writable-after, save-served}
 use Rattle.saving.proofs.save.Goals as goal
 
 pub save_refusal-requires : goal.save_refusal-requires
