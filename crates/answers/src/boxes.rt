@@ -24,6 +24,7 @@ pub fn box_of(c: Option<Command>) -> BoxRecord
 }
 
 // Refuses a box that replay doesn't open.
+#[tactic(auto, unfolding(crate::specs::Replay::large))]
 pub fn too_large(b: BoxRecord) -> Result<(), Refusal>
     requires { (b.size ≤ 4294967295) × (b.blocks ≤ 4294967295) × (b.slots ≤ 4294967295) }
     ensures { number_of result ≡ large (numbers_of b) }
@@ -41,6 +42,7 @@ pub fn too_large(b: BoxRecord) -> Result<(), Refusal>
 }
 
 // Refuses a line 1 that opens no box.
+#[tactic(auto, unfolding(crate::specs::Replay::box_refusal))]
 pub fn box_refusal(c: Option<Command>) -> Result<(), Refusal>
     ensures { number_of result ≡ box_refusal c }
 {

@@ -102,6 +102,7 @@ fn unformed(b: BoxRecord, c: Counters) -> Outcome<Answered, BoxRecord>
 }
 
 // The call of a line, of any form.
+#[tactic(auto, unfolding(crate::specs::Replay::asked, crate::specs::Replay::doing))]
 pub fn call(
     line: Option<Command>,
     b: BoxRecord,

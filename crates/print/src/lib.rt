@@ -46,6 +46,7 @@ fn named(out: &mut [u8], at: usize, s: &[u8], n: u64) -> usize
 }
 
 // The letter and the address of a call.
+#[tactic(auto, unfolding(crate::specs::Texts::ask_text))]
 fn ask(out: &mut [u8], at: usize, c: Option<Command>) -> usize
     requires { at + 23 ≤ length out.old }
     ensures upper_bound { result ≤ at + 23 }
@@ -64,6 +65,7 @@ fn ask(out: &mut [u8], at: usize, c: Option<Command>) -> usize
 }
 
 // The word of an answer.
+#[tactic(auto, unfolding(crate::specs::Texts::word_text))]
 fn word(out: &mut [u8], at: usize, w: Word) -> usize
     requires { at + 7 ≤ length out.old }
     ensures upper_bound { result ≤ at + 7 }
@@ -115,6 +117,7 @@ fn answered(out: &mut [u8], at: usize, number: u64, c: Option<Command>, a: Answe
 }
 
 // The line of an answer.
+#[tactic(auto, unfolding(crate::specs::Texts::answer_text))]
 pub fn answer(
     out: &mut [u8],
     at: usize,
