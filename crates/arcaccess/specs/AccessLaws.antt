@@ -110,7 +110,8 @@ module _ (a : ArcRecord) (disk flash addresses blocks lists : List ℕ) (c : Cod
       (w.1, w.4, w.2, w.3, w.5, refl, refl, r.long, w.6)
 
   -- its counts fit
-  pub counts-fit : over (counters_of c) ≡ false → (r h f p : ℕ) → r ≤ 1 → h ≤ 1 → f ≤ 1 → p ≤ 2 + m_of (sizes_of a) + m_of (sizes_of a) → m_of (sizes_of a) ≤ 1024
+  pub counts-fit : over (counters_of c) ≡ false
+      → (r h f p : ℕ) → r ≤ 1 → h ≤ 1 → f ≤ 1 → p ≤ 2 + m_of (sizes_of a) + m_of (sizes_of a) → m_of (sizes_of a) ≤ 1024
       → (c.reads + r < 2 ^ 64) × (c.hits + h < 2 ^ 64) × (c.flash + f < 2 ^ 64) × (c.primary + p < 2 ^ 64)
   counts-fit o r h f p lr lh lf lp lm =
       let x = not-over (counters_of c) o in

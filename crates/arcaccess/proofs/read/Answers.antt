@@ -12,7 +12,8 @@ use Rattle.policy.specs.CallLaws.{all-bytes, said-is, hit-counted, read-block, o
 use Rattle.arcrefusals.specs.Given.{sizes_of, base_of}
 use Rattle.arccalls.specs.Contract.{arc_told}
 use Rattle.arccalls.specs.BaseLaws.{arc-refused}
-use Rattle.arcaccess.specs.AccessLaws.{outcome, box-sound, box-held, lists-held, accesses, counts-fit, most-rows, none_over, small-numbers, access-told, read-says}
+use Rattle.arcaccess.specs.AccessLaws.{outcome, box-sound, box-held, lists-held, accesses, counts-fit, most-rows}
+use Rattle.arcaccess.specs.AccessLaws.{none_over, small-numbers, access-told, read-says}
 use Rattle.arcaccess.proofs.read.Goals as goal
 
 pub arc_access-requires : goal.arc_access-requires
