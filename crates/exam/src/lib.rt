@@ -12,16 +12,11 @@ ghost use Rattle.parts.specs.Rep.{numbers_of};
 ghost use Rattle.exam.specs.Scores as Paper;
 ghost use Rattle.exam.specs.Small.{empty};
 ghost use Rattle.exam.specs.Contract.{counts_bytes, wrong_lent, too_large, question_refusal, question, told};
+ghost use Rattle.refusal.specs.Numbers.{number_of};
 
 use parts::BoxRecord;
+use refusal::Refusal;
 use search::{Question, State};
-
-// The number of a refusal, 0 where there is none, and how many lists have 0, 1, up to 8 hits.
-#[derive(Clone, Copy)]
-pub struct Tally {
-    pub number: u32,
-    pub counts: [u64; 9],
-}
 
 // The bytes that are lent for the nine counts.
 pub const COUNTS: usize = 72;
@@ -56,22 +51,28 @@ pub(crate) fn too_large(b: BoxRecord, k: usize) -> bool
 }
 
 // Refusals 1, 12, 2 and 17.
-pub(crate) fn refusal(b: BoxRecord, label: &[u8], disk: &[u8], k: usize, room: usize) -> u32
-    ensures { result ≡ question_refusal (with_label (numbers_of b) label.now) disk.now k room }
+pub(crate) fn refusal(
+    b: BoxRecord,
+    label: &[u8],
+    disk: &[u8],
+    k: usize,
+    room: usize,
+) -> Result<(), Refusal>
+    ensures { number_of result ≡ question_refusal (with_label (numbers_of b) label.now) disk.now k room }
 {
     if refusals::numbers_unfit(b) {
-        return 1;
+        return Err(Refusal::Outside);
     }
     if refusals::limit_unfit(b) {
-        return 12;
+        return Err(Refusal::BadLimit);
     }
     if lengths_wrong(b, label, disk, room) {
-        return 2;
+        return Err(Refusal::WrongLength);
     }
     if too_large(b, k) {
-        return 17;
+        return Err(Refusal::TooLarge);
     }
-    0
+    Ok(())
 }
 
 // No address held, no block cached.
@@ -99,7 +100,7 @@ pub(crate) fn counts(b: BoxRecord, disk: &[u8], k: usize) -> [u64; 9]
     search::search(q, fresh(), k as u8)
 }
 
-// How many lists of k reads have each number of hits, from a fresh D-LRU box of these numbers and this label over this disk.
+// How many lists of k reads have 0, 1, up to 8 hits, from a fresh D-LRU box of these numbers and this label over this disk.
 // `room` is how many bytes are lent for the counts.
 pub fn scores(
     size: usize,
@@ -111,20 +112,11 @@ pub fn scores(
     disk: &[u8],
     k: usize,
     room: usize,
-) -> Tally
+) -> Result<[u64; 9], Refusal>
     ensures { told result
         ≡ question (record { B = size; P = blocks; m = rows; d = slots; label = label.now; t = limit }) disk.now k room }
 {
     let b = parts::empty_box(size, blocks, rows, slots, limit, [0u8; 64]);
-    let no = refusal(b, label, disk, k, room);
-    if no != 0 {
-        return Tally {
-            number: no,
-            counts: [0; 9],
-        };
-    }
-    Tally {
-        number: 0,
-        counts: counts(open::with_label(b, label), disk, k),
-    }
+    refusal(b, label, disk, k, room)?;
+    Ok(counts(open::with_label(b, label), disk, k))
 }

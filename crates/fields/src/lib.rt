@@ -1,10 +1,11 @@
 // Numbers in bytes: the fields of the state and of an answer.
 #![tactic(auto)]
 
-ghost use Rattle.std.specs.Prelude.{◌≡◌, ◌+◌, ◌*◌, ◌≤◌, ◌<◌, ◌^◌, cond, eqb, length};
+ghost use Rattle.std.specs.Prelude.{◌≡◌, ◌+◌, ◌*◌, ◌≤◌, ◌<◌, ◌^◌, length};
+ghost use Rattle.refusal.specs.Numbers.{number_of};
 ghost use Rattle.refusals.specs.Given.{counters_of};
 ghost use Rattle.policy.specs.Contract.{word_of, answer_of, many_answer_of};
-ghost use Rattle.open.specs.Contract.{opening_number};
+ghost use Rattle.look.specs.Look.{numbered};
 ghost use Rattle.block.specs.Blocks.{part, splice};
 ghost use Rattle.tables.specs.Rows.{le8};
 ghost use Rattle.fields.specs.Fields.{low_bytes, state_bytes, record_in, counters_in, put8, put_state, put_label, put_record, put_answer, put_many, counts_after};
@@ -13,10 +14,10 @@ ghost use Rattle.fields.specs.Noted.{noted, noted_many, state_opened, start_of, 
 
 use counters::Counters;
 use look::Place;
-use open::{Begun, Opening};
+use outcome::Outcome;
 use parts::BoxRecord;
-use policy::calls::Outcome;
-use policy::{Answer, Word, many};
+use policy::{Answered, Batch, Word};
+use refusal::Refusal;
 use tables::SourceAddress;
 
 // The number in the eight bytes from index `at` on, little-endian.
@@ -160,54 +161,37 @@ pub fn word_number(w: Word) -> u64
 }
 
 // Writes what a call tells into the state and the answer. The number of the refusal, 0 where the call was served.
-pub fn write_outcome(state: &mut [u8], answer: &mut [u8], o: Outcome) -> u32
+pub fn write_outcome(state: &mut [u8], answer: &mut [u8], o: Outcome<Answered, BoxRecord>) -> u32
     requires { (length state.old ≡ state_bytes) × (length answer.old ≡ 24) }
     ensures { record { number = result; state = state.new; answer = answer.new }
         ≡ noted (answer_of o.answer) o.box_record.held (counters_of o.counters) state.old answer.old }
 {
-    let a = o.answer;
     let b = o.box_record;
-    let c = o.counters;
-    match a {
-        Answer::Refused(k) => k,
-        Answer::Answered(w, f, p) => {
-            put_state(state, b.held, c);
-            put_answer(answer, word_number(w), f, p);
+    match o.answer {
+        Err(r) => u32::from(r),
+        Ok(a) => {
+            put_state(state, b.held, o.counters);
+            put_answer(answer, word_number(a.word), a.flashed, a.primary);
             0
         }
     }
 }
 
 // The same of a folder read.
-pub fn write_many(state: &mut [u8], answer: &mut [u8], o: many::Outcome) -> u32
+pub fn write_many(state: &mut [u8], answer: &mut [u8], o: Outcome<Batch, BoxRecord>) -> u32
     requires { (length state.old ≡ state_bytes) × (length answer.old ≡ 32) }
     ensures { record { number = result; state = state.new; answer = answer.new }
         ≡ noted_many (many_answer_of o.answer) o.box_record.held (counters_of o.counters) state.old answer.old }
 {
-    let a = o.answer;
     let b = o.box_record;
-    let c = o.counters;
-    match a {
-        many::Answer::Refused(k) => k,
-        many::Answer::Batched(h, f, p, n) => {
-            put_state(state, b.held, c);
-            put_many(answer, h, f, p, n);
+    match o.answer {
+        Err(r) => u32::from(r),
+        Ok(a) => {
+            put_state(state, b.held, o.counters);
+            put_many(answer, a.hits, a.flashed, a.primary, a.fetches);
             0
         }
     }
-}
-
-// Writes n of an opening into the state, and the counters where it was served.
-pub(crate) fn put_opening(state: &mut [u8], number: u32, held: usize, c: Counters)
-    requires { length state.old ≡ state_bytes }
-    ensures state_after { state.new ≡ cond (eqb number 0) (put_state held (counters_of c) state.old) (put8 32 held state.old) }
-    ensures state_len { length state.new ≡ state_bytes }
-{
-    if number == 0 {
-        put_state(state, held, c);
-        return;
-    }
-    put8(state, 32, held as u64);
 }
 
 // Writes a label into the state.
@@ -235,45 +219,38 @@ pub fn put_record(state: &mut [u8], b: BoxRecord)
 }
 
 // Writes what an opening tells into the state: n and the label, and the counters where it was served. The number of the refusal, 0 where the box is open.
-pub fn write_opening(state: &mut [u8], o: Begun) -> u32
+pub fn write_opening(state: &mut [u8], o: Outcome<(), BoxRecord>) -> u32
     requires { length state.old ≡ state_bytes }
-    ensures { (result ≡ opening_number o.answer) × (state.new ≡ state_opened (opening_number o.answer) o.box_record.held
+    ensures { (result ≡ number_of o.answer) × (state.new ≡ state_opened (number_of o.answer) o.box_record.held
         (counters_of o.counters) o.box_record.label state.old) }
 {
-    let a = o.answer;
     let b = o.box_record;
-    let c = o.counters;
-    let number = opening_number(a);
-    put_opening(state, number, b.held, c);
-    put_label(state, b.label);
-    number
-}
-
-// The number of an opening's answer.
-fn opening_number(a: Opening) -> u32
-    ensures { result ≡ opening_number a }
-{
-    match a {
-        Opening::Refused(k) => k,
-        Opening::Open => 0,
+    match o.answer {
+        Ok(()) => put_state(state, b.held, o.counters),
+        Err(_) => put8(state, 32, b.held as u64),
     }
+    put_label(state, b.label);
+    refusal::number(&o.answer)
 }
 
 // Writes the place of a look's part into the answer. The number of the refusal, 0 where the look was served.
-pub fn write_place(answer: &mut [u8], size: usize, address: SourceAddress, p: Place) -> u32
-    requires { (length answer.old ≡ 24) × (start_of size address.0 p < 2 ^ 64) }
-    ensures { record { number = result; answer = answer.new } ≡ noted_place size address.0 answer.old p }
+pub fn write_place(
+    answer: &mut [u8],
+    size: usize,
+    address: SourceAddress,
+    p: Result<Place, Refusal>,
+) -> u32
+    requires { (length answer.old ≡ 24) × (start_of size address.0 (numbered p) < 2 ^ 64) }
+    ensures { record { number = result; answer = answer.new } ≡ noted_place size address.0 answer.old (numbered p) }
 {
     match p {
-        Place::Refused(k) => k,
-        Place::Flash(s) => {
-            let k = s.0;
-            put_answer(answer, 5, k as usize * size, size);
+        Err(r) => u32::from(r),
+        Ok(Place::Flash(s)) => {
+            put_answer(answer, 5, s.0 as usize * size, size);
             0
         }
-        Place::Disk => {
-            let a = address.0;
-            put_answer(answer, 6, a as usize * size, size);
+        Ok(Place::Disk) => {
+            put_answer(answer, 6, address.0 as usize * size, size);
             0
         }
     }

@@ -11,9 +11,10 @@ use Rattle.counters.specs.declared.Counters as Code
 use Rattle.paper.specs.KeyedLaws.{and_left, and_right}
 use Rattle.paper.specs.Lent.{Ask, lent_block}
 use Rattle.parts.specs.declared.BoxRecord.{BoxRecord}
-use Rattle.policy.specs.declared.calls.Outcome.{Outcome}
+use Rattle.policy.specs.declared.Answered.{Answered}
+use Rattle.policy.specs.declared.Batch.{Batch}
+use Rattle.outcome.specs.declared.Outcome.{Outcome}
 use Rattle.refusals.specs.Given.{counters_of, lent}
-use Rattle.policy.specs.declared.many.Outcome as Many
 use Rattle.policy.specs.Contract.{answer_of, Told, told, called, many_answer_of, ToldMany, told_many, called_many}
 use Rattle.fields.specs.Fields.{record_in, counters_in, fitting, state_bytes}
 use Rattle.fields.specs.Noted.{Noted, noted, noted_many}
@@ -38,7 +39,7 @@ module _ (q : Ask) (s disk flash addresses blocks l : List ℕ) where
 
   -- the cache's call on the record and the counters read, and what is written of it
   pub changed : fitting 24 s l ≡ true → (b : BoxRecord) (c : Code.Counters) → b ≡ record_in s → c ≡ counters_in s
-      → (r : Outcome) (disk' flash' addresses' blocks' : List ℕ) (one : Option (List ℕ))
+      → (r : Outcome Answered BoxRecord) (disk' flash' addresses' blocks' : List ℕ) (one : Option (List ℕ))
       → told r disk' flash' addresses' blocks' one ≡ called b (lent b disk flash addresses blocks (counters_of c)) q
       → (number : ℕ) (s' l' : List ℕ)
       → ◌≡◌ {A = Noted} (record { number = number; state = s'; answer = l' }) (noted (answer_of r.answer) r.box_record.held (counters_of r.counters) s l)
@@ -61,7 +62,7 @@ module _ (q f s disk flash addresses blocks l : List ℕ) where
   many-unchanged h = rw h refl
 
   pub many-changed : fitting 32 s l ≡ true → (b : BoxRecord) (c : Code.Counters) → b ≡ record_in s → c ≡ counters_in s
-      → (r : Many.Outcome) (disk' flash' addresses' blocks' f' : List ℕ)
+      → (r : Outcome Batch BoxRecord) (disk' flash' addresses' blocks' f' : List ℕ)
       → told_many r disk' flash' addresses' blocks' f' ≡ called_many b (lent b disk flash addresses blocks (counters_of c)) q f
       → (number : ℕ) (s' l' : List ℕ)
       → ◌≡◌ {A = Noted} (record { number = number; state = s'; answer = l' })

@@ -7,9 +7,10 @@ use borrow.Author.Tests.{eq-eqb, ne_eqb}
 use Rattle.counters.specs.declared.Counters as Code
 use Rattle.parts.specs.declared.BoxRecord.{BoxRecord}
 use Rattle.parts.specs.Rep.{empty_box}
-use Rattle.open.specs.declared.Begun.{Begun}
+use Rattle.outcome.specs.declared.Outcome.{Outcome}
+use Rattle.refusal.specs.Numbers.{number_of}
 use Rattle.refusals.specs.Given.{counters_of}
-use Rattle.open.specs.Contract.{opening_number, Opened, begun, opens}
+use Rattle.open.specs.Contract.{Opened, begun, opens}
 use Rattle.fields.specs.Fields.{record_in, counters_in, state_bytes}
 use Rattle.fields.specs.Noted.{state_opened}
 use Rattle.service.specs.Left.{LeftOpen, fresh_record, opened_in, leaves_open}
@@ -22,9 +23,9 @@ module _ (label s disk flash addresses blocks : List ℕ) where
 
   -- the cache's opening on the numbers and the counters read, and what is written of it
   pub opened : length s ≡ state_bytes → (b : BoxRecord) (c : Code.Counters) → b ≡ record_in s → c ≡ counters_in s
-      → (o : Begun) (addresses' blocks' : List ℕ)
+      → (o : Outcome (Unit {0}) BoxRecord) (addresses' blocks' : List ℕ)
       → begun o disk flash addresses' blocks' ≡ opens (empty_box b.size b.blocks b.rows b.slots b.limit label) disk flash addresses blocks (counters_of c)
-      → (number : ℕ) (s' : List ℕ) → number ≡ opening_number o.answer → s' ≡ state_opened (opening_number o.answer) o.box_record.held (counters_of o.counters) o.box_record.label s
+      → (number : ℕ) (s' : List ℕ) → number ≡ number_of o.answer → s' ≡ state_opened (number_of o.answer) o.box_record.held (counters_of o.counters) o.box_record.label s
       → ◌≡◌ {A = LeftOpen} (record { number = number; state = s'; addresses = addresses'; blocks = blocks' }) (leaves_open label s disk flash addresses blocks)
   unfolding leaves_open opened_in
   opened h b c eb ec o addresses' blocks' e number s' en es =

@@ -3,18 +3,22 @@ use mathlib.Core.Path.{◌≡◌, refl, ap, ◌∙◌}
 use mathlib.Core.Bool.{true, false}
 use mathlib.Core.List.{List}
 use Prim.Native.Nat.{ℕ}
+use Rattle.std.specs.Prelude.{Result}
 use lib.ListN.{length}
 use borrow.Author.Tests.{eq-eqb, ne_eqb}
 use Rattle.counters.specs.declared.Counters as Code
 use Rattle.parts.specs.declared.BoxRecord.{BoxRecord}
-use Rattle.policy.specs.declared.calls.Outcome.{Outcome}
+use Rattle.policy.specs.declared.Answered.{Answered}
+use Rattle.outcome.specs.declared.Outcome.{Outcome}
 use Rattle.policy.specs.Contract.{answer_of}
 use Rattle.refusals.specs.Given.{counters_of, lent}
 use Rattle.image.specs.Kinds.{kinds}
 use Rattle.image.specs.Saved.{restore}
 use Rattle.saving.specs.Given.{Told, told, saved_by}
-use Rattle.arcrefusals.specs.declared.ArcRecord.{ArcRecord}
-use Rattle.restoring.specs.Given.{Left, left}
+use Rattle.restoring.specs.declared.Restored.{Restored}
+use Rattle.restoring.specs.Given.{records_of, Left, left}
+use Rattle.refusal.specs.declared.Refusal.{Refusal}
+use Rattle.refusal.specs.Numbers.{number_of}
 use Rattle.fields.specs.Fields.{record_in, counters_in, put_record, fitting, state_bytes}
 use Rattle.fields.specs.Noted.{Noted, noted}
 use Rattle.service.specs.Left.{lent_in}
@@ -29,7 +33,7 @@ module _ (s disk flash addresses blocks area l : List ℕ) where
 
   -- the save of the record and the counters read, and what is written of it
   pub saved : fitting 24 s l ≡ true → (b : BoxRecord) (c : Code.Counters) → b ≡ record_in s → c ≡ counters_in s
-      → (r : Outcome) (disk' flash' addresses' blocks' area' : List ℕ)
+      → (r : Outcome Answered BoxRecord) (disk' flash' addresses' blocks' area' : List ℕ)
       → told r disk' flash' addresses' blocks' area' ≡ saved_by b (lent b disk flash addresses blocks (counters_of c)) area
       → (number : ℕ) (s' l' : List ℕ)
       → ◌≡◌ {A = Noted} (record { number = number; state = s'; answer = l' })
@@ -62,17 +66,26 @@ module _ (s area addresses blocks lists : List ℕ) where
   unfolding leaves_restore
   not-restored h = rw (ne_eqb (length s) state_bytes h) refl
 
-  pub restored : length s ≡ state_bytes → (number : ℕ) (b : BoxRecord) (c : ArcRecord) (s' area' addresses' blocks' lists' : List ℕ)
-      → ◌≡◌ {A = Left} (record { number = number; given = b; arc = c; area = area'; addresses = addresses'; blocks = blocks'; lists = lists' })
+  pub restored : length s ≡ state_bytes → (r : Result Restored Refusal) (area' addresses' blocks' lists' : List ℕ)
+      → ◌≡◌ {A = Left}
+      (record {
+        number = number_of r;
+        given = (records_of r).box_record;
+        arc = (records_of r).arc_record;
+        area = area';
+        addresses = addresses';
+        blocks = blocks';
+        lists = lists';
+      })
       (left (restore kinds area addresses blocks lists))
-      → s' ≡ put_record b s
+      → (number : ℕ) (s' : List ℕ) → number ≡ number_of r → s' ≡ put_record (records_of r).box_record s
       → ◌≡◌ {A = LeftRestore} (record { number = number; state = s'; area = area'; addresses = addresses'; blocks = blocks'; lists = lists' })
       (leaves_restore s area addresses blocks lists)
   unfolding leaves_restore restored_in
-  restored h number b c s' area' addresses' blocks' lists' e es =
+  restored h r area' addresses' blocks' lists' e number s' en es =
       rw (eq-eqb (length s) state_bytes h)
       (◌∙◌ {A = LeftRestore}
-      (λ i. record { number = number; state = es i; area = area'; addresses = addresses'; blocks = blocks'; lists = lists' })
+      (λ i. record { number = en i; state = es i; area = area'; addresses = addresses'; blocks = blocks'; lists = lists' })
       (ap (λ (x : Left). record {
         number = x.number;
         state = put_record x.given s;

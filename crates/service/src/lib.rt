@@ -314,7 +314,8 @@ fn held_report(
         return 2;
     }
     let b = fields::record_in(state);
-    reports::report(reader, b, disk, flash, addresses, blocks, report)
+    let told = reports::report(reader, b, disk, flash, addresses, blocks, report);
+    refusal::number(&told)
 }
 
 // The manager's report: address, dirty byte and seat of each held row.
@@ -400,7 +401,7 @@ pub extern "C" fn mindavehu_scores(
         ≡ leaves_scores (record { B = size; P = blocks; m = rows; d = slots; label = label.now; t = limit }) disk.now k
         counts.old }
 {
-    let t = exam::scores(
+    let told = exam::scores(
         size,
         blocks,
         rows,
@@ -411,7 +412,14 @@ pub extern "C" fn mindavehu_scores(
         k,
         counts.len(),
     );
-    let c = t.counts;
-    fields::put_counts(counts, c);
-    t.number
+    match told {
+        Ok(c) => {
+            fields::put_counts(counts, c);
+            0
+        }
+        Err(r) => {
+            fields::put_counts(counts, [0; 9]);
+            u32::from(r)
+        }
+    }
 }

@@ -57,8 +57,14 @@ pub extern "C" fn mindavehu_restore(
     if state.len() != fields::STATE {
         return 2;
     }
-    let r = restoring::restore(area, addresses, blocks, lists);
-    let b = r.box_record;
-    fields::put_record(state, b);
-    r.number
+    match restoring::restore(area, addresses, blocks, lists) {
+        Ok(r) => {
+            fields::put_record(state, r.box_record);
+            0
+        }
+        Err(r) => {
+            fields::put_record(state, parts::empty_box(0, 0, 0, 0, 0, [0; 64]));
+            u32::from(r)
+        }
+    }
 }

@@ -12,5 +12,5 @@ returns-then-state-ne-STATE c =
 pub returns : goal.returns
 returns c =
     let a = c.args in
-    reported (reader_of a.reader) a.state.now a.disk.now a.flash.now a.addresses.now a.blocks.now a.report.now c.if-state-ne-STATE.false
-    c.record_in-b.result c.record_in-b.ensures _ c.report.ensures
+    rw c.number.ensures (reported (reader_of a.reader) a.state.now a.disk.now a.flash.now a.addresses.now a.blocks.now a.report.now c.if-state-ne-STATE.false
+    c.record_in-b.result c.record_in-b.ensures _ c.report-told.ensures)

@@ -7,6 +7,7 @@ use lib.ListN.{length}
 use Rattle.std.proofs.Common.{rules}
 use borrow.Author.Tests.{not-true, not-false}
 use Rattle.paper.specs.RowBytes.{Bytes}
+use Rattle.look.specs.Look.{numbered}
 use Rattle.policy.specs.CallLaws.{all-bytes}
 use Rattle.fields.specs.Fields.{fitting}
 use Rattle.fields.specs.FieldLaws.{get8-below}
@@ -46,7 +47,7 @@ write_place-requires c =
     let a = c.args in
     let f : length a.flash.now < 2 ^ 64 = c.well_formed.1.1.1.0.0 in
     let d : length a.disk.now < 2 ^ 64 = c.well_formed.1.1.0.0 in
-    ((lengths _ _ _ fits).1, starts-below a.address a.state.now a.disk.now a.flash.now a.addresses.now a.blocks.now a.answer.now c.record_in-b.result c.record_in-b.ensures c.place_of-p.result c.place_of-p.ensures bytes_a bytes_b f d)
+    ((lengths _ _ _ fits).1, starts-below a.address a.state.now a.disk.now a.flash.now a.addresses.now a.blocks.now a.answer.now c.record_in-b.result c.record_in-b.ensures (numbered c.place_of-p.result) c.place_of-p.ensures bytes_a bytes_b f d)
 
 pub returns : goal.returns
 returns c =
@@ -58,7 +59,7 @@ returns c =
     let ld : length a.disk.now < 2 ^ 64 = c.well_formed.1.1.0.0 in
     let below = get8-below a.state.now 0 (λ i. omega (arith, c.shared_slice_known-1.given i)) in
     record {
-      answer_after = looked a.address a.state.now a.disk.now a.flash.now a.addresses.now a.blocks.now a.answer.now c.record_in-b.result c.record_in-b.ensures c.place_of-p.result c.place_of-p.ensures fits _ _ c.write_place.ensures;
-      shows = λ h. looked-shows a.address a.state.now a.disk.now a.flash.now a.addresses.now a.blocks.now a.answer.now c.record_in-b.result c.record_in-b.ensures c.place_of-p.result c.place_of-p.ensures h _ _ c.write_place.ensures
+      answer_after = looked a.address a.state.now a.disk.now a.flash.now a.addresses.now a.blocks.now a.answer.now c.record_in-b.result c.record_in-b.ensures (numbered c.place_of-p.result) c.place_of-p.ensures fits _ _ c.write_place.ensures;
+      shows = λ h. looked-shows a.address a.state.now a.disk.now a.flash.now a.addresses.now a.blocks.now a.answer.now c.record_in-b.result c.record_in-b.ensures (numbered c.place_of-p.result) c.place_of-p.ensures h _ _ c.write_place.ensures
           bytes_a bytes_b (lengths _ _ _ h).1 below lf ld;
     }

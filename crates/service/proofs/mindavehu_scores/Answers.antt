@@ -1,16 +1,23 @@
 -- What is told, with its counts written. Assumes nothing.
-use mathlib.Core.Path.{ap, ◌∙◌}
-use mathlib.Core.List.{List}
-use Prim.Native.Nat.{ℕ}
-use Rattle.std.proofs.Common.{rules}
-use Rattle.exam.specs.Contract.{Counted}
+use Rattle.std.specs.Prelude.{List, ℕ}
+use Rattle.std.proofs.Common.{sym, ap, ◌∙◌}
+use Rattle.exam.specs.Contract.{Counted, told}
 use Rattle.fields.specs.Fields.{counts_after}
 use Rattle.service.specs.Left.{LeftScores, leaves_scores}
 use Rattle.service.proofs.mindavehu_scores.Goals as goal
 
-pub returns : goal.returns
+-- a question's number and counts, written
+abbrev written : List ℕ → Counted → LeftScores
+written s q = record { number = q.number; counts = counts_after q.counts s }
+
+pub returns-in-Ok : goal.returns-in-Ok
 unfolding leaves_scores
-returns c =
-    let s = c.args.counts.now in
-    ap {B = LeftScores} (λ (x : List ℕ). record { number = c.scores-t.result.number; counts = x }) c.put_counts.ensures
-    ∙ ap {B = LeftScores} (λ (q : Counted). record { number = q.number; counts = counts_after q.counts s }) c.scores-t.ensures
+returns-in-Ok c =
+    ap {B = LeftScores} (λ (x : List ℕ). record { number = 0; counts = x }) c.put_counts.ensures
+    ∙ ap (written c.args.counts.now) (ap told (sym c.in-Ok.is) ∙ c.scores-told.ensures)
+
+pub returns-in-Err : goal.returns-in-Err
+unfolding leaves_scores
+returns-in-Err c =
+    ◌∙◌ {A = LeftScores} (λ i. record { number = c.from.ensures i; counts = c.put_counts-in-Err.ensures i })
+    (ap (written c.args.counts.now) (ap told (sym c.in-Err.is) ∙ c.scores-told.ensures))
