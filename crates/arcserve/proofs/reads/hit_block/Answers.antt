@@ -1,9 +1,8 @@
 -- The block copied is that of the row's fingerprint. Assumes nothing.
-use mathlib.Core.Path.{sym, ap, ◌∙◌}
+use mathlib.Core.Path.{ap, ◌∙◌}
 use Prim.Native.Nat.{ℕ, ◌<◌}
 use native.Mathlib.Omega.{arith}
 use lib.ListN.{get_or}
-use Rattle.std.proofs.Common.{rules}
 use Rattle.parts.specs.Rep.{numbers_of, no_row, engine}
 use Rattle.parts.specs.CopyLaws.{parts-length, block-ends, part-block, slot-some, slot_of-below}
 use Rattle.arcserve.proofs.reads.hit_block.Goals as goal

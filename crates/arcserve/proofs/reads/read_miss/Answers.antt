@@ -1,7 +1,6 @@
 -- The block copied is that of the disk; the read takes it. Assumes nothing.
 use mathlib.Core.Path.{sym, ◌∙◌}
 use lib.ListN.{get_or}
-use Rattle.std.proofs.Common.{rules}
 use Rattle.parts.specs.Rep.{engine}
 use Rattle.parts.specs.CopyLaws.{parts-length, block-ends, part-block}
 use Rattle.arcserve.proofs.reads.read_miss.Goals as goal
