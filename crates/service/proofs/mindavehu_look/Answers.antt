@@ -1,4 +1,4 @@
--- A wrong length: `not-looked`. Else the record is read, the place is found and written, and shows the paper's part: `looked`, `looked-shows`. Assumes nothing.
+-- The place's start is a number of 64 bits, and what is written of it shows the paper's part: `starts-below`, `looked-shows`. Assumes nothing.
 use mathlib.Core.Path.{sym, ◌∙◌}
 use native.Mathlib.Omega.{arith}
 use Rattle.policy.specs.CallLaws.{all-bytes}
