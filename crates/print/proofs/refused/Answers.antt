@@ -6,7 +6,7 @@ use Rattle.print.proofs.refused.Goals as goal
 pub returns : goal.returns
 returns c =
     let f = c.decimal-a.ensures in
-    let p = c.named-b.ensures in
+    let p = rw c.from.ensures at c.named-b.ensures in
     let e = c.text.ensures in
     record {
       upper_bound = omega arith;

@@ -13,5 +13,5 @@ returns c =
     let bt = all-bytes a.blocks.now (λ i. omega (arith, c.type_inv.blocks i)) in
     record {
       box_record_value = refl;
-      blocks_value = look-done c.look-answer.result a.b a.disk.now a.flash.now a.addresses.now a.blocks.now (counters_of a.c) a.a.0 ba bt (c.look-answer.ensures (counters_of a.c));
+      blocks_value = look-done c.look.result a.b a.disk.now a.flash.now a.addresses.now a.blocks.now (counters_of a.c) a.a.0 ba bt (c.look.ensures (counters_of a.c));
     }

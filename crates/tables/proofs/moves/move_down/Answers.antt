@@ -1,7 +1,7 @@
 use lib.ListN.{length-drop, length, get_or, drop, length-set}
-use lib.Seq.{paste-zero, get_or-drop}
+use lib.Seq.{paste-zero, get_or-drop, paste}
 use Rattle.tables.specs.PasteLaws.{paste-turn, paste-done, get_d-paste-after}
-use Prim.Native.Nat.{◌+◌, ◌<◌}
+use Prim.Native.Nat.{◌+◌, ◌-◌, ◌≤◌, ◌<◌}
 use mathlib.Core.Path.{◌≡◌, refl}
 use native.Mathlib.Omega.{arith}
 use Rattle.std.proofs.Common.{rules}

@@ -1,8 +1,11 @@
 -- The first k bytes have been moved. A byte is read before it is written over. Assumes nothing.
-use lib.ListN.{length, drop}
-use lib.Seq.{paste}
-use Prim.Native.Nat.{◌≤◌}
-use mathlib.Core.Path.{◌≡◌}
+use lib.ListN.{length-drop, length, get_or, drop, length-set}
+use lib.Seq.{paste-zero, get_or-drop, paste}
+use Rattle.tables.specs.PasteLaws.{paste-turn, paste-done, get_d-paste-after}
+use Prim.Native.Nat.{◌+◌, ◌-◌, ◌≤◌, ◌<◌}
+use mathlib.Core.Path.{◌≡◌, refl}
+use native.Mathlib.Omega.{arith}
+use Rattle.std.proofs.Common.{rules}
 use Rattle.tables.proofs.moves.move_down.Given as goal
 
 abbrev pub invariant-loop-k : goal.invariant-loop-k

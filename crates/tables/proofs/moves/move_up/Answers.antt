@@ -1,8 +1,9 @@
 use Rattle.tables.specs.PasteLaws.{paste-turn-down, paste-done-down, get_d-paste-before, paste_none}
-use Prim.Native.Nat.{◌+◌, ◌-◌}
+use Prim.Native.Nat.{◌+◌, ◌-◌, ◌≤◌}
 use mathlib.Core.Path.{◌≡◌, refl}
 use native.Mathlib.Omega.{arith}
-use lib.ListN.{get_or, drop, length-set}
+use lib.ListN.{length, get_or, drop, length-set}
+use lib.Seq.{paste}
 use Rattle.std.proofs.Common.{rules}
 use Rattle.tables.proofs.moves.move_up.Goals as goal
 

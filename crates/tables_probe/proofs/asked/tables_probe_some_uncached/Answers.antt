@@ -9,7 +9,6 @@ use Rattle.tables.specs.Index.{cached_in}
 use Rattle.tables_probe.specs.Probe.{if_sound}
 use Rattle.tables_probe.proofs.Answers.{blank}
 use Rattle.tables_probe.proofs.asked.tables_probe_some_uncached.Goals as goal
-use Rattle.tables_probe.proofs.asked.tables_probe_some_uncached.Goals.{then-n-ne0, else-n-ne0}
 
 -- of none, all are cached
 none-held : (p : List ℕ → Bool) (t : List ℕ) (n : ℕ) → n ≡ 0 → all p (rows n t) ≡ true
