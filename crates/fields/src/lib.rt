@@ -8,8 +8,8 @@ ghost use Rattle.policy.specs.Contract.{word_of, answer_of, many_answer_of};
 ghost use Rattle.look.specs.Look.{numbered};
 ghost use Rattle.block.specs.Blocks.{part, splice};
 ghost use Rattle.tables.specs.Rows.{le8};
-ghost use Rattle.fields.specs.Fields.{low_bytes, state_bytes, record_in, counters_in, put8, put_state, put_label, put_record, put_answer, put_many, counts_after};
-ghost use Rattle.fields.specs.Fields.{word_number, fitting};
+ghost use Rattle.fields.specs.Fields.{low_bytes, state_bytes, record_in, counters_in, put8, put_state, put_label, put_record};
+ghost use Rattle.fields.specs.Fields.{put_answer, put_many, counts_after, word_number, fitting};
 ghost use Rattle.fields.specs.Noted.{noted, noted_many, state_opened, start_of, noted_place};
 
 use counters::Counters;

@@ -3,6 +3,7 @@ ghost use Rattle.std.specs.Prelude.{◌≡◌};
 ghost use Rattle.service.specs.LeftWarm.{leaves_save, leaves_restore};
 
 // Flushes the box and writes its image into `area`.
+#[tactic(auto, unfolding(fields::specs::Fields::fitting, crate::specs::LeftWarm::leaves_save, crate::specs::LeftWarm::saved_in))]
 #[unsafe(no_mangle)]
 pub extern "C" fn mindavehu_save(
     state: &mut [u8],
@@ -36,6 +37,7 @@ pub extern "C" fn mindavehu_save(
 }
 
 // Gives back the box whose image is in `area`, and clears the image's header. The counters in `state` are kept.
+#[tactic(auto, unfolding(crate::specs::LeftWarm::leaves_restore, crate::specs::LeftWarm::restored_in, tables::specs::Rows::zeros))]
 #[unsafe(no_mangle)]
 pub extern "C" fn mindavehu_restore(
     state: &mut [u8],

@@ -8,7 +8,7 @@ use Rattle.paper.specs.Machines.{content_of}
 use Rattle.parts.specs.declared.BoxRecord.{BoxRecord}
 use Rattle.parts.specs.Rep.{relabelled}
 use Rattle.exam.specs.Scores.{scores}
-use Rattle.exam.proofs.QuestionLaws.{Posed, posed}
+use Rattle.exam.proofs.QuestionLaws.{posed}
 use Rattle.exam.proofs.Answers.{of-record, refused-answer, posed-answer}
 use Rattle.exam.proofs.scores.Goals as goal
 

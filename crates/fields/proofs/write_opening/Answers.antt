@@ -13,6 +13,7 @@ returns c =
       | in-Ok w ↦ (c.number.ensures, c.put_label.ensures ∙ ap (put_label label) (w.state-is ∙ w.put_state.ensures ∙ rw w.in-Ok.is refl))
       | in-Err w ↦ (
         c.number.ensures,
-        c.put_label.ensures ∙ ap (put_label label) (w.state-is ∙ w.put8.ensures ∙ rw (w.in-Err.is, ne_eqb (code w.in-Err.field-0) 0 (refused w.in-Err.field-0)) refl),
+        c.put_label.ensures
+            ∙ ap (put_label label) (w.state-is ∙ w.put8.ensures ∙ rw (w.in-Err.is, ne_eqb (code w.in-Err.field-0) 0 (refused w.in-Err.field-0)) refl),
       )
     ]
