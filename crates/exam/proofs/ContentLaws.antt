@@ -113,7 +113,7 @@ module _ (label disk : List ℕ) where
   print = print_at label disk
 
   pick-contents : (P a : ℕ) → P ≤ 4 → a < P → pick (contents_of label disk P) a ≡ first_with same print a
-  unfolding contents_of
+  unfolding contents_of pick
   pick-contents P zero l h = rw (lt-ltb 0 P (omega arith)) refl
   pick-contents P (suc zero) l h = rw (lt-ltb 1 P (omega arith)) refl
   pick-contents P (suc (suc zero)) l h = rw (lt-ltb 2 P (omega arith)) refl

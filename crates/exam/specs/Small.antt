@@ -18,15 +18,19 @@ kept room x = cond room x 4
 abbrev pub has_four : List ℕ → ℕ → Bool
 has_four l k = list_any (λ x. eqb x k) l
 
-abbrev pub pick : List ℕ → ℕ → ℕ
-pick l a = get_or l a 0
+abbrev pub place : List ℕ → ℕ → ℕ
+place l i = get_or l i 0
+
+-- number a of the four, and the newest for each a from 3 on
+unfoldable pub pick : List ℕ → ℕ → ℕ
+pick l a = get_or l a (place l 3)
 
 unfoldable pub put_four : List ℕ → (n k : ℕ) → List ℕ
 put_four l n k =
-    cond (eqb k (pick l 3)) l
-    (cond (eqb k (pick l 2)) (four (pick l 0) (pick l 1) (pick l 3) k)
-    (cond (eqb k (pick l 1)) (four (pick l 0) (pick l 2) (pick l 3) k)
-    (four (kept (ltb 3 n) (pick l 1)) (kept (ltb 2 n) (pick l 2)) (kept (ltb 1 n) (pick l 3)) k)))
+    cond (eqb k (place l 3)) l
+    (cond (eqb k (place l 2)) (four (place l 0) (place l 1) (place l 3) k)
+    (cond (eqb k (place l 1)) (four (place l 0) (place l 2) (place l 3) k)
+    (four (kept (ltb 3 n) (place l 1)) (kept (ltb 2 n) (place l 2)) (kept (ltb 1 n) (place l 3)) k)))
 
 -- ---- the contents of the addresses, each told by the first address that has it
 
