@@ -1,24 +1,16 @@
--- A run of one byte grows by a byte, and a disk by a block. By the laws of `take` over a store and over a part put back.
+-- A disk grows by a block. By the laws of `take` over a part put back.
 use mathlib.Core.Path.{◌≡◌, sym, ap, ap₂, ◌∙◌, subst}
-use mathlib.Core.List.{List, [], ◌∷◌, ◌++◌, append_assoc}
+use mathlib.Core.List.{List, ◌++◌, append_assoc}
 use Prim.Native.Nat.{ℕ, suc, ◌+◌, ◌-◌, ◌*◌, ◌≤◌, ◌<◌}
 use native.Mathlib.Nat.{suc-mul, mul-le-mul, le_refl}
 use native.Mathlib.Omega.{arith}
-use lib.ListN.{length, take, drop, set, replicate, length-replicate, replicate-append-replicate, length-drop, length-append, take-append-drop}
-use lib.Seq.{take-suc-set, take_all, take_at, length-take-le}
+use lib.ListN.{length, take, drop, replicate, length-replicate, length-drop, length-append, take-append-drop}
+use lib.Seq.{take_at, length-take-le}
 use borrow.Rule.Slice.PartMut.{put_mid}
 use Rattle.answers.specs.Replay.{start_disk}
 
 one_more : (k : ℕ) → k + 1 ≡ suc k
 one_more k = omega arith
-
-pub fill-next : (s : List ℕ) (i x : ℕ) → i < length s → take i s ≡ replicate i x → take (i + 1) (set s i x) ≡ replicate (i + 1) x
-fill-next s i x h e = ap (λ k. take k (set s i x)) (one_more i) ∙ take-suc-set s i x h ∙ ap (λ l. l ++ (x ∷ [])) e ∙ replicate-append-replicate i 1 x
-
-pub fill_done : (s : List ℕ) (i n x : ℕ) → n ≤ i → i ≤ length s → length s ≡ n → take i s ≡ replicate i x → s ≡ replicate n x
-fill_done s i n x h g l e =
-    let j : i ≡ n = omega arith in
-    sym (take_all n s (omega arith)) ∙ ap (λ k. take k s) (sym j) ∙ e ∙ ap (λ k. replicate k x) j
 
 -- block k lies within a disk of so many blocks
 pub block_in_lem : (k n size : ℕ) → k < n → k * size + size ≤ n * size
@@ -48,9 +40,3 @@ length-mid at n d s e =
     ∙ ap (λ k. length (take at d) + k) (length-append s (drop n (drop at d)) ∙ ap (λ k. k + length (drop n (drop at d))) e ∙ sym (length-append (take n (drop at d)) (drop n (drop at d))) ∙ ap length (take-append-drop n (drop at d)))
     ∙ sym (length-append (take at d) (drop at d))
     ∙ ap length (take-append-drop at d)
-
--- the whole disk
-pub disk-done : (d : List ℕ) (k n size : ℕ) → n ≤ k → k ≤ n → length d ≡ n * size → take (k * size) d ≡ start_disk size k → d ≡ start_disk size n
-disk-done d k n size h g l e =
-    let j : k ≡ n = omega arith in
-    sym (take_all (n * size) d (subst (λ m. m ≤ n * size) (sym l) (le_refl (n * size)))) ∙ ap (λ i. take (i * size) d) (sym j) ∙ e ∙ ap (start_disk size) j

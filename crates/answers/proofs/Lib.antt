@@ -1,4 +1,3 @@
 pub mod Doing
 pub mod Filling
 pub mod Starting
-pub mod Checking

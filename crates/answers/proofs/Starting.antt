@@ -12,7 +12,7 @@ use Rattle.parts.specs.declared.BoxRecord.{BoxRecord}
 use Rattle.parts.specs.Rep.{numbers_of}
 use Rattle.refusals.specs.Given.{counters_of, lent}
 use Rattle.open.specs.Contract.{Opened, begun, opens}
-use Rattle.open.specs.declared.Begun.{Begun}
+use Rattle.outcome.specs.declared.Outcome.{Outcome}
 use Rattle.answers.specs.Replay.{Opening, start_disk, started}
 use Rattle.answers.specs.Done.{record_of}
 use Rattle.tables.specs.Rows.{table_bytes}
@@ -21,7 +21,7 @@ lengths-right : (N : Numbers) (t : Lent) → length t.disk ≡ N.P * N.B → len
 unfolding wrong_buffers
 lengths-right N t a b c d l = rw (eq-eqb (length N.label) 64 l, eq-eqb (length t.disk) (N.P * N.B) a, eq-eqb (length t.flash) (N.d * N.B) b, eq-eqb (length t.addresses) (table_bytes N.m) c, eq-eqb (length t.blocks) (table_bytes N.d) d)
 
-pub start_is : (r : Begun) (b : BoxRecord) (d f a' t' a t : List ℕ) (k : Counters) → Opening (numbers_of b)
+pub start_is : (r : Outcome (Unit {0}) BoxRecord) (b : BoxRecord) (d f a' t' a t : List ℕ) (k : Counters) → Opening (numbers_of b)
     → length d ≡ b.blocks * b.size → length f ≡ b.slots * b.size → length a ≡ table_bytes b.rows → length t ≡ table_bytes b.slots → length b.label ≡ 64
     → d ≡ start_disk b.size b.blocks → f ≡ replicate (b.slots * b.size) 0
     → begun r d f a' t' ≡ opens (record_of (numbers_of b) 0) d f a t k

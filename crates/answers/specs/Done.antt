@@ -3,12 +3,13 @@ use Rattle.std.specs.Prelude.{List, ℕ}
 use Rattle.parts.specs.declared.BoxRecord.{BoxRecord}
 use Rattle.refusals.specs.Given.{counters_of, lent}
 use Rattle.policy.specs.Contract.{answer_of}
-use Rattle.policy.specs.declared.calls.Outcome.{Outcome}
+use Rattle.policy.specs.declared.Answered.{Answered}
+use Rattle.outcome.specs.declared.Outcome.{Outcome}
 use Rattle.paper.specs.Cache.{Numbers}
 use Rattle.answers.specs.Replay.{Done}
 
 -- what a call of the code answers, and what is lent after it
-abbrev pub done_of : Outcome → (disk flash addresses blocks : List ℕ) → Done
+abbrev pub done_of : Outcome Answered BoxRecord → (disk flash addresses blocks : List ℕ) → Done
 done_of r disk flash addresses blocks
     = record { answer = answer_of r.answer; lent = lent r.box_record disk flash addresses blocks (counters_of r.counters) }
 

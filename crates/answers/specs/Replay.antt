@@ -1,11 +1,10 @@
 -- The replay: from the whole input to the whole output. Assumes nothing.
-use Rattle.std.specs.Prelude.{◌≡◌, false, ◌||◌, cond, List, [], ◌∷◌, ◌++◌, ℕ, zero, suc, ◌+◌, ◌*◌, ◌%◌, ◌^◌, eqb, ltb, replicate}
-use Rattle.std.proofs.Math.Option.{Option, none, some}
+use Rattle.std.specs.Prelude.{◌≡◌, Option, Some, None, false, ◌||◌, cond, List, [], ◌∷◌, ◌++◌, ℕ, zero, suc, ◌+◌, ◌*◌, ◌%◌, ◌^◌, eqb, ltb, replicate}
 use Rattle.paper.specs.Cache.{Numbers, no_counts}
 use Rattle.paper.specs.Lent.{Lent, Ask, Answer, refused, unfit, limit_outside, fresh, call}
 use Rattle.lines.specs.Lines.{lines, parsed}
 use Rattle.lines.specs.declared.Command.{Command}
-use Rattle.lines.specs.declared.Command.TheVariants.{Box, Read, Look, Flush, Through, Back, Invalidate, Unformed}
+use Rattle.lines.specs.declared.Command.TheVariants.{Box, Read, Look, Flush, Through, Back, Invalidate}
 use Rattle.print.specs.Texts.{answer_text, counters_text}
 
 -- ---- the box line
@@ -23,25 +22,25 @@ unfoldable pub large : Numbers → ℕ
 large N = cond (ltb 256 N.P || ltb 16384 (N.P * N.B) || ltb 16384 (N.d * N.B)) 5 0
 
 -- "In replay 4 comes before all, 5 right after 1." The number of line 1's refusal, 0 where the box is opened.
-unfoldable pub box_refusal : Command → ℕ
-box_refusal (Box B P m d) = cond (unfit (numbers B P m d)) 1 (large (numbers B P m d))
-box_refusal (Read a) = 4
-box_refusal (Look a) = 4
-box_refusal Flush = 4
-box_refusal (Through a x) = 4
-box_refusal (Back a x) = 4
-box_refusal (Invalidate a x) = 4
-box_refusal Unformed = 4
+unfoldable pub box_refusal : Option Command → ℕ
+box_refusal (Some (Box B P m d)) = cond (unfit (numbers B P m d)) 1 (large (numbers B P m d))
+box_refusal (Some (Read a)) = 4
+box_refusal (Some (Look a)) = 4
+box_refusal (Some Flush) = 4
+box_refusal (Some (Through a x)) = 4
+box_refusal (Some (Back a x)) = 4
+box_refusal (Some (Invalidate a x)) = 4
+box_refusal None = 4
 
-abbrev pub box_numbers : Command → Numbers
-box_numbers (Box B P m d) = numbers B P m d
-box_numbers (Read a) = numbers 0 0 0 0
-box_numbers (Look a) = numbers 0 0 0 0
-box_numbers Flush = numbers 0 0 0 0
-box_numbers (Through a x) = numbers 0 0 0 0
-box_numbers (Back a x) = numbers 0 0 0 0
-box_numbers (Invalidate a x) = numbers 0 0 0 0
-box_numbers Unformed = numbers 0 0 0 0
+abbrev pub box_numbers : Option Command → Numbers
+box_numbers (Some (Box B P m d)) = numbers B P m d
+box_numbers (Some (Read a)) = numbers 0 0 0 0
+box_numbers (Some (Look a)) = numbers 0 0 0 0
+box_numbers (Some Flush) = numbers 0 0 0 0
+box_numbers (Some (Through a x)) = numbers 0 0 0 0
+box_numbers (Some (Back a x)) = numbers 0 0 0 0
+box_numbers (Some (Invalidate a x)) = numbers 0 0 0 0
+box_numbers None = numbers 0 0 0 0
 
 -- "Disk block k starts filled with byte k."
 unfoldable pub start_disk : ℕ → ℕ → List ℕ
@@ -55,15 +54,15 @@ started N = fresh N (record { n = 0; disk = start_disk N.B N.P; flash = replicat
 -- ---- a later line
 
 -- the call that a line asks for: "a block of B bytes hh"; a read is lent a block of zeros; a flush is the full one; U7: writes carry a seat, "0 in replay"
-unfoldable pub asked : Numbers → Command → Option Ask
-asked N (Read a) = some (Ask.read a (replicate N.B 0))
-asked N (Look a) = some (Ask.look a)
-asked N Flush = some (Ask.flush N.m)
-asked N (Through a x) = some (Ask.through a (replicate N.B x) 0)
-asked N (Back a x) = some (Ask.back a (replicate N.B x) 0)
-asked N (Invalidate a x) = some (Ask.invalidate a (replicate N.B x) 0)
-asked N (Box b p m d) = none
-asked N Unformed = none
+unfoldable pub asked : Numbers → Option Command → Option Ask
+asked N (Some (Read a)) = Some (Ask.read a (replicate N.B 0))
+asked N (Some (Look a)) = Some (Ask.look a)
+asked N (Some Flush) = Some (Ask.flush N.m)
+asked N (Some (Through a x)) = Some (Ask.through a (replicate N.B x) 0)
+asked N (Some (Back a x)) = Some (Ask.back a (replicate N.B x) 0)
+asked N (Some (Invalidate a x)) = Some (Ask.invalidate a (replicate N.B x) 0)
+asked N (Some (Box b p m d)) = None
+asked N None = None
 
 -- what the line answers, and what is lent after it; "4: a replay line isn't of the form below"
 pub record Done : Type 0 where
@@ -71,8 +70,8 @@ pub record Done : Type 0 where
   pub lent : Lent
 
 unfoldable pub doing : Numbers → Lent → Option Ask → Done
-doing N t none = record { answer = refused 4; lent = t }
-doing N t (some q) = record { answer = (call N t q).answer; lent = (call N t q).lent }
+doing N t None = record { answer = refused 4; lent = t }
+doing N t (Some q) = record { answer = (call N t q).answer; lent = (call N t q).lent }
 
 -- ---- the whole
 

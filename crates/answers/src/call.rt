@@ -1,19 +1,19 @@
 // The call that a line asks for, in slices of the box's lengths.
-ghost use Rattle.std.specs.Prelude.{◌≡◌, ◌≤◌, replicate};
-ghost use Rattle.std.proofs.Math.Option.{Option};
+ghost use Rattle.std.specs.Prelude.{◌≡◌, ◌≤◌, Some, Err, replicate};
 ghost use Rattle.paper.specs.Lent.{Ask};
 ghost use Rattle.parts.specs.Rep.{numbers_of};
 ghost use Rattle.refusals.specs.Given.{counters_of, lent};
 ghost use Rattle.policy.specs.Contract.{ask_of};
-ghost use Rattle.policy.specs.declared.Answer.TheVariants.{Refused};
+ghost use Rattle.refusal.specs.declared.Refusal.TheVariants.{Unformed};
 ghost use Rattle.answers.specs.Replay.{asked, doing};
 ghost use Rattle.answers.specs.Done.{done_of};
 
 use counters::Counters;
 use lines::Command;
+use outcome::Outcome;
 use parts::BoxRecord;
-use policy::Answer;
-use policy::calls::Outcome;
+use policy::Answered;
+use refusal::Refusal;
 use serve::Write;
 use tables::SourceAddress;
 
@@ -26,12 +26,12 @@ fn read(
     addresses: &mut [u8],
     blocks: &mut [u8],
     c: Counters,
-) -> Outcome
+) -> Outcome<Answered, BoxRecord>
     requires { b.size ≤ 4096 }
     ensures box_record_value { numbers_of result.box_record ≡ numbers_of b }
     ensures blocks_after { done_of result disk.new flash.new addresses.new blocks.new
         ≡ doing (numbers_of b) (lent b disk.old flash.old addresses.old blocks.old (counters_of c))
-        (Option.some (Ask.read a.0 (replicate b.size 0))) }
+        (Some (Ask.read a.0 (replicate b.size 0))) }
 {
     let mut block = [0u8; 4096];
     let size = b.size;
@@ -49,12 +49,12 @@ fn write(
     addresses: &mut [u8],
     blocks: &mut [u8],
     c: Counters,
-) -> Outcome
+) -> Outcome<Answered, BoxRecord>
     requires { b.size ≤ 4096 }
     ensures box_record_value { numbers_of result.box_record ≡ numbers_of b }
     ensures blocks_after { done_of result disk.new flash.new addresses.new blocks.new
         ≡ doing (numbers_of b) (lent b disk.old flash.old addresses.old blocks.old (counters_of c))
-        (Option.some (ask_of kind a.0 (replicate b.size x) 0)) }
+        (Some (ask_of kind a.0 (replicate b.size x) 0)) }
 {
     let block = [x; 4096];
     let size = b.size;
@@ -81,41 +81,37 @@ fn look(
     addresses: &[u8],
     blocks: &[u8],
     c: Counters,
-) -> Outcome
+) -> Outcome<Answered, BoxRecord>
     ensures box_record_value { numbers_of result.box_record ≡ numbers_of b }
     ensures blocks_value { done_of result disk.now flash.now addresses.now blocks.now
         ≡ doing (numbers_of b) (lent b disk.now flash.now addresses.now blocks.now (counters_of c))
-        (Option.some (Ask.look a.0)) }
+        (Some (Ask.look a.0)) }
 {
-    let answer = look::look(b, a, disk, flash, addresses, blocks);
     Outcome {
-        answer: answer,
+        answer: look::look(b, a, disk, flash, addresses, blocks),
         box_record: b,
         counters: c,
     }
 }
 
 // A line that asks for no call: 4, and all as it was.
-fn unformed(b: BoxRecord, c: Counters) -> Outcome
-    ensures { result ≡ record { answer = Refused 4; box_record = b; counters = c } }
+fn unformed(b: BoxRecord, c: Counters) -> Outcome<Answered, BoxRecord>
+    ensures { result ≡ record { answer = Err Unformed; box_record = b; counters = c } }
 {
-    Outcome {
-        answer: Answer::Refused(4),
-        box_record: b,
-        counters: c,
-    }
+    outcome::refused(Refusal::Unformed, b, c)
 }
 
 // The call of a line, of any form.
+#[tactic(auto, unfolding(crate::specs::Replay::asked, crate::specs::Replay::doing))]
 pub fn call(
-    line: Command,
+    line: Option<Command>,
     b: BoxRecord,
     disk: &mut [u8],
     flash: &mut [u8],
     addresses: &mut [u8],
     blocks: &mut [u8],
     c: Counters,
-) -> Outcome
+) -> Outcome<Answered, BoxRecord>
     requires { b.size ≤ 4096 }
     ensures box_record_value { numbers_of result.box_record ≡ numbers_of b }
     ensures blocks_after { done_of result disk.new flash.new addresses.new blocks.new
@@ -123,10 +119,10 @@ pub fn call(
         (asked (numbers_of b) line) }
 {
     match line {
-        Command::Read(a) => read(b, SourceAddress(a), disk, flash, addresses, blocks, c),
-        Command::Look(a) => look(b, SourceAddress(a), disk, flash, addresses, blocks, c),
-        Command::Flush => policy::calls::flush(b, disk, flash, addresses, blocks, c),
-        Command::Through(a, x) => write(
+        Some(Command::Read(a)) => read(b, SourceAddress(a), disk, flash, addresses, blocks, c),
+        Some(Command::Look(a)) => look(b, SourceAddress(a), disk, flash, addresses, blocks, c),
+        Some(Command::Flush) => policy::calls::flush(b, disk, flash, addresses, blocks, c),
+        Some(Command::Through(a, x)) => write(
             Write::Through,
             b,
             SourceAddress(a),
@@ -137,7 +133,7 @@ pub fn call(
             blocks,
             c,
         ),
-        Command::Back(a, x) => write(
+        Some(Command::Back(a, x)) => write(
             Write::Back,
             b,
             SourceAddress(a),
@@ -148,7 +144,7 @@ pub fn call(
             blocks,
             c,
         ),
-        Command::Invalidate(a, x) => write(
+        Some(Command::Invalidate(a, x)) => write(
             Write::Invalidate,
             b,
             SourceAddress(a),
@@ -159,7 +155,7 @@ pub fn call(
             blocks,
             c,
         ),
-        Command::Box(_, _, _, _) => unformed(b, c),
-        Command::Unformed => unformed(b, c),
+        Some(Command::Box(_, _, _, _)) => unformed(b, c),
+        None => unformed(b, c),
     }
 }

@@ -6,18 +6,14 @@ ghost use Rattle.answers.specs.Replay.{Opening, start_disk, started};
 ghost use Rattle.tables.specs.Rows.{table_bytes};
 
 use counters::Counters;
-use open::Begun;
+use outcome::Outcome;
 use parts::BoxRecord;
 
 // Fills a slice with one byte.
 pub fn fill(s: &mut [u8], x: u8)
     ensures { s.new ≡ replicate (length s.old) x }
 {
-    let mut i = 0;
-    while i < s.len() {
-        s[i] = x;
-        i += 1;
-    }
+    s.fill(x);
 }
 
 // Fills block k of the disk with byte k.
@@ -25,12 +21,10 @@ fn fill_disk(disk: &mut [u8], size: usize, blocks: usize)
     requires { (size ≤ 4096) × (blocks ≤ 256) × (length disk.old ≡ blocks * size) }
     ensures { disk.new ≡ start_disk size blocks }
 {
-    let mut k = 0;
-    while k < blocks {
+    for k in 0..blocks {
         let at = k * size;
         let end = at + size;
         fill(&mut disk[at..end], k as u8);
-        k += 1;
     }
 }
 
@@ -41,7 +35,7 @@ pub fn start(
     flash: &mut [u8],
     addresses: &mut [u8],
     blocks: &mut [u8],
-) -> Begun
+) -> Outcome<(), BoxRecord>
     requires size_bound { (b.size ≤ 4096) × (b.blocks ≤ 256) × Opening (numbers_of b) }
     requires disk_len { (length disk.old ≡ b.blocks * b.size) × (length flash.old ≡ b.slots * b.size) × (length addresses.old ≡ table_bytes b.rows)
         × (length blocks.old ≡ table_bytes b.slots) }

@@ -1,5 +1,5 @@
 -- A read or a write of a D-ARC box that isn't refused: what it finds in the lent bytes, and what it tells when the step is done. Assumes nothing.
-use Rattle.std.specs.Prelude.{◌≡◌, List, [], Bool, true, false, ◌&&◌, ℕ, ◌+◌, ◌^◌, ◌≤◌, ◌<◌, get_or}
+use Rattle.std.specs.Prelude.{◌≡◌, List, [], Bool, true, false, ◌&&◌, ℕ, ◌+◌, ◌^◌, ◌≤◌, ◌<◌, get_or, Ok}
 use Rattle.std.proofs.Math.Path.{refl, sym, ◌∙◌}
 use Rattle.std.proofs.Common.{ap, subst, arith}
 use Rattle.std.proofs.Math.Bool.{cond}
@@ -18,7 +18,7 @@ use Rattle.arc.specs.Policy.{Served, answered_by, read_by, through_by, back_by, 
 use Rattle.serve.specs.declared.Write.{Write}
 use Rattle.serve.specs.declared.Write.TheVariants.{Through, Back, Invalidate}
 use Rattle.serve.specs.Calls.{is_yes, writing}
-use Rattle.arc.specs.Arc.{Sizes, Lists, base_numbers, m_of, arc}
+use Rattle.arc.specs.Arc.{Sizes, Lists, m_of, arc}
 use Rattle.arc.specs.ArcStep.{ArcSound}
 use Rattle.arc.specs.ArcLent.{ArcLent, ListRecord, words, total_of, arc_refusal, arc_lent_of, arc_served}
 use Rattle.arc.proofs.ArcLentLaws.{length-words-in}
@@ -29,7 +29,6 @@ use Rattle.arclists.specs.Holding.{Holds}
 use Rattle.parts.specs.Rep.{Rep, with_held, engine}
 use Rattle.refusals.specs.Given.{counters_of}
 use Rattle.policy.specs.declared.Word as CodeWord
-use Rattle.policy.specs.declared.Answer.TheVariants.{Answered}
 use Rattle.policy.specs.Contract.{word_of, ask_of}
 use Rattle.policy.specs.CallLaws.{rep, access, said-is, no_hit, asks_write}
 use Rattle.arcserve.specs.ArcCalls.{ArcAccess, Serves}
@@ -111,7 +110,8 @@ module _ (a : ArcRecord) (disk flash addresses blocks lists : List ℕ) (c : Cod
       (w.1, w.4, w.2, w.3, w.5, refl, refl, r.long, w.6)
 
   -- its counts fit
-  pub counts-fit : over (counters_of c) ≡ false → (r h f p : ℕ) → r ≤ 1 → h ≤ 1 → f ≤ 1 → p ≤ 2 + m_of (sizes_of a) + m_of (sizes_of a) → m_of (sizes_of a) ≤ 1024
+  pub counts-fit : over (counters_of c) ≡ false
+      → (r h f p : ℕ) → r ≤ 1 → h ≤ 1 → f ≤ 1 → p ≤ 2 + m_of (sizes_of a) + m_of (sizes_of a) → m_of (sizes_of a) ≤ 1024
       → (c.reads + r < 2 ^ 64) × (c.hits + h < 2 ^ 64) × (c.flash + f < 2 ^ 64) × (c.primary + p < 2 ^ 64)
   counts-fit o r h f p lr lh lf lp lm =
       let x = not-over (counters_of c) o in
@@ -142,7 +142,8 @@ module _ (a : ArcRecord) (disk flash addresses blocks lists : List ℕ) (c : Cod
       → word_of w ≡ outcome.outcome.word → f ≡ outcome.outcome.flash_writes → p ≡ outcome.outcome.primary_writes
       → r ≡ one_if (is_read (call_of a.size q)) → h ≡ one_if (is_hit outcome.outcome.word) → one ≡ block_after q outcome.outcome.block
       → [] ≡ part_after q outcome.outcome.block
-      → arc_told (record { answer = Answered w f p; arc_record = moved a held s; counters = added c r h f p }) disk' flash' addresses' blocks' lists' one
+      → arc_told (record { answer = Ok (record { word = w; flashed = f; primary = p }); box_record = moved a held s; counters = added c r h f p })
+      disk' flash' addresses' blocks' lists' one
       ≡ arc_called a (arc_lent a disk flash addresses blocks lists (counters_of c)) q
   unfolding arc_served arc_lent_of lent_of addresses_of blocks_of counted
   access-told w held f p r h s disk' flash' addresses' blocks' lists' one b k ew ef ep er eh eo part =
@@ -220,8 +221,8 @@ module _ (a : ArcRecord) (disk flash addresses blocks lists : List ℕ) (c : Cod
       → Serves (base_of a) r disk' flash' addresses' blocks' lists' l l (on (writing kind x (fit a.size l) (bytes2 z)))
       → word_of w ≡ cond r.yes same_block new_block
       → arc_told (record {
-        answer = Answered w r.running.flashed r.running.primary;
-        arc_record = moved a r.running.held r.running.sizes;
+        answer = Ok (record { word = w; flashed = r.running.flashed; primary = r.running.primary });
+        box_record = moved a r.running.held r.running.sizes;
         counters = added c 0 0 r.running.flashed r.running.primary;
       }) disk' flash' addresses' blocks' lists' (some l)
       ≡ arc_called a (arc_lent a disk flash addresses blocks lists (counters_of c)) (ask_of kind x l z)

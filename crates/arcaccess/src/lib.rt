@@ -1,25 +1,24 @@
 // The calls of a D-ARC box that make its step, on lent bytes: each takes any numbers, any slices and any counters.
 #![tactic(auto)]
 
-ghost use Rattle.std.specs.Prelude.{◌≡◌, ◌+◌, ◌<◌, ◌^◌};
+ghost use Rattle.std.specs.Prelude.{◌≡◌, ◌+◌, ◌<◌, ◌^◌, Ok};
 ghost use Rattle.std.proofs.Math.Option.{Option};
 ghost use Rattle.paper.specs.Lent.{Ask};
 ghost use Rattle.counters.specs.Added.{added};
 ghost use Rattle.refusals.specs.Given.{counters_of};
-ghost use Rattle.policy.specs.declared.Answer.TheVariants.{Answered};
 ghost use Rattle.policy.specs.Contract.{ask_of};
 ghost use Rattle.arcrefusals.specs.Given.{arc_lent};
 ghost use Rattle.arccalls.specs.Contract.{arc_told, arc_called};
 ghost use Rattle.arcaccess.specs.AccessLaws.{moved};
 
-use arccalls::{ArcOutcome, refused};
 use arclists::ListSizes;
 use arcrefusals::{ArcRecord, base_of};
 use arcserve::{reads, writes};
 use arcstep::Running;
 use checks::index;
 use counters::Counters;
-use policy::{Answer, Word, calls};
+use outcome::{Outcome, refused};
+use policy::{Answered, Word, calls};
 use serve::Write;
 use tables::SourceAddress;
 
@@ -27,43 +26,43 @@ use tables::SourceAddress;
 fn moved_on(a: ArcRecord, t: Running) -> ArcRecord
     ensures { result ≡ moved a t.held t.sizes }
 {
-    let label = a.label;
     let own = a.sizes;
-    let s = t.sizes;
-    let sizes = ListSizes {
-        t1: s.t1,
-        t2: s.t2,
-        b1: s.b1,
-        b2: s.b2,
-        b3: s.b3,
-        p: s.p,
-        cached: own.cached,
-        extra: own.extra,
-    };
     ArcRecord {
-        size: a.size,
-        blocks: a.blocks,
         held: t.held,
-        label: label,
-        limit: a.limit,
-        sizes: sizes,
+        sizes: ListSizes {
+            cached: own.cached,
+            extra: own.extra,
+            ..t.sizes
+        },
+        ..a
     }
 }
 
 // What a served call gives back: its word, what it told, and the counters with its own counts.
-fn accessed(a: ArcRecord, w: Word, t: Running, c: Counters, reads: u64, hits: u64) -> ArcOutcome
+fn accessed(
+    a: ArcRecord,
+    w: Word,
+    t: Running,
+    c: Counters,
+    reads: u64,
+    hits: u64,
+) -> Outcome<Answered, ArcRecord>
     requires { (c.reads + reads < 2 ^ 64) × (c.hits + hits < 2 ^ 64) × (c.flash + t.flashed < 2 ^ 64) × (c.primary + t.primary < 2 ^ 64) }
     ensures { result ≡ record {
-      answer = Answered w t.flashed t.primary;
-      arc_record = moved a t.held t.sizes;
+      answer = Ok (record { word = w; flashed = t.flashed; primary = t.primary });
+      box_record = moved a t.held t.sizes;
       counters = added c reads hits t.flashed t.primary;
     } }
 {
     let k = counters::counted(c, reads, hits, t.flashed as u64, t.primary as u64);
-    let next = moved_on(a, t);
-    ArcOutcome {
-        answer: Answer::Answered(w, t.flashed, t.primary),
-        arc_record: next,
+    let answer = Answered {
+        word: w,
+        flashed: t.flashed,
+        primary: t.primary,
+    };
+    Outcome {
+        answer: Ok(answer),
+        box_record: moved_on(a, t),
         counters: k,
     }
 }
@@ -79,23 +78,21 @@ pub fn read(
     lists: &mut [u8],
     c: Counters,
     block: &mut [u8],
-) -> ArcOutcome
+) -> Outcome<Answered, ArcRecord>
     ensures { arc_told result disk.new flash.new addresses.new blocks.new lists.new
         (Option.some block.new)
         ≡ arc_called a (arc_lent a disk.old flash.old addresses.old blocks.old lists.old (counters_of c))
         (Ask.read asked.0 block.old) }
 {
     let mut heads = [0u16; index::ENTRIES];
-    let number = arcrefusals::calls::arc_access(
+    if let Err(r) = arcrefusals::calls::arc_access(
         a, asked, disk, flash, addresses, blocks, lists, c, block, &mut heads,
-    );
-    if number != 0 {
-        return refused(number, a, c);
+    ) {
+        return refused(r, a, c);
     }
-    let sizes = a.sizes;
     let b = base_of(a);
     let s = reads::serve_read(
-        b, sizes, asked, disk, flash, addresses, blocks, lists, block, &heads,
+        b, a.sizes, asked, disk, flash, addresses, blocks, lists, block, &heads,
     );
     let t = s.running;
     accessed(a, calls::read_word(s.yes), t, c, 1, calls::one_if(s.yes))
@@ -115,23 +112,21 @@ pub fn write(
     lists: &mut [u8],
     c: Counters,
     block: &[u8],
-) -> ArcOutcome
+) -> Outcome<Answered, ArcRecord>
     ensures { arc_told result disk.new flash.new addresses.new blocks.new lists.new
         (Option.some block.now)
         ≡ arc_called a (arc_lent a disk.old flash.old addresses.old blocks.old lists.old (counters_of c))
         (ask_of kind asked.0 block.now seat) }
 {
     let mut heads = [0u16; index::ENTRIES];
-    let number = arcrefusals::calls::arc_access(
+    if let Err(r) = arcrefusals::calls::arc_access(
         a, asked, disk, flash, addresses, blocks, lists, c, block, &mut heads,
-    );
-    if number != 0 {
-        return refused(number, a, c);
+    ) {
+        return refused(r, a, c);
     }
-    let sizes = a.sizes;
     let b = base_of(a);
     let s = writes::serve_write(
-        kind, b, sizes, asked, seat, disk, flash, addresses, blocks, lists, block, &heads,
+        kind, b, a.sizes, asked, seat, disk, flash, addresses, blocks, lists, block, &heads,
     );
     let t = s.running;
     accessed(a, calls::write_word(s.yes), t, c, 0, 0)

@@ -1,5 +1,5 @@
 -- A flush and a look of a D-ARC box are the base's on its tables, and leave the lists as they are. Assumes nothing.
-use Rattle.std.specs.Prelude.{◌≡◌, refl, true, false, ◌||◌, List, [], map, ℕ, ◌+◌, ◌*◌, ◌≤◌, ◌<◌, eqb, ltb, length, drop, get_or}
+use Rattle.std.specs.Prelude.{◌≡◌, refl, true, false, ◌||◌, List, [], map, ℕ, ◌+◌, ◌*◌, ◌≤◌, ◌<◌, eqb, ltb, length, drop, get_or, Err}
 use Rattle.std.proofs.Common.{sym, ap, ◌∙◌, subst, arith, eqb-true, ltb-false}
 use Rattle.std.proofs.Math.Option.{Option, none}
 use Rattle.std.proofs.lemmas.Bool.{not-false}
@@ -8,7 +8,7 @@ use Rattle.tables.specs.Unsound.{nonzero, addresses_unsound, dirty_uncached}
 use Rattle.tables.specs.Index.{Indexed}
 use Rattle.counters.specs.declared.Counters as Code
 use Rattle.paper.specs.KeyedLaws.{by-test, or-both, or-false-left, or-false-right}
-use Rattle.paper.specs.Cache.{Counters, serve}
+use Rattle.paper.specs.Cache.{serve}
 use Rattle.paper.specs.Engine.{labelled}
 use Rattle.paper.specs.Lent as Lent
 use Rattle.paper.specs.Lent.{Ask, calling, lent_block, wrong_buffers, wrong_block, other_length, refusal, call_of, served, call, After}
@@ -23,15 +23,17 @@ use Rattle.arc.proofs.ArcDemandLaws.{ArcPasses, found, served-is, arc-keeps}
 use Rattle.arc.proofs.ArcExactlyLaws.{arc-exactly}
 use Rattle.arc.proofs.ArcLentLaws.{length-words-in}
 use Rattle.refusals.specs.Given.{counters_of, lent}
-use Rattle.policy.specs.declared.calls.Outcome.{Outcome}
-use Rattle.policy.specs.declared.Answer.TheVariants.{Refused}
+use Rattle.outcome.specs.declared.Outcome.{Outcome}
+use Rattle.refusal.specs.declared.Refusal.{Refusal}
+use Rattle.refusal.specs.Numbers.{code}
+use Rattle.refusal.specs.Numbers as Refusals
+use Rattle.policy.specs.declared.Answered.{Answered}
 use Rattle.policy.specs.Contract.{told, called}
 use Rattle.parts.specs.declared.BoxRecord.{BoxRecord}
 use Rattle.parts.specs.Rep.{numbers_of}
 use Rattle.arcrefusals.specs.declared.ArcRecord.{ArcRecord}
 use Rattle.arcrefusals.specs.Given.{sizes_of, base_of, arc_lent}
 use Rattle.arcrefusals.specs.OpeningLaws.{unfit-base}
-use Rattle.arccalls.specs.declared.ArcOutcome.{ArcOutcome}
 use Rattle.arccalls.specs.Contract.{with_held, ArcTold, arc_told, arc_called}
 use Rattle.arccalls.specs.ListLaws.{record-found, bytes-found}
 
@@ -118,10 +120,10 @@ module _ (a : ArcRecord) (disk flash addresses blocks lists : List ℕ) (c : Cod
   t = arc_lent a disk flash addresses blocks lists (counters_of c)
 
   -- a refused call
-  pub arc-refused : (number : ℕ) → number ≡ arc_refusal Z t (calling q) → (number ≡ 0 → ⊥) → (one : Option (List ℕ)) → one ≡ lent_block q
-      → arc_told (record { answer = Refused number; arc_record = a; counters = c }) disk flash addresses blocks lists one ≡ arc_called a t q
-  arc-refused number e n one eo =
-      let last = sym (arc-keeps Z t q (λ z. n (e ∙ z))) in
+  pub arc-refused : (r : Refusal) → code r ≡ arc_refusal Z t (calling q) → (one : Option (List ℕ)) → one ≡ lent_block q
+      → arc_told (record { answer = Err r; box_record = a; counters = c }) disk flash addresses blocks lists one ≡ arc_called a t q
+  arc-refused r e one eo =
+      let last = sym (arc-keeps Z t q (λ z. Refusals.refused r (e ∙ z))) in
       ◌∙◌ {A = ArcTold}
       (λ i. record { numbers = Z; after = record { answer = Lent.refused (e i); lent = t; block = eo i; part = [] } })
       (λ i. record { numbers = Z; after = last i })
@@ -136,13 +138,14 @@ module _ (a : ArcRecord) (disk flash addresses blocks lists : List ℕ) (c : Cod
     base_index heads h = subst (λ (x : BoxRecord). Indexed x.slots blocks heads) (sym eb) h
 
     pub arc-told : arc_refusal Z t (calling q) ≡ 0 → Keeps Z t q → ((i : ℕ) → get_or lists i 0 < 256) → (disk' flash' addresses' blocks' : List ℕ)
-        (one : Option (List ℕ)) (o : Outcome) → told o disk' flash' addresses' blocks' one ≡ called b (lent b disk flash addresses blocks (counters_of c)) q
-        → (r : ArcOutcome) → r ≡ record { answer = o.answer; arc_record = with_held a o.box_record.held; counters = o.counters }
+        (one : Option (List ℕ)) (o : Outcome Answered BoxRecord)
+        → told o disk' flash' addresses' blocks' one ≡ called b (lent b disk flash addresses blocks (counters_of c)) q
+        → (r : Outcome Answered ArcRecord) → r ≡ record { answer = o.answer; box_record = with_held a o.box_record.held; counters = o.counters }
         → arc_told r disk' flash' addresses' blocks' lists one ≡ arc_called a t q
     arc-told e k low disk' flash' addresses' blocks' one o eo r er =
         let last = sym (call-base Z t q e k low) in
         let x = eo ∙ ap (λ (y : BoxRecord). called y (lent y disk flash addresses blocks (counters_of c)) q) eb in
-        ap (λ (y : ArcOutcome). arc_told y disk' flash' addresses' blocks' lists one) er
+        ap (λ (y : Outcome Answered ArcRecord). arc_told y disk' flash' addresses' blocks' lists one) er
         ∙ ◌∙◌ {A = ArcTold}
         (λ i. record { numbers = Z; after = with_lists (x i).after t.sizes lists })
         (λ i. record { numbers = Z; after = last i })

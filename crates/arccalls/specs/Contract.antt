@@ -1,5 +1,5 @@
 -- What the calls of a D-ARC box promise: the code's types in the paper's words. Assumes nothing.
-use Rattle.std.specs.Prelude.{cond, List, [], ℕ, eqb}
+use Rattle.std.specs.Prelude.{cond, List, [], ℕ, eqb, Result, Err}
 use Rattle.std.proofs.Math.Option.{Option}
 use Rattle.paper.specs.Lent.{Ask, opening, calling}
 use Rattle.arc.specs.Arc.{Sizes, base_numbers}
@@ -8,12 +8,11 @@ use Rattle.refusals.specs.Given.{counters_of}
 use Rattle.arcrefusals.specs.declared.ArcRecord.{ArcRecord}
 use Rattle.arcrefusals.specs.Given.{sizes_of, arc_lent}
 use Rattle.look.specs.declared.Place.{Place}
-use Rattle.look.specs.declared.Place.TheVariants.{Refused}
 use Rattle.look.specs.Look.{where_is}
-use Rattle.open.specs.Contract.{opening_number}
+use Rattle.outcome.specs.declared.Outcome.{Outcome}
+use Rattle.policy.specs.declared.Answered.{Answered}
 use Rattle.policy.specs.Contract.{answer_of}
-use Rattle.arccalls.specs.declared.ArcOutcome.{ArcOutcome}
-use Rattle.arccalls.specs.declared.opening.ArcBegun.{ArcBegun}
+use Rattle.refusal.specs.Numbers.{number_of}
 
 -- a record with another number of rows held
 abbrev pub with_held : ArcRecord → ℕ → ArcRecord
@@ -24,13 +23,13 @@ pub record ArcTold : Type 0 where
   pub numbers : Sizes
   pub after : ArcAfter
 
-abbrev pub arc_told : ArcOutcome → (disk flash addresses blocks lists : List ℕ) → Option (List ℕ) → ArcTold
+abbrev pub arc_told : Outcome Answered ArcRecord → (disk flash addresses blocks lists : List ℕ) → Option (List ℕ) → ArcTold
 arc_told r disk flash addresses blocks lists block =
     record {
-      numbers = sizes_of r.arc_record;
+      numbers = sizes_of r.box_record;
       after = record {
         answer = answer_of r.answer;
-        lent = arc_lent r.arc_record disk flash addresses blocks lists (counters_of r.counters);
+        lent = arc_lent r.box_record disk flash addresses blocks lists (counters_of r.counters);
         block = block;
         part = [];
       };
@@ -43,9 +42,9 @@ arc_called a t q = record { numbers = sizes_of a; after = arc_call (sizes_of a) 
 -- ---- a look
 
 -- the place of the block of a, or the number of the refusal: the base's place, where no number of the D-ARC box applies
-unfoldable pub arc_where : Sizes → ArcLent → ℕ → Place
+unfoldable pub arc_where : Sizes → ArcLent → ℕ → Result Place ℕ
 arc_where Z t a =
-    cond (eqb (arc_refusal Z t (calling (Ask.look a))) 0) (where_is (base_numbers Z) t.base a) (Refused (arc_refusal Z t (calling (Ask.look a))))
+    cond (eqb (arc_refusal Z t (calling (Ask.look a))) 0) (where_is (base_numbers Z) t.base a) (Err (arc_refusal Z t (calling (Ask.look a))))
 
 -- ---- an opening
 
@@ -75,12 +74,12 @@ pub record ArcOpening : Type 0 where
   pub numbers : Sizes
   pub lent : ArcLent
 
-abbrev pub arc_begun : ArcBegun → (disk flash addresses blocks lists : List ℕ) → ArcOpening
+abbrev pub arc_begun : Outcome (Unit {0}) ArcRecord → (disk flash addresses blocks lists : List ℕ) → ArcOpening
 arc_begun r disk flash addresses blocks lists =
     record {
-      number = opening_number r.answer;
-      numbers = sizes_of r.arc_record;
-      lent = arc_lent r.arc_record disk flash addresses blocks lists (counters_of r.counters);
+      number = number_of r.answer;
+      numbers = sizes_of r.box_record;
+      lent = arc_lent r.box_record disk flash addresses blocks lists (counters_of r.counters);
     }
 
 -- the paper's opening of what is lent

@@ -1,5 +1,5 @@
 -- A look of a D-ARC box, from where its block is found. Assumes nothing.
-use Rattle.std.specs.Prelude.{◌≡◌, List, ℕ, ◌<◌, eqb, get_or}
+use Rattle.std.specs.Prelude.{◌≡◌, List, ℕ, ◌<◌, eqb, get_or, Result, Err}
 use Rattle.std.proofs.Math.Path.{sym}
 use Rattle.std.proofs.Common.{ap, ◌∙◌, subst, ne_eqb, eqb-true}
 use Rattle.std.proofs.lemmas.Bool.{eqb-false}
@@ -18,7 +18,8 @@ use Rattle.parts.specs.declared.BoxRecord.{BoxRecord}
 use Rattle.parts.specs.Rep.{numbers_of}
 use Rattle.refusals.specs.Given.{lent}
 use Rattle.look.specs.declared.Place.{Place}
-use Rattle.look.specs.declared.Place.TheVariants.{Refused}
+use Rattle.refusal.specs.declared.Refusal.{Refusal}
+use Rattle.refusal.specs.Numbers.{code, refused}
 use Rattle.look.specs.Look.{where_is, answer_at, part_at}
 use Rattle.look.specs.LookLaws.{look-answers, PartIn, where-in, look-returns}
 use Rattle.arcrefusals.specs.declared.ArcRecord.{ArcRecord}
@@ -27,11 +28,11 @@ use Rattle.arccalls.specs.Contract.{arc_where}
 use Rattle.arccalls.specs.BaseLaws.{base-zero, look-keeps, call-base}
 
 module _ (Z : Sizes) (t : ArcLent) (a : ℕ) where
-  pub place-refused : (number : ℕ) → number ≡ arc_refusal Z t (calling (Ask.look a)) → (number ≡ 0 → ⊥) → Refused number ≡ arc_where Z t a
+  pub place-refused : (r : Refusal) → code r ≡ arc_refusal Z t (calling (Ask.look a)) → Err (code r) ≡ arc_where Z t a
   unfolding arc_where
-  place-refused number e n = rw (ne_eqb (arc_refusal Z t (calling (Ask.look a))) 0 (λ z. n (e ∙ z))) (ap (λ (x : ℕ). Refused x) e)
+  place-refused r e = rw (ne_eqb (arc_refusal Z t (calling (Ask.look a))) 0 (λ z. refused r (e ∙ z))) (ap (λ (x : ℕ). Err x) e)
 
-  pub place_found : (p : Place) → arc_refusal Z t (calling (Ask.look a)) ≡ 0 → p ≡ where_is (base_numbers Z) t.base a → p ≡ arc_where Z t a
+  pub place_found : (p : Result Place ℕ) → arc_refusal Z t (calling (Ask.look a)) ≡ 0 → p ≡ where_is (base_numbers Z) t.base a → p ≡ arc_where Z t a
   unfolding arc_where
   place_found p z e = rw (z, arc_where) e
 
@@ -97,6 +98,6 @@ module _ (a : ArcRecord) (disk flash addresses blocks lists : List ℕ) (k : Cou
         subst (λ (y : BoxRecord). refusal (numbers_of y) (lent y disk flash addresses blocks k) (calling (Ask.look x)) ≡ 0) (sym eb)
         (base-zero Z t (Ask.look x) z)
 
-    pub look-place : (p : Place) → arc_refusal Z t (calling (Ask.look x)) ≡ 0 → p ≡ where_is (numbers_of b) (lent b disk flash addresses blocks k) x
+    pub look-place : (p : Result Place ℕ) → arc_refusal Z t (calling (Ask.look x)) ≡ 0 → p ≡ where_is (numbers_of b) (lent b disk flash addresses blocks k) x
         → p ≡ arc_where Z t x
     look-place p z e = place_found Z t x p z (e ∙ ap (λ (y : BoxRecord). where_is (numbers_of y) (lent y disk flash addresses blocks k) x) eb)

@@ -1,5 +1,5 @@
 -- What an opening leaves, refused and not. Assumes nothing.
-use Rattle.std.specs.Prelude.{◌≡◌, refl, Bool, true, ◌||◌, cond, List, [], ◌∷◌, ℕ, ◌*◌, length}
+use Rattle.std.specs.Prelude.{◌≡◌, refl, Bool, true, ◌||◌, cond, List, [], ◌∷◌, ℕ, ◌*◌, length, Ok, Err}
 use Rattle.std.proofs.Math.Path.{sym, ap}
 use Rattle.std.proofs.Common.{◌∙◌}
 use Rattle.std.proofs.Math.Bool.{false}
@@ -13,13 +13,15 @@ use Rattle.paper.specs.Cache.{no_counts}
 use Rattle.paper.specs.Lent.{opening, test, first, limit_outside, other_length, wrong_buffers, fresh, unopened}
 use Rattle.arc.specs.Arc.{Sizes, m_of, base_numbers}
 use Rattle.arc.specs.ArcLent.{ArcLent, unfit_arc, arc_refusal, arc_opened, arc_label_after}
-use Rattle.open.specs.declared.Opening.TheVariants.{Refused, Open}
+use Rattle.outcome.specs.declared.Outcome.{Outcome}
+use Rattle.refusal.specs.declared.Refusal.{Refusal}
+use Rattle.refusal.specs.Numbers.{code}
+use Rattle.refusal.specs.Numbers as Refusals
 use Rattle.refusals.specs.Given.{counters_of}
 use Rattle.arcrefusals.specs.declared.ArcRecord.{ArcRecord}
 use Rattle.arcrefusals.specs.Given.{sizes_of, arc_lent}
 use Rattle.arcrefusals.specs.Checks.{Fits}
 use Rattle.arcrefusals.specs.CallLaws.{opens-with}
-use Rattle.arccalls.specs.declared.opening.ArcBegun.{ArcBegun}
 use Rattle.arccalls.specs.Contract.{empty_arc, relabelled, arc_begun, arc_opens}
 
 -- counters that have counted nothing
@@ -79,20 +81,21 @@ module _ (size blocks cached extra limit : ℕ) (label disk flash addresses tabl
     pub fits-are : no ≡ 0 → Fits a addresses table lists
     fits-are z = (opens-with a disk flash addresses table lists (counters_of c) (sym en ∙ z)).fits
 
-  pub opening-refused : (a : ArcRecord) → a ≡ zeroed → (r : ArcBegun) (number : ℕ) → r ≡ record { answer = Refused number; arc_record = a; counters = c }
-      → number ≡ arc_refusal Z t opening → (number ≡ 0 → ⊥) → arc_begun r disk flash addresses table lists ≡ arc_opens given t
+  pub opening-refused : (a : ArcRecord) → a ≡ zeroed → (r : Outcome (Unit {0}) ArcRecord) (q : Refusal)
+      → r ≡ record { answer = Err q; box_record = a; counters = c }
+      → code q ≡ arc_refusal Z t opening → arc_begun r disk flash addresses table lists ≡ arc_opens given t
   unfolding unopened zeros arc_opened arc_label_after
-  opening-refused a ea r number er e n =
-      let z : eqb (arc_refusal Z t opening) 0 ≡ false = ne_eqb (arc_refusal Z t opening) 0 (λ y. n (e ∙ y)) in
+  opening-refused a ea r q er e =
+      let z : eqb (arc_refusal Z t opening) 0 ≡ false = ne_eqb (arc_refusal Z t opening) 0 (λ y. Refusals.refused q (e ∙ y)) in
       let l : t ≡ arc_opened Z t = sym (rw (z, arc_opened) refl) in
       let s : replicate 64 0 ≡ arc_label_after Z t = sym (rw (z, arc_label_after) refl) in
-      ap (λ (x : ArcBegun). arc_begun x disk flash addresses table lists)
-      (er ∙ ap (λ (x : ArcRecord). record { answer = Refused number; arc_record = x; counters = c }) ea)
+      ap (λ (x : Outcome (Unit {0}) ArcRecord). arc_begun x disk flash addresses table lists)
+      (er ∙ ap (λ (x : ArcRecord). record { answer = Err q; box_record = x; counters = c }) ea)
       ∙ (λ i. record { number = e i; numbers = record { B = size; P = blocks; C = cached; X = extra; label = s i; t = limit }; lent = l i })
 
   pub opening-done : arc_refusal Z t opening ≡ 0 → (a : ArcRecord) → a ≡ zeroed → (addresses' table' lists' : List ℕ)
       → addresses' ≡ fresh_addresses (m_of (sizes_of a)) → table' ≡ fresh_blocks a.sizes.cached → lists' ≡ zeros (m_of (sizes_of a) * 4)
-      → (r : ArcBegun) → r ≡ record { answer = Open; arc_record = relabelled a label; counters = none-counted }
+      → (r : Outcome (Unit {0}) ArcRecord) → r ≡ record { answer = Ok tt; box_record = relabelled a label; counters = none-counted }
       → arc_begun r disk flash addresses' table' lists' ≡ arc_opens given t
   unfolding fresh arc_opened arc_label_after
   opening-done z a ea addresses' table' lists' xa xt xl r er =
@@ -103,6 +106,6 @@ module _ (size blocks cached extra limit : ℕ) (label disk flash addresses tabl
       let s : label ≡ arc_label_after Z t = sym (rw (z, arc_label_after) refl) in
       let f : arc_lent given disk flash addresses' table' lists' no_counts ≡ arc_opened Z t
       = (λ i. arc_lent given disk flash (ma i) (mt i) (ml i) no_counts) ∙ l in
-      ap (λ (x : ArcBegun). arc_begun x disk flash addresses' table' lists')
-      (er ∙ ap (λ (x : ArcRecord). record { answer = Open; arc_record = relabelled x label; counters = none-counted }) ea)
+      ap (λ (x : Outcome (Unit {0}) ArcRecord). arc_begun x disk flash addresses' table' lists')
+      (er ∙ ap (λ (x : ArcRecord). record { answer = Ok tt; box_record = relabelled x label; counters = none-counted }) ea)
       ∙ (λ i. record { number = sym z i; numbers = record { B = size; P = blocks; C = cached; X = extra; label = s i; t = limit }; lent = f i })

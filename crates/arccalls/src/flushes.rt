@@ -9,10 +9,12 @@ ghost use Rattle.refusals.specs.Given.{counters_of};
 ghost use Rattle.arcrefusals.specs.Given.{sizes_of, arc_lent};
 ghost use Rattle.arccalls.specs.Contract.{arc_told, arc_called};
 
-use crate::{ArcOutcome, answered, refused};
+use crate::answered;
 use arcrefusals::{ArcRecord, base_of, sizes_unfit};
 use checks::index;
 use counters::Counters;
+use outcome::{Outcome, refused};
+use policy::Answered;
 
 // "its m is 2 × C + X": the most rows held, of numbers that 11 lets pass.
 pub fn rows_of(a: ArcRecord) -> usize
@@ -21,8 +23,7 @@ pub fn rows_of(a: ArcRecord) -> usize
     if sizes_unfit(a) {
         return 0;
     }
-    let b = base_of(a);
-    b.rows
+    base_of(a).rows
 }
 
 // A flush of at most `k` that isn't refused; `heads` is the index of the block rows.
@@ -36,7 +37,7 @@ pub fn flush_served(
     lists: &[u8],
     c: Counters,
     heads: &[u16],
-) -> ArcOutcome
+) -> Outcome<Answered, ArcRecord>
     requires k_value { arc_refusal (sizes_of a) (arc_lent a disk.old flash.now addresses.old blocks.now lists.now (counters_of c)) (calling (Ask.flush k))
         ≡ 0 }
     requires indexed { Indexed a.sizes.cached blocks.now heads.now }
@@ -58,17 +59,16 @@ pub fn flush_some(
     blocks: &[u8],
     lists: &[u8],
     c: Counters,
-) -> ArcOutcome
+) -> Outcome<Answered, ArcRecord>
     ensures { arc_told result disk.new flash.now addresses.new blocks.now lists.now Option.none
         ≡ arc_called a (arc_lent a disk.old flash.now addresses.old blocks.now lists.now (counters_of c))
         (Ask.flush k) }
 {
     let mut heads = [0u16; index::ENTRIES];
-    let number = arcrefusals::calls::arc_flush(
+    if let Err(r) = arcrefusals::calls::arc_flush(
         a, disk, flash, addresses, blocks, lists, c, &mut heads,
-    );
-    if number != 0 {
-        return refused(number, a, c);
+    ) {
+        return refused(r, a, c);
     }
     flush_served(a, k, disk, flash, addresses, blocks, lists, c, &heads)
 }
@@ -82,7 +82,7 @@ pub fn flush(
     blocks: &[u8],
     lists: &[u8],
     c: Counters,
-) -> ArcOutcome
+) -> Outcome<Answered, ArcRecord>
     ensures { arc_told result disk.new flash.now addresses.new blocks.now lists.now Option.none
         ≡ arc_called a (arc_lent a disk.old flash.now addresses.old blocks.now lists.now (counters_of c))
         (Ask.flush (m_of (sizes_of a))) }

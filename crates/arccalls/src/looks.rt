@@ -4,15 +4,17 @@ ghost use Rattle.paper.specs.Cache.{Counters};
 ghost use Rattle.paper.specs.Lent.{Ask};
 ghost use Rattle.arc.specs.ArcLent.{arc_call};
 ghost use Rattle.policy.specs.Contract.{answer_of};
+ghost use Rattle.look.specs.Look.{numbered};
 ghost use Rattle.arcrefusals.specs.Given.{sizes_of, arc_lent};
 ghost use Rattle.arccalls.specs.Contract.{arc_where};
 
 use arcrefusals::{ArcRecord, base_of};
 use look::Place;
-use policy::{Answer, Word};
+use policy::{Answered, Word};
+use refusal::Refusal;
 use tables::SourceAddress;
 
-// Where the block of `asked` is, or the number of the refusal.
+// Where the block of `asked` is, or the refusal.
 pub fn place_of(
     a: ArcRecord,
     asked: SourceAddress,
@@ -21,18 +23,15 @@ pub fn place_of(
     addresses: &[u8],
     blocks: &[u8],
     lists: &[u8],
-) -> Place
-    ensures { (k : Counters) → result ≡ arc_where (sizes_of a) (arc_lent a disk.now flash.now addresses.now
+) -> Result<Place, Refusal>
+    ensures { (k : Counters) → numbered result ≡ arc_where (sizes_of a) (arc_lent a disk.now flash.now addresses.now
         blocks.now lists.now k) asked.0 }
 {
-    let number = arcrefusals::calls::arc_look(a, asked, disk, flash, addresses, blocks, lists);
-    if number != 0 {
-        return Place::Refused(number);
-    }
-    look::found(base_of(a), asked, disk, flash, addresses, blocks)
+    arcrefusals::calls::arc_look(a, asked, disk, flash, addresses, blocks, lists)?;
+    Ok(look::found(base_of(a), asked, disk, flash, addresses, blocks))
 }
 
-// Look's answer: the number of the refusal, or whether the block comes from the cache or from the disk.
+// Look's answer: the refusal, or whether the block comes from the cache or from the disk.
 pub fn look(
     a: ArcRecord,
     asked: SourceAddress,
@@ -41,15 +40,19 @@ pub fn look(
     addresses: &[u8],
     blocks: &[u8],
     lists: &[u8],
-) -> Answer
+) -> Result<Answered, Refusal>
     ensures { (k : Counters) → answer_of result ≡ (arc_call (sizes_of a) (arc_lent a disk.now flash.now addresses.now
         blocks.now lists.now k) (Ask.look asked.0)).answer }
 {
-    match place_of(a, asked, disk, flash, addresses, blocks, lists) {
-        Place::Refused(number) => Answer::Refused(number),
-        Place::Flash(_) => Answer::Answered(Word::Cache, 0, 0),
-        Place::Disk => Answer::Answered(Word::Disk, 0, 0),
-    }
+    let word = match place_of(a, asked, disk, flash, addresses, blocks, lists)? {
+        Place::Flash(_) => Word::Cache,
+        Place::Disk => Word::Disk,
+    };
+    Ok(Answered {
+        word,
+        flashed: 0,
+        primary: 0,
+    })
 }
 
 // Look's part: the block of `asked`, empty where the look is refused. It is the part of the flash at its slot, or of the disk at its address.
@@ -66,8 +69,8 @@ pub fn look_part<'a>(
         blocks.now lists.now k) (Ask.look asked.0)).part }
 {
     match place_of(a, asked, disk, flash, addresses, blocks, lists) {
-        Place::Refused(_) => &disk[0..0],
-        Place::Flash(s) => block::in_slot(flash, s, a.size),
-        Place::Disk => block::at_address(disk, asked, a.size),
+        Err(_) => &disk[0..0],
+        Ok(Place::Flash(s)) => block::in_slot(flash, s, a.size),
+        Ok(Place::Disk) => block::at_address(disk, asked, a.size),
     }
 }

@@ -1,8 +1,7 @@
 // Opening: lent memory made a fresh D-ARC box.
-ghost use Rattle.std.specs.Prelude.{◌≡◌, ◌*◌, length};
+ghost use Rattle.std.specs.Prelude.{◌≡◌, ◌*◌, length, Ok};
 ghost use Rattle.tables.specs.Rows.{zeros};
 ghost use Rattle.tables.specs.Records.{fresh_addresses, fresh_blocks};
-ghost use Rattle.open.specs.declared.Opening.TheVariants.{Refused, Open};
 ghost use Rattle.arc.specs.Arc.{m_of};
 ghost use Rattle.refusals.specs.Given.{counters_of};
 ghost use Rattle.arcrefusals.specs.Given.{sizes_of, arc_lent};
@@ -12,16 +11,9 @@ ghost use Rattle.arccalls.specs.Contract.{empty_arc, relabelled, arc_begun, arc_
 use arclists::ListSizes;
 use arcrefusals::{ArcRecord, arc_opening, base_of};
 use counters::Counters;
-use open::Opening;
-use tables::{fresh, moves};
-
-// What an opening gives back: its answer, the box record and the counters.
-#[derive(Clone, Copy)]
-pub struct ArcBegun {
-    pub answer: Opening,
-    pub arc_record: ArcRecord,
-    pub counters: Counters,
-}
+use outcome::{Outcome, refused};
+use refusal::Refusal;
+use tables::fresh;
 
 // "the record has their sizes and the number p": all 0 at first; with them C and X.
 fn no_sizes(cached: usize, extra: usize) -> ListSizes
@@ -34,8 +26,8 @@ fn no_sizes(cached: usize, extra: usize) -> ListSizes
         b2: 0,
         b3: 0,
         p: 0,
-        cached: cached,
-        extra: extra,
+        cached,
+        extra,
     }
 }
 
@@ -50,44 +42,30 @@ fn empty_arc(
 ) -> ArcRecord
     ensures { result ≡ empty_arc size blocks cached extra limit label }
 {
-    let sizes = no_sizes(cached, extra);
     ArcRecord {
-        size: size,
-        blocks: blocks,
+        size,
+        blocks,
         held: 0,
-        label: label,
-        limit: limit,
-        sizes: sizes,
-    }
-}
-
-// A refusal: the record and the counters as given.
-fn unopened(number: u32, a: ArcRecord, c: Counters) -> ArcBegun
-    ensures { result ≡ record { answer = Refused number; arc_record = a; counters = c } }
-{
-    ArcBegun {
-        answer: Opening::Refused(number),
-        arc_record: a,
-        counters: c,
+        label,
+        limit,
+        sizes: no_sizes(cached, extra),
     }
 }
 
 // An open box: the record with its label, and counters that have counted nothing.
-fn opened(a: ArcRecord, label: &[u8]) -> ArcBegun
+fn opened(a: ArcRecord, label: &[u8]) -> Outcome<(), ArcRecord>
     requires { length label.now ≡ 64 }
     ensures { result ≡ record {
-      answer = Open;
-      arc_record = relabelled a label.now;
+      answer = Ok tt;
+      box_record = relabelled a label.now;
       counters = record { reads = 0; hits = 0; flash = 0; primary = 0 };
     } }
 {
     let mut own = [0u8; 64];
-    block::copy_all(label, &mut own);
-    let mut r = a;
-    r.label = own;
-    ArcBegun {
-        answer: Opening::Open,
-        arc_record: r,
+    own.copy_from_slice(label);
+    Outcome {
+        answer: Ok(()),
+        box_record: ArcRecord { label: own, ..a },
         counters: Counters {
             reads: 0,
             hits: 0,
@@ -107,7 +85,7 @@ fn fresh_memory(a: ArcRecord, addresses: &mut [u8], table: &mut [u8], lists: &mu
     let b = base_of(a);
     fresh::fresh_addresses(addresses, b.rows);
     fresh::fresh_blocks(table, b.slots);
-    moves::clear(lists, 0, b.rows * 4);
+    lists.fill(0);
 }
 
 // "Its own opening call takes C (cached blocks, its d) and X (extra addresses); its m is 2 × C + X.": the tables, the lists and the counters become fresh,
@@ -125,19 +103,18 @@ pub fn open(
     table: &mut [u8],
     lists: &mut [u8],
     c: Counters,
-) -> ArcBegun
+) -> Outcome<(), ArcRecord>
     ensures { arc_begun result disk.now flash.now addresses.new table.new lists.new
         ≡ arc_opens (empty_arc size blocks cached extra limit label.now)
         (arc_lent (empty_arc size blocks cached extra limit label.now) disk.now flash.now addresses.old
         table.old lists.old (counters_of c)) }
 {
     let a = empty_arc(size, blocks, cached, extra, limit, [0u8; 64]);
-    let number = arc_opening(a, disk, flash, addresses, table, lists);
-    if number != 0 {
-        return unopened(number, a, c);
+    if let Err(r) = arc_opening(a, disk, flash, addresses, table, lists) {
+        return refused(r, a, c);
     }
     if label.len() != 64 {
-        return unopened(2, a, c);
+        return refused(Refusal::WrongLength, a, c);
     }
     fresh_memory(a, addresses, table, lists);
     opened(a, label)

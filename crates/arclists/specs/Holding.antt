@@ -1,14 +1,12 @@
 -- When sizes and lent bytes are those of D-ARC's lists. Assumes nothing.
-use Rattle.std.specs.Prelude.{◌≡◌, cond, List, [], ℕ, ◌+◌, ◌-◌, ◌^◌, ◌≤◌, ◌<◌, ltb, length}
+use Rattle.std.specs.Prelude.{◌≡◌, cond, Option, None, Some, List, [], ◌∷◌, ◌++◌, ℕ, ◌+◌, ◌-◌, ◌^◌, ◌≤◌, ◌<◌, ltb, length, take, drop}
 use Rattle.arc.specs.Arc as Arc
 use Rattle.arc.specs.Arc.{Lists}
 use Rattle.paper.specs.KeyedLaws.{All}
 use Rattle.arc.specs.ArcLent.{list_bytes, end_to_end, ListRecord}
 use Rattle.arclists.specs.declared.ListSizes.{ListSizes}
-use Rattle.arclists.specs.declared.Ghost.{Ghost}
-use Rattle.arclists.specs.declared.Ghost.TheVariants.{OfB1, OfB2, OfB3}
-use Rattle.arclists.specs.declared.Was.{Was}
-use Rattle.arclists.specs.declared.Was.TheVariants.{InT1, InT2, InB1, InB2, InB3, Unheld}
+use Rattle.arclists.specs.declared.ListName.{ListName}
+use Rattle.arclists.specs.declared.ListName.TheVariants.{T1, T2, B1, B2, B3}
 
 abbrev pub total : ListSizes → ℕ
 total s = s.t1 + s.t2 + s.b1 + s.b2 + s.b3
@@ -36,32 +34,89 @@ pub record Holds (m : ℕ) (s : ListSizes) (t : List ℕ) (l : Lists) : Type 0 w
 abbrev pub Kept : ListSizes → ListSizes → Type 0
 Kept r s = (r.cached ≡ s.cached) × (r.extra ≡ s.extra)
 
+-- the addresses of a list, its size, and the place of its first address
+abbrev pub names_of : ListName → Lists → List ℕ
+names_of T1 l = l.T1
+names_of T2 l = l.T2
+names_of B1 l = l.B1
+names_of B2 l = l.B2
+names_of B3 l = l.B3
+
+abbrev pub size_of : ListName → ListSizes → ℕ
+size_of T1 s = s.t1
+size_of T2 s = s.t2
+size_of B1 s = s.b1
+size_of B2 s = s.b2
+size_of B3 s = s.b3
+
+abbrev pub start_of : ListName → ListSizes → ℕ
+start_of T1 s = 0
+start_of T2 s = s.t1
+start_of B1 s = s.t1 + s.t2
+start_of B2 s = s.t1 + s.t2 + s.b1
+start_of B3 s = s.t1 + s.t2 + s.b1 + s.b2
+
+-- which list comes before which, end to end
+abbrev pub rank : ListName → ℕ
+rank T1 = 0
+rank T2 = 1
+rank B1 = 2
+rank B2 = 3
+rank B3 = 4
+
+-- other addresses in a list, another size of it, and the rest as it is
+abbrev pub with_names : ListName → List ℕ → Lists → Lists
+with_names T1 xs l = record { T1 = xs; T2 = l.T2; B1 = l.B1; B2 = l.B2; B3 = l.B3; p = l.p }
+with_names T2 xs l = record { T1 = l.T1; T2 = xs; B1 = l.B1; B2 = l.B2; B3 = l.B3; p = l.p }
+with_names B1 xs l = record { T1 = l.T1; T2 = l.T2; B1 = xs; B2 = l.B2; B3 = l.B3; p = l.p }
+with_names B2 xs l = record { T1 = l.T1; T2 = l.T2; B1 = l.B1; B2 = xs; B3 = l.B3; p = l.p }
+with_names B3 xs l = record { T1 = l.T1; T2 = l.T2; B1 = l.B1; B2 = l.B2; B3 = xs; p = l.p }
+
+abbrev pub with_size : ListName → ℕ → ListSizes → ListSizes
+with_size T1 n s = resized s n s.t2 s.b1 s.b2 s.b3
+with_size T2 n s = resized s s.t1 n s.b1 s.b2 s.b3
+with_size B1 n s = resized s s.t1 s.t2 n s.b2 s.b3
+with_size B2 n s = resized s s.t1 s.t2 s.b1 n s.b3
+with_size B3 n s = resized s s.t1 s.t2 s.b1 s.b2 n
+
+-- "B1's oldest, or B2's if B1 is empty, is evicted first", "B3's oldest is evicted": a list without its oldest, and the sizes then; `out_of B1 l` is
+-- the paper's `b1_out l`, and so on
+abbrev pub out_of : ListName → Lists → Lists
+out_of x l = with_names x (drop 1 (names_of x l)) l
+
+abbrev pub less_of : ListName → ListSizes → ListSizes
+less_of x s = with_size x (size_of x s - 1) s
+
+-- ".. and joins one last": an address becomes the newest of a list; `with_last T1 a l` is the paper's `join_t1 a l`
+abbrev pub with_last : ListName → ℕ → Lists → Lists
+with_last x a l = with_names x (names_of x l ++ (a ∷ [])) l
+
+-- "move LRU from" a list "to" a later one: `moved T1 B1 l` is the paper's `t1b1 l`, and so on
+abbrev pub moved : ListName → ListName → Lists → Lists
+moved x y l = with_names y (names_of y l ++ take 1 (names_of x l)) (out_of x l)
+
 -- "which list it was is remembered", as the paper has it
-abbrev pub was_of : Was → Arc.Was
-was_of InT1 = Arc.in_t1
-was_of InT2 = Arc.in_t2
-was_of InB1 = Arc.in_b1
-was_of InB2 = Arc.in_b2
-was_of InB3 = Arc.in_b3
-was_of Unheld = Arc.unheld
+abbrev pub was_of : Option ListName → Arc.Was
+was_of (Some T1) = Arc.in_t1
+was_of (Some T2) = Arc.in_t2
+was_of (Some B1) = Arc.in_b1
+was_of (Some B2) = Arc.in_b2
+was_of (Some B3) = Arc.in_b3
+was_of None = Arc.unheld
 
 -- which list a place is in, by the running sums of the sizes
-unfoldable pub which_at : ListSizes → ℕ → Was
+unfoldable pub which_at : ListSizes → ℕ → Option ListName
 which_at s i =
-    cond (ltb i s.t1) InT1
-    (cond (ltb i (s.t1 + s.t2)) InT2
-    (cond (ltb i (s.t1 + s.t2 + s.b1)) InB1
-    (cond (ltb i (s.t1 + s.t2 + s.b1 + s.b2)) InB2
-    (cond (ltb i (s.t1 + s.t2 + s.b1 + s.b2 + s.b3)) InB3 Unheld))))
+    cond (ltb i s.t1) (Some T1)
+    (cond (ltb i (s.t1 + s.t2)) (Some T2)
+    (cond (ltb i (s.t1 + s.t2 + s.b1)) (Some B1)
+    (cond (ltb i (s.t1 + s.t2 + s.b1 + s.b2)) (Some B2)
+    (cond (ltb i (s.t1 + s.t2 + s.b1 + s.b2 + s.b3)) (Some B3) None))))
 
--- the sizes without the address at place i
-unfoldable pub less_at : ListSizes → ℕ → ListSizes
-less_at s i =
-    cond (ltb i s.t1) (resized s (s.t1 - 1) s.t2 s.b1 s.b2 s.b3)
-    (cond (ltb i (s.t1 + s.t2)) (resized s s.t1 (s.t2 - 1) s.b1 s.b2 s.b3)
-    (cond (ltb i (s.t1 + s.t2 + s.b1)) (resized s s.t1 s.t2 (s.b1 - 1) s.b2 s.b3)
-    (cond (ltb i (s.t1 + s.t2 + s.b1 + s.b2)) (resized s s.t1 s.t2 s.b1 (s.b2 - 1) s.b3)
-    (cond (ltb i (s.t1 + s.t2 + s.b1 + s.b2 + s.b3)) (resized s s.t1 s.t2 s.b1 s.b2 (s.b3 - 1)) s))))
+-- the sizes without an address of that list
+abbrev pub left_sizes : Option ListName → ListSizes → ListSizes
+left_sizes (Some x) s = less_of x s
+left_sizes None s = s
 
 -- each address fits in four bytes
 abbrev pub Low : Lists → Type 0
@@ -77,30 +132,3 @@ Limits Z s = (Z.C ≡ s.cached) × (Z.X ≡ s.extra)
 
 abbrev pub limits_of : ListSizes → Arc.Sizes
 limits_of s = record { B = 0; P = 0; C = s.cached; X = s.extra; label = []; t = 0 }
-
--- "B1's oldest, or B2's if B1 is empty, is evicted first", "B3's oldest is evicted": the lists from which addresses leave the box, and what is left then
-abbrev pub ghosts : Ghost → Lists → List ℕ
-ghosts OfB1 l = l.B1
-ghosts OfB2 l = l.B2
-ghosts OfB3 l = l.B3
-
-abbrev pub out_of : Ghost → Lists → Lists
-out_of OfB1 l = Arc.b1_out l
-out_of OfB2 l = Arc.b2_out l
-out_of OfB3 l = Arc.b3_out l
-
--- their sizes and the places of their first addresses
-abbrev pub size_of : Ghost → ListSizes → ℕ
-size_of OfB1 s = s.b1
-size_of OfB2 s = s.b2
-size_of OfB3 s = s.b3
-
-abbrev pub start_of : Ghost → ListSizes → ℕ
-start_of OfB1 s = s.t1 + s.t2
-start_of OfB2 s = s.t1 + s.t2 + s.b1
-start_of OfB3 s = s.t1 + s.t2 + s.b1 + s.b2
-
-abbrev pub less_of : Ghost → ListSizes → ListSizes
-less_of OfB1 s = resized s s.t1 s.t2 (s.b1 - 1) s.b2 s.b3
-less_of OfB2 s = resized s s.t1 s.t2 s.b1 (s.b2 - 1) s.b3
-less_of OfB3 s = resized s s.t1 s.t2 s.b1 s.b2 (s.b3 - 1)

@@ -1,28 +1,28 @@
 -- An address leaves its list, or joins one: what the bytes and the sizes do. Assumes nothing.
-use Rattle.std.specs.Prelude.{◌≡◌, refl, cond, List, [], ◌∷◌, ◌++◌, ℕ, ◌-◌, ◌+◌, ◌≤◌, ◌<◌, eqb, ltb, length}
-use Rattle.std.proofs.Common.{sym, ap, ap₂, ◌∙◌, subst, arith, length-append}
+use Rattle.std.specs.Prelude.{◌≡◌, refl, true, false, Option, None, Some, cond, List, ◌++◌, ℕ, ◌+◌, ◌-◌, ◌≤◌, ◌<◌, eqb, ltb}
+use Rattle.std.proofs.Common.{sym, ap, ap₂, ◌∙◌, subst, arith}
 use borrow.Author.Tests.{lt-ltb, le-ltb}
 use Rattle.tables.specs.Rows.{remove_at}
 use Rattle.paper.specs.KeyedLaws.{by-test, without-absent}
-use Rattle.arc.specs.Arc.{Lists, list_of, left, is_in, out, join_t1, join_t2}
+use Rattle.arc.specs.Arc.{Lists, list_of, left, is_in, out}
 use Rattle.arc.specs.Tally.{count, tally-append, tally-has, tally-none, length_without}
-use Rattle.arc.specs.ArcLent.{words, list_bytes, end_to_end}
+use Rattle.arc.specs.ArcLent.{words, end_to_end}
 use Rattle.arc.proofs.ArcLentLaws.{words_back}
-use Rattle.arc.specs.ArcEnds.{insert_at}
-use Rattle.arc.proofs.ArcEndsLaws.{end-left, end-join_t1, end-join_t2}
+use Rattle.arc.proofs.ArcEndsLaws.{end-left}
 use Rattle.arclists.specs.declared.ListSizes.{ListSizes}
-use Rattle.arclists.specs.Listed.{listed, place_of, TakesOut, Inserts}
+use Rattle.arclists.specs.declared.ListName.{ListName}
+use Rattle.arclists.specs.Listed.{listed, place_of, Removes}
 use Rattle.arclists.specs.ListedLaws.{lists-listed}
 use Rattle.arclists.specs.PlaceLaws.{place_in, place_out, place-first, place-second, out_at}
-use Rattle.arclists.specs.Holding.{total, resized, Sized, Holds, Kept, was_of, which_at, less_at, Low}
-use Rattle.arclists.specs.MoveLaws.{total-is}
+use Rattle.arclists.specs.Holding.{total, Sized, Holds, was_of, which_at, size_of, less_of, left_sizes, Low}
+use Rattle.arclists.specs.MoveLaws.{total-is, resized-by}
 
 -- a chain of tests, one at a time
-pub lt_yes : {A : Type 0} (m n : ℕ) (z x y : A) → m < n → z ≡ x → z ≡ cond (ltb m n) x y
-lt_yes m n z x y h e = rw (lt-ltb m n h) e
+pub is_yes : {A : Type 0} (m n : ℕ) (z x y : A) → m < n → x ≡ z → cond (ltb m n) x y ≡ z
+is_yes m n z x y h e = rw (lt-ltb m n h) e
 
-pub lt_no : {A : Type 0} (m n : ℕ) (z x y : A) → n ≤ m → z ≡ y → z ≡ cond (ltb m n) x y
-lt_no m n z x y h e = rw (le-ltb m n h) e
+pub is_no : {A : Type 0} (m n : ℕ) (z x y : A) → n ≤ m → y ≡ z → cond (ltb m n) x y ≡ z
+is_no m n z x y h e = rw (le-ltb m n h) e
 
 -- the addresses read from the bytes
 pub read_back : {m : ℕ} {s : ListSizes} {t : List ℕ} {l : Lists} → Holds m s t l → Low l → (n : ℕ) → n ≡ total s → words n t ≡ end_to_end l
@@ -103,8 +103,8 @@ module _ (a : ℕ) (s : ListSizes) (l : Lists) (z : Sized s l) where
           p-is = e6 ∙ z.p-is;
         }
 
-    pub left-sized : Sized (less_at s (place_of a (end_to_end l))) (left a l)
-    unfolding less_at
+    pub left-sized : Sized (left_sizes (which_at s (place_of a (end_to_end l))) s) (left a l)
+    unfolding which_at
     left-sized =
         let c = all-counts in
         let z1 = z.t1-is in
@@ -144,91 +144,51 @@ module _ (a : ℕ) (s : ListSizes) (l : Lists) (z : Sized s l) where
         rw (le-ltb place (s.t1 + s.t2 + s.b1 + s.b2 + s.b3) (omega (arith, p1, p2, p3, p4, p5, z1, z2, z3, z4, z5)))
         (sized-by _ (omega (arith, k1)) (omega (arith, k2)) (omega (arith, k3)) (omega (arith, k4)) (omega (arith, k5)) refl))))))))))
 
-pub stays_out : (m : ℕ) (ws t : List ℕ) (i n : ℕ) → n ≤ i → t ≡ listed m ws → t ≡ listed m (cond (ltb i n) (remove_at ws i) ws)
-stays_out m ws t i n h e = rw (le-ltb i n h) e
+pub past-all : (s : ListSizes) → which_at s (total s) ≡ None
+unfolding which_at
+past-all s =
+    rw (
+      le-ltb (total s) s.t1 (omega arith),
+      le-ltb (total s) (s.t1 + s.t2) (omega arith),
+      le-ltb (total s) (s.t1 + s.t2 + s.b1) (omega arith),
+      le-ltb (total s) (s.t1 + s.t2 + s.b1 + s.b2) (omega arith),
+      le-ltb (total s) (total s) (omega arith),
+    ) refl
 
-pub goes-out : (m : ℕ) (ws t : List ℕ) (i n : ℕ) → i < n → t ≡ listed m (remove_at ws i) → t ≡ listed m (cond (ltb i n) (remove_at ws i) ws)
-goes-out m ws t i n h e = rw (lt-ltb i n h) e
-
--- the sizes without the address at place i: one list has one address less, or none has
-by_less : (s : ListSizes) (i : ℕ) (Q : ListSizes → Type 0) → Q (resized s (s.t1 - 1) s.t2 s.b1 s.b2 s.b3)
-    → Q (resized s s.t1 (s.t2 - 1) s.b1 s.b2 s.b3) → Q (resized s s.t1 s.t2 (s.b1 - 1) s.b2 s.b3)
-    → Q (resized s s.t1 s.t2 s.b1 (s.b2 - 1) s.b3) → Q (resized s s.t1 s.t2 s.b1 s.b2 (s.b3 - 1)) → Q s → Q (less_at s i)
-unfolding less_at
-by_less s i Q q1 q2 q3 q4 q5 q =
-    by-test (ltb i s.t1) (λ e. rw e q1)
-    (λ e. rw e (by-test (ltb i (s.t1 + s.t2)) (λ e. rw e q2)
-    (λ e. rw e (by-test (ltb i (s.t1 + s.t2 + s.b1)) (λ e. rw e q3)
-    (λ e. rw e (by-test (ltb i (s.t1 + s.t2 + s.b1 + s.b2)) (λ e. rw e q4)
-    (λ e. rw e (by-test (ltb i (s.t1 + s.t2 + s.b1 + s.b2 + s.b3)) (λ e. rw e q5) (λ e. rw e q)))))))))
-
-pub less-kept : (s : ListSizes) (i : ℕ) → (total (less_at s i) ≤ total s) × Kept (less_at s i) s
-less-kept s i =
-    by_less s i (λ r. (total r ≤ total s) × Kept r s) (omega arith, (refl, refl)) (omega arith, (refl, refl)) (omega arith, (refl, refl))
-    (omega arith, (refl, refl)) (omega arith, (refl, refl)) (omega arith, (refl, refl))
-
-less-room : (s : ListSizes) (i m : ℕ) → total s ≤ m → total (less_at s i) ≤ m
-less-room s i m h = let k = less-kept s i in omega (arith, k.0, h)
-
+-- an address leaves from its place, and the list of that place is the one that it was in
 module _ {m : ℕ} {s : ListSizes} {t : List ℕ} {l : Lists} (h : Holds m s t l) (low : Low l) (a : ℕ) where
-  at_place : (i n : ℕ) → i ≡ place_of a (words n t) → n ≡ total s → i ≡ place_of a (end_to_end l)
-  at_place i n ei en = ei ∙ ap (place_of a) (read_back h low n en)
+  place-read : (i n : ℕ) → n ≡ total s → place_of a (words n t) ≡ i → place_of a (end_to_end l) ≡ i
+  place-read i n en e = ap (place_of a) (sym (read_back h low n en)) ∙ e
 
-  pub leave-was : (i n : ℕ) → i ≡ place_of a (words n t) → n ≡ total s → was_of (which_at s i) ≡ list_of a l
-  leave-was i n ei en = ap (λ x. was_of (which_at s x)) (at_place i n ei en) ∙ which-is a s l h.sized
+  which-read : (i n : ℕ) (o : Option ListName) → n ≡ total s → place_of a (words n t) ≡ i → which_at s i ≡ o
+      → which_at s (place_of a (end_to_end l)) ≡ o
+  which-read i n o en e w = ap (which_at s) (place-read i n en e) ∙ w
 
-  pub leave-holds : {t' : List ℕ} (r : ListSizes) (i n : ℕ) → r ≡ less_at s i → i ≡ place_of a (words n t) → n ≡ total s → TakesOut i n t t'
-      → count a (end_to_end l) ≤ 1 → Holds m r t' (left a l)
-  leave-holds {t'} r i n er ei en f once =
+  pub was-is : (i n : ℕ) (o : Option ListName) → n ≡ total s → place_of a (words n t) ≡ i → which_at s i ≡ o → was_of o ≡ list_of a l
+  was-is i n o en e w = ap was_of (sym (which-read i n o en e w)) ∙ which-is a s l h.sized
+
+  left-is : (r : ListSizes) (t' : List ℕ) → Sized r (left a l) → t' ≡ listed m (out a (end_to_end l)) → total r ≤ m → Holds m r t' (left a l)
+  left-is r t' z e b =
+      record { sized = z; bytes = e ∙ ap (listed m) (sym (end-left a l)) ∙ sym (lists-listed m (left a l)); room = b }
+
+  pub left-none : (n : ℕ) → n ≡ total s → place_of a (words n t) ≡ n → count a (end_to_end l) ≤ 1 → Holds m s t (left a l)
+  left-none n en e once =
       let E = end_to_end l in
-      let q = at_place i n ei en in
+      let q = place-read n n en e in
       let z = total-is s l h.sized in
-      let b : cond (ltb i n) (remove_at E i) E ≡ out a E =
-      by-test (is_in a E)
-      (λ e. let k = place_in a E e in rw (lt-ltb i n (omega (arith, k, q, en, z))) (ap (remove_at E) q ∙ sym (out_at a E once e)))
-      (λ e. let k = place_out a E e in rw (le-ltb i n (omega (arith, k, q, en, z))) (sym (without-absent eqb (λ x. x) a E e))) in
-      subst (λ r. Holds m r t' (left a l)) (sym er) (record {
-        sized = subst (λ x. Sized (less_at s x) (left a l)) (sym q) (left-sized a s l h.sized once);
-        bytes = f m E (z ∙ sym en) (omega (arith, en, h.room)) (h.bytes ∙ lists-listed m l) ∙ ap (listed m) (b ∙ sym (end-left a l))
-            ∙ sym (lists-listed m (left a l));
-        room = less-room s i m h.room;
-      })
+      let k : is_in a E ≡ false = by-test (is_in a E) (λ y. let b = place_in a E y in absurd (omega (arith, b, q, z, en))) (λ y. y) in
+      left-is s t
+      (subst (λ o. Sized (left_sizes o s) (left a l)) (which-read n n None en e (ap (which_at s) en ∙ past-all s)) (left-sized a s l h.sized once))
+      (h.bytes ∙ lists-listed m l ∙ ap (listed m) (sym (without-absent eqb (λ x. x) a E k))) h.room
 
-module _ {m : ℕ} {s : ListSizes} {t : List ℕ} {l : Lists} (h : Holds m s t l) (more : total s < m) (a : ℕ) where
-  insert-to : (t' : List ℕ) (l' : Lists) (i n k : ℕ) → Inserts i n a t t' → n ≡ total s → k ≡ i → end_to_end l' ≡ insert_at k a (end_to_end l) → t' ≡ list_bytes m l'
-  insert-to t' l' i n k f en e q =
-      f m (end_to_end l) (total-is s l h.sized ∙ sym en) (omega (arith, en, more)) (h.bytes ∙ lists-listed m l)
-      ∙ ap (listed m) (sym (q ∙ ap (λ x. insert_at x a (end_to_end l)) e)) ∙ sym (lists-listed m l')
-
-  pub join-t1 : {t' : List ℕ} (n : ℕ) → n ≡ total s → Inserts s.t1 n a t t'
-      → Holds m (resized s (s.t1 + 1) s.t2 s.b1 s.b2 s.b3) t' (join_t1 a l)
-  join-t1 {t'} n en f =
-      record {
-        sized = record {
-          t1-is = omega (arith, h.sized.t1-is, length-append l.T1 (a ∷ []));
-          t2-is = h.sized.t2-is;
-          b1-is = h.sized.b1-is;
-          b2-is = h.sized.b2-is;
-          b3-is = h.sized.b3-is;
-          p-is = h.sized.p-is;
-        };
-        bytes = insert-to t' (join_t1 a l) s.t1 n (length l.T1) f en (sym h.sized.t1-is) (end-join_t1 a l);
-        room = omega (arith, more);
-      }
-
-  pub join-t2 : {t' : List ℕ} (i n : ℕ) → i ≡ s.t1 + s.t2 → n ≡ total s → Inserts i n a t t'
-      → Holds m (resized s s.t1 (s.t2 + 1) s.b1 s.b2 s.b3) t' (join_t2 a l)
-  join-t2 {t'} i n ei en f =
-      record {
-        sized = record {
-          t1-is = h.sized.t1-is;
-          t2-is = omega (arith, h.sized.t2-is, length-append l.T2 (a ∷ []));
-          b1-is = h.sized.b1-is;
-          b2-is = h.sized.b2-is;
-          b3-is = h.sized.b3-is;
-          p-is = h.sized.p-is;
-        };
-        bytes = insert-to t' (join_t2 a l) i n (length (l.T1 ++ l.T2)) f en
-            (omega (arith, ei, length-append l.T1 l.T2, h.sized.t1-is, h.sized.t2-is)) (end-join_t2 a l);
-        room = omega (arith, more);
-      }
+  pub left-some : {t' : List ℕ} (i n : ℕ) (x : ListName) → n ≡ total s → place_of a (words n t) ≡ i → i < n → which_at s i ≡ Some x → Removes i n t t'
+      → count a (end_to_end l) ≤ 1 → Holds m (less_of x s) t' (left a l)
+  left-some {t'} i n x en e g w f once =
+      let E = end_to_end l in
+      let q = place-read i n en e in
+      let z = total-is s l h.sized in
+      let k : is_in a E ≡ true = by-test (is_in a E) (λ y. y) (λ y. let b = place_out a E y in absurd (omega (arith, b, q, z, en, g))) in
+      let b = (resized-by x (size_of x s - 1) s).total-is in
+      left-is (less_of x s) t' (subst (λ o. Sized (left_sizes o s) (left a l)) (which-read i n (Some x) en e w) (left-sized a s l h.sized once))
+      (f m E (z ∙ sym en) (omega (arith, en, h.room)) (h.bytes ∙ lists-listed m l) ∙ ap (listed m) (ap (remove_at E) (sym q) ∙ sym (out_at a E once k)))
+      (omega (arith, b, h.room))

@@ -1,5 +1,5 @@
 -- Addresses in lent bytes, four bytes each, and the place of one. Assumes nothing.
-use Rattle.std.specs.Prelude.{◌≡◌, cond, List, [], ◌∷◌, ◌++◌, ℕ, suc, ◌-◌, ◌*◌, ◌≤◌, ◌<◌, eqb, ltb, length}
+use Rattle.std.specs.Prelude.{◌≡◌, cond, List, [], ◌∷◌, ◌++◌, ℕ, suc, ◌-◌, ◌*◌, ◌≤◌, ◌<◌, eqb, length}
 use Rattle.tables.specs.Rows.{zeros, remove_at}
 use Rattle.arc.specs.ArcLent.{word_bytes}
 use Rattle.arc.specs.ArcEnds.{insert_at, rotated}
@@ -16,10 +16,6 @@ place_of a (x ∷ xs) = cond (eqb a x) 0 (suc (place_of a xs))
 -- What code does to the bytes t of n addresses, whatever the addresses are, where m have room. The address at place i is taken out
 abbrev pub Removes : (i n : ℕ) (t t' : List ℕ) → Type 0
 Removes i n t t' = (m : ℕ) (ws : List ℕ) → length ws ≡ n → n ≤ m → t ≡ listed m ws → t' ≡ listed m (remove_at ws i)
-
--- .. where i is below n
-abbrev pub TakesOut : (i n : ℕ) (t t' : List ℕ) → Type 0
-TakesOut i n t t' = (m : ℕ) (ws : List ℕ) → length ws ≡ n → n ≤ m → t ≡ listed m ws → t' ≡ listed m (cond (ltb i n) (remove_at ws i) ws)
 
 -- a is put in at place i
 abbrev pub Inserts : (i n a : ℕ) (t t' : List ℕ) → Type 0

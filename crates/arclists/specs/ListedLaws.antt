@@ -1,8 +1,9 @@
 -- What moves of bytes do to addresses of four bytes. Assumes nothing.
-use Rattle.std.specs.Prelude.{◌≡◌, refl, List, [], ◌∷◌, ◌++◌, ℕ, zero, suc, ◌+◌, ◌-◌, ◌*◌, ◌≤◌, ◌<◌, length, get_or, take, drop}
+use Rattle.std.specs.Prelude.{◌≡◌, refl, List, [], ◌∷◌, ◌++◌, ℕ, zero, suc, ◌+◌, ◌-◌, ◌*◌, ◌/◌, ◌%◌, ◌≤◌, ◌<◌, length, get_or, take, drop}
 use Rattle.std.proofs.Common.{sym, ap, ap₂, ◌∙◌, append_assoc, arith, length-append, length-drop, drop-drop, take_all, length-take-le, drop-cons}
 use Rattle.std.proofs.Math.Seq.{paste, take-append-add, drop-append-add, take-length, drop-length}
-use Rattle.tables.specs.Rows.{zeros, remove_at}
+use Rattle.std.proofs.lemmas.List.{get_or-take, get_or-drop}
+use Rattle.tables.specs.Rows.{zeros, remove_at, le4}
 use Rattle.tables.specs.Records.{bytes4}
 use Rattle.tables.specs.ShiftLaws.{length-zeros, moved_down, moved_up}
 use Rattle.tables.proofs.OperationLaws.{length-remove_at}
@@ -48,6 +49,34 @@ length-listed m ws h = omega (arith, length-append (word_bytes ws) (zeros ((m - 
 pub one_word : (ws rest : List ℕ) (i : ℕ) → i < length ws → take 4 (drop (i * 4) (word_bytes ws ++ rest)) ≡ bytes4 (get_or ws i 0)
 unfolding word_bytes
 one_word ws rest i h = ap (take 4) (drop-words i ws rest (omega arith) ∙ ap (λ l. word_bytes l ++ rest) (drop-cons ws i 0 h))
+
+-- the bytes of a number from its digits
+four-digits : (a b c d : ℕ) → a < 256 → b < 256 → c < 256 → d < 256 → bytes4 (a + 256 * b + 65536 * c + 16777216 * d) ≡ a ∷ b ∷ c ∷ d ∷ []
+four-digits a b c d ha hb hc hd =
+    let n = a + 256 * b + 65536 * c + 16777216 * d in
+    let e0 : n % 256 ≡ a = omega arith in
+    let e1 : n / 256 % 256 ≡ b = omega arith in
+    let e2 : n / 65536 % 256 ≡ c = omega arith in
+    let e3 : n / 16777216 % 256 ≡ d = omega arith in
+    rw (e0, e1, e2, e3) refl
+
+byte-in : (t : List ℕ) (at x j : ℕ) → take 4 (drop at t) ≡ bytes4 x → j < 4 → get_or t (at + j) 0 ≡ get_or (bytes4 x) j 0
+byte-in t at x j h b = sym (get_or-drop at t j 0) ∙ sym (get_or-take 4 (drop at t) j 0 b) ∙ ap (λ l. get_or l j 0) h
+
+-- four bytes of a number, read as a number, have the bytes again
+pub word-back : (t : List ℕ) (at x : ℕ) → take 4 (drop at t) ≡ bytes4 x → bytes4 (le4 t at) ≡ bytes4 x
+word-back t at x h =
+    let z : at + 0 ≡ at = omega arith in
+    let e0 : get_or t at 0 ≡ x % 256 = ap (λ i. get_or t i 0) (sym z) ∙ byte-in t at x 0 h (omega arith) in
+    rw (e0, byte-in t at x 1 h (omega arith), byte-in t at x 2 h (omega arith), byte-in t at x 3 h (omega arith))
+    (four-digits (x % 256) (x / 256 % 256) (x / 65536 % 256) (x / 16777216 % 256) (omega arith) (omega arith) (omega arith) (omega arith))
+
+pub word-listed : (m : ℕ) (ws : List ℕ) (i : ℕ) (t : List ℕ) → i < length ws → t ≡ listed m ws → bytes4 (le4 t (i * 4)) ≡ take 4 (drop (i * 4) t)
+unfolding listed
+word-listed m ws i t h e =
+    let w : take 4 (drop (i * 4) t) ≡ bytes4 (get_or ws i 0)
+    = ap (λ l. take 4 (drop (i * 4) l)) e ∙ one_word ws (zeros ((m - length ws) * 4)) i h in
+    word-back t (i * 4) (get_or ws i 0) w ∙ sym w
 
 -- an address taken out
 pub word_out : (m : ℕ) (ws : List ℕ) (n i : ℕ) → i < n → length ws ≡ n → n ≤ m

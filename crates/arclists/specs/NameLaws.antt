@@ -4,21 +4,25 @@ use Rattle.std.proofs.Math.Path.{refl}
 use Rattle.std.proofs.Common.{sym, ap, ap₂, ◌∙◌, subst, arith, drop-drop}
 use Rattle.std.proofs.Math.Bool.{true}
 use Rattle.std.proofs.lemmas.Bool.{false≢true}
+use Rattle.std.proofs.lemmas.List.FromFn.{get_or-range_with_len, length-range_with_len}
+use Rattle.std.specs.List.{range_with_len, AllWithin, HoldsAt}
+use Rattle.std.specs.Bool.{MatchBool}
 use Prim.Native.Nat.{ℕ, zero, suc, ◌+◌, ◌-◌, ◌*◌, ◌≤◌, ◌<◌}
 use Rattle.std.proofs.Math.ListN.{drop}
 use Rattle.std.proofs.Math.Seq.{drop-cons}
 use borrow.Author.Tests.{eqb-true, eq-eqb, ne_eqb, lt-ltb, le-ltb, not-true}
 use Rattle.tables.specs.Find.{all}
-use Rattle.tables.specs.Rows.{rows, row_at}
+use Rattle.tables.specs.Rows.{rows, row_at, le4}
+use Rattle.tables.specs.RowLaws.{rows-length, rows_at}
 use Rattle.tables.specs.Unsound.{elem}
 use Rattle.tables.specs.Sound.{mark, distinct, row_address}
-use Rattle.tables.specs.SoundLaws.{Read, Marked, twice, once, all-at, values_length}
+use Rattle.tables.specs.SoundLaws.{Read, Marked, twice, once, all-at, values_length, rows-all-more, rows-all-holds}
 use Rattle.paper.specs.KeyedLaws.{by-test, either, clash, or_cases, or_left, or_right, or-false-left, or-false-right}
 use Rattle.paper.specs.KeyedLaws.{and_left, and_right, eqb→≡, eqb-self, All, Distinct}
 use Rattle.arc.specs.Arc.{is_in, out}
 use Rattle.arc.specs.Tally.{count, tally-has, tally-some, tally-distinct, tally-append, tally-without-other}
 use Rattle.arc.specs.ArcLent.{misnamed, words}
-use Rattle.arc.proofs.ArcLentLaws.{same_length, length-words-in}
+use Rattle.arc.proofs.ArcLentLaws.{same_length, length-words-in, words-at}
 use Rattle.arc.specs.ArcTicks.{ticked}
 use Rattle.arc.proofs.ArcTicksLaws.{ticks-tell, named-same, same-named}
 use Rattle.arclists.specs.Names.{possible, fine}
@@ -47,6 +51,43 @@ module _ {ws : List ℕ} {k x : ℕ} (r : Read ws 65536 k x) (at : ℕ → ℕ) 
       let q : drop (k - 1) ws ≡ x ∷ drop k ws = drop-cons ws (k - 1) 0 (omega (arith, r.some, r.within)) ∙ rw (e, r.is) refl in
       let b : all possible (drop (k - 1) ws) ≡ true = rw (q, lt-ltb x 65536 r.has) (and_left (all possible (drop k ws)) (distinct (drop k ws)) f) in
       rw (b, once r at m h (and_right (all possible (drop k ws)) (distinct (drop k ws)) f)) refl
+
+-- the name read before the first k
+pub name-is : (n : ℕ) (t : List ℕ) (k x : ℕ) → 0 < k → k ≤ n → x ≡ le4 t ((k - 1) * 4) → x ≡ get_or (words n t) (k - 1) 0
+name-is n t k x some h e = e ∙ sym (words-at n t (k - 1) (omega arith))
+
+pub read-name : (n : ℕ) (t : List ℕ) (k x : ℕ) → 0 < k → k ≤ n → x ≡ le4 t ((k - 1) * 4) → x < 65536 → Read (words n t) 65536 k x
+read-name n t k x some h e b =
+    record { some = some; within = omega (arith, length-words-in n t); is = name-is n t k x some h e; has = b }
+
+zero-add : (k : ℕ) → 0 + k ≡ k
+zero-add k = omega arith
+
+-- a test of each of n rows, as it goes over their places
+pub all-over : (n : ℕ) (r : Bool) (Yes No : ℕ → Type 0)
+    → MatchBool r (AllWithin Yes (range_with_len 0 n) 0 (length (range_with_len 0 n)))
+    ((k : ℕ) × (k < length (range_with_len 0 n)) × HoldsAt No (range_with_len 0 n) k)
+    → MatchBool r ((k : ℕ) → k < n → Yes k) ((k : ℕ) × (k < n) × No k)
+all-over n true Yes No h =
+    λ k b. subst Yes (get_or-range_with_len 0 n k 0 b ∙ zero-add k) (h k 0 (omega arith) (omega (arith, length-range_with_len 0 n)))
+all-over n false Yes No h =
+    let b : h.0 < n = omega (arith, h.1, length-range_with_len 0 n) in
+    (h.0, b, subst No (get_or-range_with_len 0 n h.0 0 b ∙ zero-add h.0) (h.2 0))
+
+rows-pass : (p : List ℕ → Bool) (n : ℕ) (t : List ℕ) (k : ℕ) → k ≤ n → ((j : ℕ) → j < n → p (row_at t j) ≡ true)
+    → all p (rows n t) ≡ all p (drop k (rows n t))
+rows-pass p n t zero l h = refl
+rows-pass p n t (suc k) l h =
+    let m : k + 1 ≡ suc k = omega arith in
+    rw m at (rows-all-more p n t k (rows-pass p n t k (omega arith) h) (omega arith) (h k (omega arith)))
+
+pub rows-tested : (p : List ℕ → Bool) (n : ℕ) (t : List ℕ) (r : Bool)
+    → MatchBool r ((k : ℕ) → k < n → p (row_at t k) ≡ true) ((k : ℕ) × (k < n) × (p (row_at t k) ≡ false)) → r ≡ all p (rows n t)
+rows-tested p n t true h = rows-all-holds p n t n (rows-pass p n t n (omega arith) h) (omega arith)
+rows-tested p n t false h =
+    by-test (all p (rows n t))
+    (λ e. clash (ap p (sym (rows_at n t h.0 h.1)) ∙ all-at p (rows n t) h.0 [] e (rw rows-length h.1)) h.2)
+    (λ e. sym e)
 
 pub mark-test : (b : Bool) → eqb (mark b) 1 ≡ b
 mark-test true = refl

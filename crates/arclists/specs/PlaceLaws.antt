@@ -1,12 +1,13 @@
 -- The place of an address. Assumes nothing.
-use Rattle.std.specs.Prelude.{◌≡◌, true, false, List, [], ◌∷◌, ◌++◌, eqb, length, get_or, drop}
+use Rattle.std.specs.Prelude.{◌≡◌, true, false, Option, None, Some, MatchOption, List, [], ◌∷◌, ◌++◌, eqb, length, get_or, drop}
 use Rattle.std.proofs.Math.Path.{refl}
-use Rattle.std.proofs.Common.{ap, ◌∙◌, drop-cons, drop_of_length-le}
+use Rattle.std.proofs.Common.{sym, ap, ◌∙◌, drop-cons, drop_of_length-le}
 use Rattle.std.proofs.lemmas.Bool.{false≢true}
 use Prim.Native.Nat.{ℕ, zero, suc, ◌+◌, ◌*◌, ◌≤◌, ◌<◌}
 use native.Mathlib.Omega.{arith}
 use borrow.Author.Tests.{eq-eqb, ne_eqb}
-use Rattle.tables.specs.Rows.{remove_at}
+use Rattle.tables.specs.Rows.{remove_at, le4}
+use Rattle.arc.proofs.ArcLentLaws.{length-words-in, words-at}
 use Rattle.paper.specs.KeyedLaws.{by-test, or-false-left, or-false-right, without-absent}
 use Rattle.arc.specs.Arc.{is_in, out}
 use Rattle.arc.specs.Tally.{count, tally-has}
@@ -26,6 +27,31 @@ module _ (a : ℕ) (ws : List ℕ) (k : ℕ) where
   pub place_end : length ws ≤ k → place_of a (drop k ws) ≡ 0
   unfolding place_of
   place_end h = rw (drop_of_length-le ws h) refl
+
+-- what a search of the n addresses in bytes finds is the place of the first a
+before-misses : (a n : ℕ) (t : List ℕ) (k : ℕ) → k ≤ n → ((j : ℕ) → 0 ≤ j → j < k → le4 t (j * 4) ≡ a → ⊥)
+    → place_of a (words n t) ≡ k + place_of a (drop k (words n t))
+before-misses a n t zero l h = omega arith
+before-misses a n t (suc k) l h =
+    let m : k + 1 ≡ suc k = omega arith in
+    let b = length-words-in n t in
+    rw m at (before-misses a n t k (omega arith) (λ j x y. h j x (omega arith))
+    ∙ place-miss a (words n t) k (omega (arith, b)) (λ e. h k (omega arith) (omega arith) (sym (words-at n t k (omega arith)) ∙ sym e)))
+
+pub place-found : (a n : ℕ) (t : List ℕ) (r : Option ℕ)
+    → MatchOption r ((j : ℕ) → 0 ≤ j → j < n → le4 t (j * 4) ≡ a → ⊥)
+    (λ i. (0 ≤ i) × (i < n) × (le4 t (i * 4) ≡ a) × ((j : ℕ) → 0 ≤ j → j < i → le4 t (j * 4) ≡ a → ⊥))
+    → MatchOption r (place_of a (words n t) ≡ n) (λ k. (k < n) × (place_of a (words n t) ≡ k))
+place-found a n t None h =
+    let b = length-words-in n t in
+    let m = before-misses a n t n (omega arith) h in
+    let z = place_end a (words n t) n (omega (arith, b)) in
+    omega (arith, m, z)
+place-found a n t (Some i) h =
+    let b = length-words-in n t in
+    let m = before-misses a n t i (omega (arith, h.1)) h.3 in
+    let z = place-hit a (words n t) i (omega (arith, b, h.1)) (sym h.2 ∙ sym (words-at n t i h.1)) in
+    (h.1, omega (arith, m, z))
 
 -- an address is at a place where it is in the list
 pub place_in : (a : ℕ) (l : List ℕ) → is_in a l ≡ true → place_of a l < length l

@@ -1,12 +1,14 @@
 -- The check for 6 of the lists, test by test. Assumes nothing.
-use Rattle.std.specs.Prelude.{◌≡◌, Bool, true, false, ◌||◌, List, map, length, get_or, drop}
+use Rattle.std.specs.Prelude.{◌≡◌, Bool, true, false, ◌||◌, List, [], ◌∷◌, map, min, length, get_or, take, drop}
+use Rattle.std.specs.Bool.{MatchBool}
+use Rattle.std.specs.List.{AllWithin, HoldsAt}
 use Rattle.std.proofs.Math.Path.{refl, sym, ap, ap₂}
-use Rattle.std.proofs.Common.{◌∙◌, drop_of_length-le, drop-cons}
-use Prim.Native.Nat.{ℕ, suc, ◌+◌, ◌*◌, ◌≤◌, ◌<◌}
+use Rattle.std.proofs.Common.{◌∙◌, length-drop, take_all}
+use Prim.Native.Nat.{ℕ, zero, suc, ◌+◌, ◌-◌, ◌*◌, ◌≤◌, ◌<◌}
 use native.Mathlib.Omega.{arith}
 use Rattle.std.proofs.Math.Dec.{ltb}
-use borrow.Author.Tests.{lt-ltb, le-ltb, ltb-false, eq-eqb, ne_eqb}
-use Rattle.paper.specs.KeyedLaws.{or_left, or_right, or-false-left, or-false-right}
+use borrow.Author.Tests.{lt-ltb, le-ltb, ltb-true, ltb-false, eq-eqb, ne_eqb}
+use Rattle.paper.specs.KeyedLaws.{by-test, or_left, or_right, or-false-left, or-false-right}
 use Rattle.tables.specs.Find.{any}
 use Rattle.tables.specs.Unsound.{nonzero}
 use Rattle.paper.specs.Cache.{AddressRow}
@@ -22,32 +24,20 @@ module _ (s : ListSizes) where
   unfolding oversized
   over-top h = rw (lt-ltb (s.cached + s.extra) (s.t1 + s.t2 + s.b3) h) refl
 
-  over-back : s.cached < s.b1 + s.b2 → true ≡ oversized (limits_of s) (rec_of s)
-  unfolding oversized
-  over-back h = sym (or_right (ltb (s.cached + s.extra) (s.t1 + s.t2 + s.b3)) (ltb s.cached (s.b1 + s.b2)) (lt-ltb s.cached (s.b1 + s.b2) h))
-
-  module _ (most : s.cached + s.extra ≤ 1024) where
-    pub big-t1 : 1024 < s.t1 → true ≡ oversized (limits_of s) (rec_of s)
-    big-t1 h = over-top (omega (arith, h, most))
-
-    pub big-t2 : 1024 < s.t2 → true ≡ oversized (limits_of s) (rec_of s)
-    big-t2 h = over-top (omega (arith, h, most))
-
-    pub big-b3 : 1024 < s.b3 → true ≡ oversized (limits_of s) (rec_of s)
-    big-b3 h = over-top (omega (arith, h, most))
-
-    pub big-b1 : 1024 < s.b1 → true ≡ oversized (limits_of s) (rec_of s)
-    big-b1 h = over-back (omega (arith, h, most))
-
-    pub big-b2 : 1024 < s.b2 → true ≡ oversized (limits_of s) (rec_of s)
-    big-b2 h = over-back (omega (arith, h, most))
-
-  pub top-full : s.cached + s.extra < s.t1 + s.t2 + s.b3 → true ≡ oversized (limits_of s) (rec_of s)
-  top-full h = over-top h
-
   pub rest-full : s.t1 + s.t2 + s.b3 ≤ s.cached + s.extra → ltb s.cached (s.b1 + s.b2) ≡ oversized (limits_of s) (rec_of s)
   unfolding oversized
   rest-full h = rw (le-ltb (s.cached + s.extra) (s.t1 + s.t2 + s.b3) h) refl
+
+  -- n is the sum, or the largest number where the sum is too large for it
+  pub full-top : (n : ℕ) → n ≤ s.t1 + s.t2 + s.b3 → s.cached + s.extra < n → ltb (s.cached + s.extra) n ≡ oversized (limits_of s) (rec_of s)
+  full-top n h k = lt-ltb (s.cached + s.extra) n k ∙ over-top (omega (arith, h, k))
+
+  pub full-back : (n : ℕ) → n ≡ min (s.b1 + s.b2) 18446744073709551615 → s.cached < 18446744073709551615 → s.t1 + s.t2 + s.b3 ≤ s.cached + s.extra
+      → ltb s.cached n ≡ oversized (limits_of s) (rec_of s)
+  full-back n e h k =
+      by-test (ltb s.cached (s.b1 + s.b2))
+      (λ q. let b = ltb-true s.cached (s.b1 + s.b2) q in lt-ltb s.cached n (omega (arith, b, e, h)) ∙ sym q ∙ rest-full k)
+      (λ q. let b = ltb-false s.cached (s.b1 + s.b2) q in le-ltb s.cached n (omega (arith, b, e, h)) ∙ sym q ∙ rest-full k)
 
   pub fits-total : oversized (limits_of s) (rec_of s) ≡ false → total s ≤ s.cached + s.cached + s.extra
   unfolding oversized
@@ -58,19 +48,26 @@ module _ (s : ListSizes) where
       let y = ltb-false s.cached (s.b1 + s.b2) (or-false-right a b e) in
       omega (arith, x, y)
 
--- a turn of the search for a byte that isn't zero
-module _ (t : List ℕ) (k : ℕ) where
-  pub byte-not-zero : k < length t → (get_or t k 0 ≡ 0 → ⊥) → true ≡ any nonzero (drop k t)
-  unfolding any
-  byte-not-zero h e = rw (drop-cons t k 0 h, ne_eqb (get_or t k 0) 0 e) refl
+-- a search for a byte that isn't zero
+nonzero-at : (t : List ℕ) (k : ℕ) → k < length t → (get_or t k 0 ≡ 0 → ⊥) → any nonzero t ≡ true
+unfolding any
+nonzero-at [] k h e = absurd (omega (arith, h))
+nonzero-at (x ∷ xs) zero h e = rw (ne_eqb x 0 e) refl
+nonzero-at (x ∷ xs) (suc k) h e = or_right (nonzero x) (any nonzero xs) (nonzero-at xs k (omega (arith, h)) e)
 
-  pub byte-zero : k < length t → get_or t k 0 ≡ 0 → any nonzero (drop k t) ≡ any nonzero (drop (k + 1) t)
-  unfolding any
-  byte-zero h e = let q : k + 1 ≡ suc k = omega arith in rw (drop-cons t k 0 h, eq-eqb (get_or t k 0) 0 e, q) refl
+all-zero : (t : List ℕ) → ((k : ℕ) → k < length t → get_or t k 0 ≡ 0) → any nonzero t ≡ false
+unfolding any
+all-zero [] h = refl
+all-zero (x ∷ xs) h = rw (eq-eqb x 0 (h 0 (omega arith))) (all-zero xs (λ k b. h (suc k) (omega (arith, b))))
 
-  pub bytes-end : length t ≤ k → false ≡ any nonzero (drop k t)
-  unfolding any
-  bytes-end h = rw (drop_of_length-le t h) refl
+pub nonzero-found : (t : List ℕ) (r : Bool)
+    → MatchBool r ((k : ℕ) × (k < length t) × HoldsAt (λ x. x ≡ 0 → ⊥) t k) (AllWithin (λ x. x ≡ 0) t 0 (length t)) → r ≡ any nonzero t
+nonzero-found t true h = sym (nonzero-at t h.0 h.1 (h.2 0))
+nonzero-found t false h = sym (all-zero t (λ k b. h k 0 (omega arith) b))
+
+-- the bytes from index `at` on
+pub from-on : (t : List ℕ) (at : ℕ) → take (length t - at) (drop at t) ≡ drop at t
+from-on t at = take_all (length t - at) (drop at t) (omega (arith, length-drop at t))
 
 -- the four tests: the first decides where the others don't hold
 alone : (a b c d : Bool) → b ≡ false → c ≡ false → d ≡ false → a ≡ a || b || c || d

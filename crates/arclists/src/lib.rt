@@ -8,6 +8,7 @@ pub mod leave;
 pub mod moves;
 pub mod names;
 pub mod replace;
+pub mod sizes;
 pub mod unsound;
 pub mod words;
 
@@ -24,28 +25,19 @@ pub struct ListSizes {
     pub extra: usize,
 }
 
-// "which list it was is remembered"
+// The five lists.
 #[derive(Clone, Copy)]
-pub enum Was {
-    InT1,
-    InT2,
-    InB1,
-    InB2,
-    InB3,
-    Unheld,
+pub enum ListName {
+    T1,
+    T2,
+    B1,
+    B2,
+    B3,
 }
 
-// The lists from which addresses leave the box: B1, B2 and B3.
-#[derive(Clone, Copy)]
-pub enum Ghost {
-    OfB1,
-    OfB2,
-    OfB3,
-}
-
-// What is left when an address leaves, and the list that it was in.
+// What is left when an address leaves, and the list that it was in: "which list it was is remembered".
 #[derive(Clone, Copy)]
 pub struct Left {
     pub sizes: ListSizes,
-    pub was: Was,
+    pub was: Option<ListName>,
 }

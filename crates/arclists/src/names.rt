@@ -19,9 +19,7 @@ pub fn names_marked(lists: &[u8], n: usize, seen: &mut [u8]) -> bool
     ensures marked { result ≡ true → Marked (bit_at seen.new) 65536 (words n lists.now) }
     ensures seen_len { length seen.new ≡ 8192 }
 {
-    let mut k = n;
-    while 0 < k {
-        k -= 1;
+    for k in (0..n).rev() {
         let x = words::word_at(lists, k);
         if 65536 <= x {
             return false;
@@ -60,14 +58,7 @@ pub(crate) fn rows_named(addresses: &[u8], n: usize, seen: &[u8]) -> bool
     requires by_index { (k : ℕ) → k < n → row_address (row_at addresses.now k) < 65536 }
     ensures { result ≡ all (λ r. eqb (bit_at seen.now (row_address r)) 1) (rows n addresses.now) }
 {
-    let mut k = 0;
-    while k < n {
-        if !row_named(addresses, k, seen) {
-            return false;
-        }
-        k += 1;
-    }
-    true
+    (0..n).all(|k| row_named(addresses, k, seen))
 }
 
 // Whether the `total` names don't name each of the first `n` rows' addresses once and no other.

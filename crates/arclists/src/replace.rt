@@ -3,7 +3,7 @@ ghost use Rattle.std.specs.Prelude.{◌≡◌, cond, ℕ, ◌*◌, ◌≤◌, le
 ghost use Rattle.arc.specs.Arc.{Lists, takes_t1, t1b1, t2b2};
 ghost use Rattle.arclists.specs.Holding.{total, Holds, Kept, Sized};
 
-use crate::{ListSizes, moves};
+use crate::{ListName, ListSizes, moves};
 
 // "if |T1| > 0 and (|T1| > p or (x in B2 and |T1| = p))"; "Where the replacement would take from an empty T2, it takes from T1". `b2`: x was in B2.
 pub fn takes_t1(s: ListSizes, b2: bool) -> bool
@@ -28,7 +28,8 @@ pub fn move_top(s: ListSizes, lists: &mut [u8], top: bool) -> ListSizes
     ensures result_value { (total result ≡ total s) × Kept result s }
 {
     if top {
-        return moves::t1_to_b1(s, lists);
+        moves::move_lru(s, lists, ListName::T1, ListName::B1)
+    } else {
+        moves::move_lru(s, lists, ListName::T2, ListName::B2)
     }
-    moves::t2_to_b2(s, lists)
 }

@@ -1,5 +1,5 @@
 // Refusal 6, as far as it is about the lists.
-ghost use Rattle.std.specs.Prelude.{◌≡◌, true, List, map, ℕ, ◌+◌, ◌*◌, ◌≤◌, ◌<◌, length, drop};
+ghost use Rattle.std.specs.Prelude.{◌≡◌, true, List, map, ℕ, ◌+◌, ◌*◌, ◌≤◌, ◌<◌, length};
 ghost use Rattle.tables.specs.Rows.{rows, row_at, table_bytes};
 ghost use Rattle.tables.specs.Find.{any};
 ghost use Rattle.tables.specs.Unsound.{nonzero};
@@ -10,46 +10,22 @@ ghost use Rattle.arc.specs.Arc.{Sizes};
 ghost use Rattle.arc.specs.ArcLent.{oversized, lists_unsound};
 ghost use Rattle.arclists.specs.Holding.{rec_of, limits_of, Limits};
 
-use crate::{ListSizes, moves, names};
+use crate::{ListSizes, names};
 
-// "or pass these sizes": "T1, T2 and B3 hold at most C + X together, B1 and B2 together at most C"; for any numbers, so that no sum is too large.
+// "or pass these sizes": "T1, T2 and B3 hold at most C + X together, B1 and B2 together at most C"; for any numbers in `s`.
 pub(crate) fn too_large(s: ListSizes) -> bool
     requires { s.cached + s.extra ≤ 1024 }
     ensures { result ≡ oversized (limits_of s) (rec_of s) }
 {
-    if 1024 < s.t1 {
-        return true;
-    }
-    if 1024 < s.t2 {
-        return true;
-    }
-    if 1024 < s.b3 {
-        return true;
-    }
-    if 1024 < s.b1 {
-        return true;
-    }
-    if 1024 < s.b2 {
-        return true;
-    }
-    if s.cached + s.extra < s.t1 + s.t2 + s.b3 {
-        return true;
-    }
-    s.cached < s.b1 + s.b2
+    let most = s.cached + s.extra;
+    most < s.t1.saturating_add(s.t2).saturating_add(s.b3) || s.cached < s.b1.saturating_add(s.b2)
 }
 
-// Whether a byte from index `at` on isn't zero.
-pub(crate) fn nonzero_from(lists: &[u8], at: usize) -> bool
-    ensures { result ≡ any nonzero (drop at lists.now) }
+// Whether a byte isn't zero.
+pub(crate) fn has_nonzero(bytes: &[u8]) -> bool
+    ensures { result ≡ any nonzero bytes.now }
 {
-    let mut k = at;
-    while k < lists.len() {
-        if lists[k] != 0 {
-            return true;
-        }
-        k += 1;
-    }
-    false
+    bytes.iter().any(|b| *b != 0)
 }
 
 // "Refusal 6 also covers lists that don't name each held address once and no other, or pass these sizes, a nonzero byte after them, and p above C":
@@ -68,8 +44,8 @@ pub fn lists_unsound(s: ListSizes, addresses: &[u8], n: usize, lists: &[u8]) -> 
     if s.cached < s.p {
         return true;
     }
-    let total = moves::total_of(s);
-    if nonzero_from(lists, total * 4) {
+    let total = s.total();
+    if has_nonzero(&lists[total * 4..]) {
         return true;
     }
     names::names_wrong(addresses, n, lists, total)

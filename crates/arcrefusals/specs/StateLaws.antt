@@ -3,6 +3,12 @@ use Rattle.std.specs.Prelude.{◌≡◌, Bool, true, false, not, ◌&&◌, ◌||
 use Rattle.std.proofs.Math.Path.{refl}
 use Rattle.std.proofs.Common.{sym, ap, ◌∙◌, arith}
 use Rattle.std.proofs.Math.Dec.{ltb}
+use Rattle.std.specs.Prelude.{Result, Ok, Err}
+use Rattle.refusal.specs.declared.Refusal.{Refusal}
+use Rattle.refusal.specs.declared.Refusal.TheVariants.{Outside, WrongLength, NoAddress, Unformed, BoxTooLarge, BadAddresses, BadBlocks}
+use Rattle.refusal.specs.declared.Refusal.TheVariants.{DirtyUncached, CounterFull, BadCount}
+use Rattle.refusal.specs.declared.Refusal.TheVariants.{ArcOutside, BadLimit, TooDirty, NoRoom, NoImage, BadImage, TooLarge}
+use Rattle.refusal.specs.Numbers.{number_of}
 use borrow.Author.Tests.{eq-eqb, le-leb, ltb-false, not-true, not-false}
 use Rattle.tables.specs.Rows.{HasRows, rows, row_at, le4, table_bytes}
 use Rattle.tables.specs.Records.{read_address, held_rows}
@@ -62,6 +68,27 @@ fine-words k n t h e =
     let r = all possible (words n t) in
     let q = distinct (words n t) in
     rw (possible-words k n t h (and_left r q e), distinct-words k n t h (and_right r q e)) refl
+
+-- 6 is the number of one refusal
+pub six-is : {A : Type 0} (r : Result A Refusal) → number_of r ≡ 6 → r ≡ Err BadAddresses
+six-is (Ok x) e = absurd (omega (arith, e))
+six-is (Err Outside) e = absurd (omega (arith, e))
+six-is (Err WrongLength) e = absurd (omega (arith, e))
+six-is (Err NoAddress) e = absurd (omega (arith, e))
+six-is (Err Unformed) e = absurd (omega (arith, e))
+six-is (Err BoxTooLarge) e = absurd (omega (arith, e))
+six-is (Err BadAddresses) e = refl
+six-is (Err BadBlocks) e = absurd (omega (arith, e))
+six-is (Err DirtyUncached) e = absurd (omega (arith, e))
+six-is (Err CounterFull) e = absurd (omega (arith, e))
+six-is (Err BadCount) e = absurd (omega (arith, e))
+six-is (Err ArcOutside) e = absurd (omega (arith, e))
+six-is (Err BadLimit) e = absurd (omega (arith, e))
+six-is (Err TooDirty) e = absurd (omega (arith, e))
+six-is (Err NoRoom) e = absurd (omega (arith, e))
+six-is (Err NoImage) e = absurd (omega (arith, e))
+six-is (Err BadImage) e = absurd (omega (arith, e))
+six-is (Err TooLarge) e = absurd (omega (arith, e))
 
 -- the addresses of the held rows
 pub addresses-held : (n : ℕ) (t : List ℕ) → map (λ r. r.address) (map as_held (held_rows n t)) ≡ map row_address (rows n t)

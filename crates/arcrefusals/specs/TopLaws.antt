@@ -1,14 +1,12 @@
 -- 8 of the lists, row by row. Assumes nothing.
-use Rattle.std.specs.Prelude.{◌≡◌, Bool, ◌&&◌, ◌||◌, cond, ℕ, suc, ◌≤◌, ◌<◌, eqb, ltb, length}
+use Rattle.std.specs.Prelude.{◌≡◌, Bool, ◌&&◌, ◌||◌, cond, ℕ, ◌≤◌, ◌<◌, eqb, ltb, length, None, Option, Some, is_none}
 use Rattle.std.proofs.Math.Path.{refl, ap₂}
 use Rattle.std.proofs.Common.{sym, ap, ◌∙◌, arith, lt-ltb, le-ltb}
 use Rattle.std.proofs.Math.Bool.{true, false, not}
 use mathlib.Core.List.{List, [], ◌∷◌, map}
 use Rattle.tables.specs.Rows.{row_bytes, HasRows, rows, row_at}
 use Rattle.tables.specs.Records.{read_address, read_block, held_rows, block_rows}
-use Rattle.tables.specs.declared.Found.{Found}
-use Rattle.tables.specs.declared.Found.TheVariants.{At, Nothing}
-use Rattle.tables.specs.Find.{all, any, find_from, absent, caches}
+use Rattle.tables.specs.Find.{all, any, find_from, caches}
 use Rattle.tables.specs.FindLaws.{found_at}
 use Rattle.tables.specs.Unsound.{elem}
 use Rattle.tables.specs.Bits.{bit_at}
@@ -17,9 +15,9 @@ use Rattle.tables.specs.SoundLaws.{Marked}
 use Rattle.tables.specs.Index.{code, place_in, cached_in}
 use Rattle.tables.specs.OperationLaws.{Wide}
 use Rattle.tables.proofs.OperationLaws.{wide_rows}
-use Rattle.paper.specs.KeyedLaws.{All, by-test}
+use Rattle.paper.specs.KeyedLaws.{All}
 use Rattle.paper.specs.Cache.{Numbers, cached}
-use Rattle.paper.specs.Engine.{Fixed, fit, labelled}
+use Rattle.paper.specs.Engine.{fit, labelled}
 use Rattle.paper.specs.Lent.{Lent, as_held, used_rows, box_in}
 use Rattle.paper.proofs.SoundTestsLaws.{held-print-is, cached-is}
 use Rattle.arc.specs.Arc.{is_in}
@@ -32,9 +30,9 @@ pub place-tells : (bs : List (List ℕ)) (r : List ℕ) → length bs ≤ 256 �
 unfolding place_in
 place-tells bs r h = by_place (find_from (caches (read_address r).fingerprint) 0 bs) refl
   where
-    by_place : (o : Found) → find_from (caches (read_address r).fingerprint) 0 bs ≡ o → ltb (code o) 256 ≡ not (absent o)
-    by_place (At i) e = let b = (found_at (caches (read_address r).fingerprint) bs [] i e).below in lt-ltb i 256 (omega (arith, b, h))
-    by_place Nothing e = le-ltb 256 256 (omega arith)
+    by_place : (o : Option ℕ) → find_from (caches (read_address r).fingerprint) 0 bs ≡ o → ltb (code o) 256 ≡ not (is_none o)
+    by_place (Some i) e = let b = (found_at (caches (read_address r).fingerprint) bs [] i e).below in lt-ltb i 256 (omega (arith, b, h))
+    by_place None e = le-ltb 256 256 (omega arith)
 
 module _ (N : Numbers) (bs : List (List ℕ)) (wide : Wide bs) (seen tops : List ℕ) (marked : Marked (bit_at seen) 65536 tops) where
   row-tells : (r : List ℕ) → length r ≡ row_bytes → row_address r < 65536
@@ -43,7 +41,7 @@ module _ (N : Numbers) (bs : List (List ℕ)) (wide : Wide bs) (seen tops : List
   row-tells r l h =
       let m : eqb (bit_at seen (row_address r)) 1 ≡ is_in (row_address r) tops =
       ap (λ n. eqb n 1) (marked (row_address r) h) ∙ mark-test (elem (row_address r) tops) ∙ elem_in (row_address r) tops in
-      let c = ap (λ g. not (absent (find_from (caches g) 0 bs))) (sym (held-print-is r l))
+      let c = ap (λ g. not (is_none (find_from (caches g) 0 bs))) (sym (held-print-is r l))
       ∙ ap not (cached-is N (fit 32 (read_address r).fingerprint) 0 bs wide)
       ∙ twice (cached (labelled N) (fit 32 (read_address r).fingerprint) (used_rows (map read_block bs))) in
       rw (m, c) (both (is_in (row_address r) tops) (cached (labelled N) (fit 32 (read_address r).fingerprint) (used_rows (map read_block bs))))

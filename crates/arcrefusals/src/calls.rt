@@ -1,5 +1,6 @@
 // The refusals of the calls of a D-ARC box.
-ghost use Rattle.std.specs.Prelude.{◌≡◌, ℕ, leb};
+ghost use Rattle.std.specs.Prelude.{◌≡◌, ℕ, leb, OnOk};
+ghost use Rattle.refusal.specs.Numbers.{number_of};
 ghost use Rattle.tables.specs.Index.{Blank, Indexed};
 ghost use Rattle.paper.specs.Cache.{Counters};
 ghost use Rattle.paper.specs.Lent.{Ask, calling};
@@ -9,6 +10,7 @@ ghost use Rattle.arcrefusals.specs.Given.{sizes_of, arc_lent};
 
 use crate::{ArcRecord, arc_opening, state};
 use checks::index;
+use refusal::Refusal;
 use tables::SourceAddress;
 
 // Refusal 3: an address outside the disk.
@@ -19,7 +21,7 @@ pub(crate) fn address_outside(a: ArcRecord, asked: SourceAddress) -> bool
     a.blocks <= n as usize
 }
 
-// The refusal of a flush, of however many rows. Where it is 0, `heads` is the index of the block rows.
+// The refusal of a flush, of however many rows. Where there is none, `heads` is the index of the block rows.
 pub fn arc_flush(
     a: ArcRecord,
     disk: &[u8],
@@ -29,16 +31,13 @@ pub fn arc_flush(
     lists: &[u8],
     c: counters::Counters,
     heads: &mut [u16],
-) -> u32
+) -> Result<(), Refusal>
     requires { Blank heads.old }
-    ensures by_index { (k : ℕ) → result ≡ arc_refusal (sizes_of a) (arc_lent a disk.now flash.now addresses.now blocks.now
+    ensures by_index { (k : ℕ) → number_of result ≡ arc_refusal (sizes_of a) (arc_lent a disk.now flash.now addresses.now blocks.now
         lists.now (counters_of c)) (calling (Ask.flush k)) }
-    ensures indexed { result ≡ 0 → Indexed a.sizes.cached blocks.now heads.new }
+    ensures indexed { OnOk result (Indexed a.sizes.cached blocks.now heads.new) }
 {
-    let first = arc_opening(a, disk, flash, addresses, blocks, lists);
-    if first != 0 {
-        return first;
-    }
+    arc_opening(a, disk, flash, addresses, blocks, lists)?;
     state::arc_state(a, addresses, blocks, lists, c, heads)
 }
 
@@ -51,22 +50,19 @@ pub fn arc_look(
     addresses: &[u8],
     blocks: &[u8],
     lists: &[u8],
-) -> u32
-    ensures { (k : Counters) → result ≡ arc_refusal (sizes_of a) (arc_lent a disk.now flash.now addresses.now
+) -> Result<(), Refusal>
+    ensures { (k : Counters) → number_of result ≡ arc_refusal (sizes_of a) (arc_lent a disk.now flash.now addresses.now
         blocks.now lists.now k) (calling (Ask.look asked.0)) }
 {
-    let first = arc_opening(a, disk, flash, addresses, blocks, lists);
-    if first != 0 {
-        return first;
-    }
+    arc_opening(a, disk, flash, addresses, blocks, lists)?;
     if address_outside(a, asked) {
-        return 3;
+        return Err(Refusal::NoAddress);
     }
     let mut heads = [0u16; index::ENTRIES];
     state::arc_tables(a, addresses, blocks, lists, &mut heads)
 }
 
-// The refusal of a read or a write: a write is refused as a read is. Where it is 0, `heads` is the index of the block rows.
+// The refusal of a read or a write: a write is refused as a read is. Where there is none, `heads` is the index of the block rows.
 pub fn arc_access(
     a: ArcRecord,
     asked: SourceAddress,
@@ -78,21 +74,18 @@ pub fn arc_access(
     c: counters::Counters,
     block: &[u8],
     heads: &mut [u16],
-) -> u32
+) -> Result<(), Refusal>
     requires { Blank heads.old }
-    ensures value { result ≡ arc_refusal (sizes_of a) (arc_lent a disk.now flash.now addresses.now blocks.now
+    ensures value { number_of result ≡ arc_refusal (sizes_of a) (arc_lent a disk.now flash.now addresses.now blocks.now
         lists.now (counters_of c)) (calling (Ask.read asked.0 block.now)) }
-    ensures indexed { result ≡ 0 → Indexed a.sizes.cached blocks.now heads.new }
+    ensures indexed { OnOk result (Indexed a.sizes.cached blocks.now heads.new) }
 {
-    let first = arc_opening(a, disk, flash, addresses, blocks, lists);
-    if first != 0 {
-        return first;
-    }
+    arc_opening(a, disk, flash, addresses, blocks, lists)?;
     if block.len() != a.size {
-        return 2;
+        return Err(Refusal::WrongLength);
     }
     if address_outside(a, asked) {
-        return 3;
+        return Err(Refusal::NoAddress);
     }
     state::arc_state(a, addresses, blocks, lists, c, heads)
 }

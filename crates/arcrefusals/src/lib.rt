@@ -8,6 +8,7 @@ pub mod state;
 pub mod tops;
 
 ghost use Rattle.std.specs.Prelude.{◌≡◌, ◌≤◌};
+ghost use Rattle.refusal.specs.Numbers.{number_of};
 ghost use Rattle.paper.specs.Cache.{Counters};
 ghost use Rattle.paper.specs.Lent.{opening};
 ghost use Rattle.arc.specs.ArcLent.{unfit_arc, arc_refusal};
@@ -15,6 +16,7 @@ ghost use Rattle.arcrefusals.specs.Given.{sizes_of, base_of, arc_lent};
 
 use arclists::ListSizes;
 use parts::BoxRecord;
+use refusal::Refusal;
 
 // The record of a D-ARC box: the block size B, the disk's blocks P, the addresses held n, the office label, the most dirty rows t, and the lists' sizes with
 // p, C and X.
@@ -67,20 +69,17 @@ pub fn arc_opening(
     addresses: &[u8],
     blocks: &[u8],
     lists: &[u8],
-) -> u32
-    ensures { (k : Counters) → result ≡ arc_refusal (sizes_of a) (arc_lent a disk.now flash.now addresses.now
+) -> Result<(), Refusal>
+    ensures { (k : Counters) → number_of result ≡ arc_refusal (sizes_of a) (arc_lent a disk.now flash.now addresses.now
         blocks.now lists.now k) opening }
 {
     if sizes_unfit(a) {
-        return 11;
+        return Err(Refusal::ArcOutside);
     }
     let b = base_of(a);
-    let first = refusals::of_opening(b, disk, flash, addresses, blocks);
-    if first != 0 {
-        return first;
-    }
+    refusals::of_opening(b, disk, flash, addresses, blocks)?;
     if lists.len() != b.rows * 4 {
-        return 2;
+        return Err(Refusal::WrongLength);
     }
-    0
+    Ok(())
 }

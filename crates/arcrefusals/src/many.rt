@@ -1,5 +1,6 @@
 // The refusals of a folder read of a D-ARC box: 11, 12, 2, 10, 3, 6, 7, 8, 13, 9.
 ghost use Rattle.std.specs.Prelude.{◌≡◌};
+ghost use Rattle.refusal.specs.Numbers.{number_of};
 ghost use Rattle.arc.specs.ArcFolder.{arc_folder_refusal};
 ghost use Rattle.refusals.specs.Given.{counters_of};
 ghost use Rattle.arcrefusals.specs.Given.{sizes_of, arc_lent};
@@ -7,6 +8,7 @@ ghost use Rattle.arcrefusals.specs.Given.{sizes_of, arc_lent};
 use crate::{ArcRecord, arc_opening, base_of, state};
 use checks::index;
 use counters::Counters;
+use refusal::Refusal;
 use refusals::many;
 
 // The refusal of a folder read: "with 10 an empty list or one above 64, checked after 2, and with 3 if any address is too large".
@@ -20,18 +22,12 @@ pub fn arc_many(
     lists: &[u8],
     c: Counters,
     buffer: &[u8],
-) -> u32
-    ensures { result ≡ arc_folder_refusal (sizes_of a) (arc_lent a disk.now flash.now addresses.now blocks.now
+) -> Result<(), Refusal>
+    ensures { number_of result ≡ arc_folder_refusal (sizes_of a) (arc_lent a disk.now flash.now addresses.now blocks.now
         lists.now (counters_of c)) asked.now buffer.now }
 {
-    let first = arc_opening(a, disk, flash, addresses, blocks, lists);
-    if first != 0 {
-        return first;
-    }
-    let second = many::of_list(base_of(a), asked, buffer.len());
-    if second != 0 {
-        return second;
-    }
+    arc_opening(a, disk, flash, addresses, blocks, lists)?;
+    many::of_list(base_of(a), asked, buffer.len())?;
     let mut heads = [0u16; index::ENTRIES];
     state::arc_state(a, addresses, blocks, lists, c, &mut heads)
 }

@@ -33,10 +33,8 @@ pub(crate) fn top_ok(
     requires indexed { Indexed d blocks.now heads.now }
     ensures { result ≡ top_ok seen.now (rows d blocks.now) (row_at addresses.now k) }
 {
-    if !names::row_named(addresses, k, seen) {
-        return true;
-    }
-    known::place_of(addresses, k, blocks, d, heads) < 256
+    // 256 is what known::place_of gives where no block row has the fingerprint.
+    !names::row_named(addresses, k, seen) || known::place_of(addresses, k, blocks, d, heads) < 256
 }
 
 // Whether that holds of each of the first `n` rows.
@@ -53,14 +51,7 @@ pub(crate) fn tops_ok(
     requires indexed { Indexed d blocks.now heads.now }
     ensures { result ≡ all (top_ok seen.now (rows d blocks.now)) (rows n addresses.now) }
 {
-    let mut k = 0;
-    while k < n {
-        if !top_ok(addresses, k, seen, blocks, d, heads) {
-            return false;
-        }
-        k += 1;
-    }
-    true
+    (0..n).all(|k| top_ok(addresses, k, seen, blocks, d, heads))
 }
 
 // How many addresses T1 and T2 have.

@@ -1,5 +1,7 @@
 -- What a save of a D-ARC box promises: the code's types in the paper's words. Assumes nothing.
 use Rattle.std.specs.Prelude.{◌≡◌, List, [], ℕ, ◌+◌, ◌*◌, ◌^◌, ◌≤◌, ◌<◌, length}
+use Rattle.outcome.specs.declared.Outcome.{Outcome}
+use Rattle.policy.specs.declared.Answered.{Answered}
 use Rattle.policy.specs.Contract.{answer_of}
 use Rattle.refusals.specs.Given.{counters_of}
 use Rattle.paper.specs.KeyedLaws.{All}
@@ -13,7 +15,6 @@ use Rattle.image.specs.Saved.{Saved, arc_saver, save}
 use Rattle.arcrefusals.specs.declared.ArcRecord.{ArcRecord}
 use Rattle.arcrefusals.specs.Given.{sizes_of, arc_lent}
 use Rattle.restoring.specs.Given.{arc_long}
-use Rattle.arccalls.specs.declared.ArcOutcome.{ArcOutcome}
 
 -- the fields and the body of a box with these tables and lists
 abbrev pub fields_of : ArcRecord → (addresses blocks lists : List ℕ) → Fields
@@ -36,13 +37,13 @@ pub record ArcSavedTold : Type 0 where
   pub numbers : Sizes
   pub saved : Saved ArcLent
 
-abbrev pub arc_saved_told : ArcOutcome → (disk flash addresses blocks lists area : List ℕ) → ArcSavedTold
+abbrev pub arc_saved_told : Outcome Answered ArcRecord → (disk flash addresses blocks lists area : List ℕ) → ArcSavedTold
 arc_saved_told r disk flash addresses blocks lists area =
     record {
-      numbers = sizes_of r.arc_record;
+      numbers = sizes_of r.box_record;
       saved = record {
         answer = answer_of r.answer;
-        lent = arc_lent r.arc_record disk flash addresses blocks lists (counters_of r.counters);
+        lent = arc_lent r.box_record disk flash addresses blocks lists (counters_of r.counters);
         area = area;
       };
     }

@@ -1,5 +1,5 @@
 -- A save in turn. Assumes nothing.
-use Rattle.std.specs.Prelude.{◌≡◌, true, cond, List, ℕ, ◌+◌, ◌*◌, ◌≤◌, eqb}
+use Rattle.std.specs.Prelude.{◌≡◌, true, cond, List, ℕ, ◌+◌, ◌*◌, ◌≤◌, eqb, Err}
 use Rattle.std.proofs.Math.Path.{refl, ap, subst}
 use Rattle.std.proofs.Common.{sym, ap₂, ◌∙◌, arith, ne_eqb, ltb-false}
 use Rattle.std.proofs.Math.Bool.{false}
@@ -10,7 +10,11 @@ use Rattle.paper.specs.Lent.{Ask, calling, refused}
 use Rattle.arc.specs.Arc.{Sizes, m_of}
 use Rattle.arc.specs.ArcLent.{ArcLent, unfit_arc, arc_refusal}
 use Rattle.arc.proofs.ArcDemandLaws.{arc-fits}
-use Rattle.policy.specs.declared.Answer.TheVariants.{Refused}
+use Rattle.outcome.specs.declared.Outcome.{Outcome}
+use Rattle.policy.specs.declared.Answered.{Answered}
+use Rattle.refusal.specs.declared.Refusal.{Refusal}
+use Rattle.refusal.specs.Numbers.{code}
+use Rattle.refusal.specs.Numbers as Refusals
 use Rattle.counters.specs.declared.Counters as Code
 use Rattle.refusals.specs.Given.{counters_of}
 use Rattle.image.specs.Body.{Fields, body_of}
@@ -24,7 +28,6 @@ use Rattle.image.proofs.SavedLaws.{save-number, save-is, save-keeps}
 use Rattle.image.proofs.BoxLaws.{arc-found, arc-length, arc-body-length, arc-flush-0, arc-saved}
 use Rattle.arcrefusals.specs.declared.ArcRecord.{ArcRecord}
 use Rattle.arcrefusals.specs.Given.{sizes_of, arc_lent}
-use Rattle.arccalls.specs.declared.ArcOutcome.{ArcOutcome}
 use Rattle.arccalls.specs.Contract.{arc_told, arc_called}
 use Rattle.arcsaving.specs.Given.{fields_of, arc_body, Writable, arc_saved_told, arc_saved_by}
 
@@ -98,12 +101,11 @@ module _ (a : ArcRecord) (c : Code.Counters) (disk flash ad bs ls area : List �
   abbrev lent : ArcLent
   lent = arc_lent a disk flash ad bs ls (counters_of c)
 
-  pub save-refused : (k : ℕ) → k ≡ save_refusal (arc_saver (sizes_of a)) lent area → (k ≡ 0 → ⊥)
-      → (r : ArcOutcome) → r ≡ record { answer = Refused k; arc_record = a; counters = c } → arc_saved_told r disk flash ad bs ls area ≡ arc_saved_by a lent area
-  save-refused k e h r er =
-      ap (λ x. arc_saved_told x disk flash ad bs ls area) er
-      ∙ (λ i. record { numbers = sizes_of a; saved = record { answer = refused (e i); lent = lent; area = area } })
-      ∙ ap (λ s. record { numbers = sizes_of a; saved = s }) (sym (save-keeps (arc_saver (sizes_of a)) lent area (λ z. h (e ∙ z))))
+  pub save-refused : (r : Refusal) → code r ≡ save_refusal (arc_saver (sizes_of a)) lent area
+      → arc_saved_told (record { answer = Err r; box_record = a; counters = c }) disk flash ad bs ls area ≡ arc_saved_by a lent area
+  save-refused r e =
+      (λ i. record { numbers = sizes_of a; saved = record { answer = refused (e i); lent = lent; area = area } })
+      ∙ ap (λ s. record { numbers = sizes_of a; saved = s }) (sym (save-keeps (arc_saver (sizes_of a)) lent area (λ z. Refusals.refused r (e ∙ z))))
 
 -- the flush of all rows, and its outcome r
 module _ (a : ArcRecord) (t : ArcLent) (area : List ℕ) (e : save_refusal (arc_saver (sizes_of a)) t area ≡ 0) (k : ℕ)
@@ -114,23 +116,23 @@ module _ (a : ArcRecord) (t : ArcLent) (area : List ℕ) (e : save_refusal (arc_
   pub flush-0 : arc_refusal (sizes_of a) t (calling (Ask.flush k)) ≡ 0
   flush-0 = subst (λ n. arc_refusal (sizes_of a) t (calling (Ask.flush n)) ≡ 0) (sym rows_are) (arc-flush-0 (sizes_of a) t area e).0
 
-  module _ (r : ArcOutcome) (disk flash ad bs ls : List ℕ) (h : arc_told r disk flash ad bs ls none ≡ arc_called a t (Ask.flush k)) where
+  module _ (r : Outcome Answered ArcRecord) (disk flash ad bs ls : List ℕ) (h : arc_told r disk flash ad bs ls none ≡ arc_called a t (Ask.flush k)) where
     told : arc_told r disk flash ad bs ls none ≡ arc_called a t (Ask.flush (m_of (sizes_of a)))
     told = h ∙ ap (λ n. arc_called a t (Ask.flush n)) rows_are
 
-    n : sizes_of r.arc_record ≡ sizes_of a
+    n : sizes_of r.box_record ≡ sizes_of a
     n = ap (λ x. x.numbers) told
 
-    l : arc_lent r.arc_record disk flash ad bs ls (counters_of r.counters) ≡ (arc_saver (sizes_of a)).flushed t
+    l : arc_lent r.box_record disk flash ad bs ls (counters_of r.counters) ≡ (arc_saver (sizes_of a)).flushed t
     l = ap (λ x. x.after.lent) told
 
-    pub writable-after : Writable r.arc_record ad bs ls area
-    writable-after = writable (sizes_of a) t area e r.arc_record disk flash ad bs ls (counters_of r.counters) n l
+    pub writable-after : Writable r.box_record ad bs ls area
+    writable-after = writable (sizes_of a) t area e r.box_record disk flash ad bs ls (counters_of r.counters) n l
 
-    pub save-served : (area' : List ℕ) → area' ≡ applied (save_writes (arc_body r.arc_record ad bs ls)) area
+    pub save-served : (area' : List ℕ) → area' ≡ applied (save_writes (arc_body r.box_record ad bs ls)) area
         → arc_saved_told r disk flash ad bs ls area' ≡ arc_saved_by a t area
     save-served area' w =
         let an = ap (λ x. x.after.answer) told in
-        let ar = w ∙ image-is (sizes_of a) t area e r.arc_record disk flash ad bs ls (counters_of r.counters) n l in
+        let ar = w ∙ image-is (sizes_of a) t area e r.box_record disk flash ad bs ls (counters_of r.counters) n l in
         (λ i. record { numbers = n i; saved = record { answer = an i; lent = l i; area = ar i } })
         ∙ ap (λ s. record { numbers = sizes_of a; saved = s }) (sym (save-is (arc_saver (sizes_of a)) t area e))

@@ -1,7 +1,8 @@
 // Save of a D-ARC box: a flush, then its image in a lent area.
 #![tactic(auto)]
 
-ghost use Rattle.std.specs.Prelude.{◌≡◌, ◌≤◌};
+ghost use Rattle.std.specs.Prelude.{◌≡◌, ◌≤◌, OnOk};
+ghost use Rattle.refusal.specs.Numbers.{number_of};
 ghost use Rattle.tables.specs.Index.{Blank, Indexed};
 ghost use Rattle.refusals.specs.Given.{counters_of};
 ghost use Rattle.image.specs.Area.{applied, save_writes};
@@ -10,10 +11,13 @@ ghost use Rattle.arcrefusals.specs.Given.{sizes_of, arc_lent};
 ghost use Rattle.restoring.specs.Given.{arc_long};
 ghost use Rattle.arcsaving.specs.Given.{arc_body, Writable, arc_saved_told, arc_saved_by};
 
-use arccalls::{ArcOutcome, flushes};
+use arccalls::flushes;
 use arcrefusals::ArcRecord;
 use checks::index;
 use counters::Counters;
+use outcome::{Outcome, refused};
+use policy::Answered;
+use refusal::Refusal;
 use tables::row;
 
 // The bytes of the body of a box: 52 of numbers, 64 of label, the tables and the lists.
@@ -25,7 +29,7 @@ pub(crate) fn body_length(a: ArcRecord) -> u32
     (116 + m * row::BYTES + a.sizes.cached * row::BYTES + m * 4) as u32
 }
 
-// What a save is refused with: as a full flush, then 14. Where it is 0, `heads`, 0 everywhere at first, is the index of the block rows.
+// What a save is refused with: as a full flush, then 14. Where there is none, `heads`, 0 everywhere at first, is the index of the block rows.
 pub(crate) fn save_refusal(
     a: ArcRecord,
     disk: &[u8],
@@ -36,21 +40,18 @@ pub(crate) fn save_refusal(
     area: &[u8],
     c: Counters,
     heads: &mut [u16],
-) -> u32
+) -> Result<(), Refusal>
     requires { Blank heads.old }
-    ensures value { result ≡ save_refusal (arc_saver (sizes_of a)) (arc_lent a disk.now flash.now addresses.now blocks.now
+    ensures value { number_of result ≡ save_refusal (arc_saver (sizes_of a)) (arc_lent a disk.now flash.now addresses.now blocks.now
         lists.now (counters_of c)) area.now }
-    ensures indexed { result ≡ 0 → Indexed a.sizes.cached blocks.now heads.new }
+    ensures indexed { OnOk result (Indexed a.sizes.cached blocks.now heads.new) }
 {
-    let number = arcrefusals::calls::arc_flush(a, disk, flash, addresses, blocks, lists, c, heads);
-    if number != 0 {
-        return number;
-    }
+    arcrefusals::calls::arc_flush(a, disk, flash, addresses, blocks, lists, c, heads)?;
     let n = body_length(a);
     if restoring::too_short(area, n) {
-        return 14;
+        return Err(Refusal::NoRoom);
     }
-    0
+    Ok(())
 }
 
 // Writes the image of a box into the area: "1, B, P, C, X, n, t, p and the five list sizes", then label, tables and lists.
@@ -95,22 +96,21 @@ pub fn save(
     lists: &[u8],
     area: &mut [u8],
     c: Counters,
-) -> ArcOutcome
+) -> Outcome<Answered, ArcRecord>
     ensures { arc_saved_told result disk.new flash.now addresses.new blocks.now lists.now
         area.new
         ≡ arc_saved_by a (arc_lent a disk.old flash.now addresses.old blocks.now lists.now (counters_of c))
         area.old }
 {
     let mut heads = [0u16; index::ENTRIES];
-    let number = save_refusal(
+    if let Err(r) = save_refusal(
         a, disk, flash, addresses, blocks, lists, area, c, &mut heads,
-    );
-    if number != 0 {
-        return arccalls::refused(number, a, c);
+    ) {
+        return refused(r, a, c);
     }
     let k = flushes::rows_of(a);
     let r = flushes::flush_served(a, k, disk, flash, addresses, blocks, lists, c, &heads);
-    let next = r.arc_record;
+    let next = r.box_record;
     write_arc(area, next, addresses, blocks, lists);
     r
 }

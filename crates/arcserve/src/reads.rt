@@ -30,7 +30,7 @@ pub(crate) fn hit_block(b: BoxRecord, j: usize, flash: &[u8], blocks: &[u8], blo
         → block.new ≡ (block_of (engine b) (get_or s.rows i no_row).fingerprint s.used s.flash).0 }
 {
     let slot = row::slot_at(blocks, j);
-    block::copy_all(block::in_slot(flash, slot, b.size), block);
+    block.copy_from_slice(block::in_slot(flash, slot, b.size));
 }
 
 // Read, where `a` is held in row `i` and its block is in the block row at `j`.
@@ -125,7 +125,7 @@ pub fn read_miss(
         → Serves b result disk.new flash.new addrs.new blocks.new lists.new block.new lent
         (read_by (engine b) (arc (engine b) (sizes_for b s)) l x a.0 (get_or x.disk a.0 (engine b).blank) Option.none) }
 {
-    block::copy_all(block::at_address(disk, a, b.size), block);
+    block.copy_from_slice(block::at_address(disk, a, b.size));
     read_taken(b, s, a, disk, flash, addrs, blocks, lists, block, heads)
 }
 

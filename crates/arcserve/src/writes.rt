@@ -40,12 +40,9 @@ pub(crate) fn serve_through(
     let d = request::step(
         b, s, a, 0, seat, disk, flash, addrs, blocks, lists, &g, block, heads,
     );
-    let sizes = d.sizes;
     let running = Running {
-        held: d.held,
-        sizes: sizes,
-        flashed: d.flashed,
         primary: 1 + d.primary,
+        ..d
     };
     ArcServed {
         yes: j < b.slots,
@@ -82,12 +79,9 @@ pub(crate) fn serve_back(
     );
     let c = parts::with_held(b, d.held);
     let more = copy::limit_rows(c, disk, flash, addrs, blocks);
-    let sizes = d.sizes;
     let running = Running {
-        held: d.held,
-        sizes: sizes,
-        flashed: d.flashed,
         primary: d.primary + more,
+        ..d
     };
     ArcServed {
         yes: j < b.slots,
@@ -118,10 +112,9 @@ pub(crate) fn serve_invalidate(
     block::put_address(block, disk, a, b.size);
     let held = steps::drop_row(b, i, addrs, blocks);
     let left = leave::leave(s, lists, a.0);
-    let sizes = left.sizes;
     let running = Running {
-        held: held,
-        sizes: sizes,
+        held,
+        sizes: left.sizes,
         flashed: 0,
         primary: 1,
     };

@@ -1,27 +1,25 @@
 -- The loop that clears a block row, turn by turn, and the block row that is taken then. Assumes nothing.
 use mathlib.Core.Path.{◌≡◌, refl, sym, ap, ◌∙◌, subst}
-use mathlib.Core.Bool.{Bool, true, false, not}
+use mathlib.Core.Bool.{Bool, true, false}
 use mathlib.Core.List.{List, [], ◌∷◌}
-use mathlib.Core.Option.{none, some}
-use Prim.Native.Nat.{ℕ, zero, suc, ◌+◌, ◌-◌, ◌≤◌, ◌<◌}
+use Prim.Native.Nat.{ℕ, zero, suc, ◌+◌, ◌-◌, ◌<◌}
 use native.Mathlib.Nat.{zero-add}
 use native.Mathlib.Omega.{arith}
 use lib.Dec.{ltb}
-use lib.ListN.{length, get_or}
+use lib.ListN.{length}
 use borrow.Author.Tests.{lt-ltb, le-ltb, ltb-true}
-use Rattle.paper.specs.KeyedLaws.{by-test, clash}
-use Rattle.paper.specs.Cache.{Box, known}
-use Rattle.paper.specs.Engine.{Fixed, comparing}
-use Rattle.paper.specs.Index.{index_where}
+use Rattle.paper.specs.KeyedLaws.{by-test}
+use Rattle.paper.specs.Cache.{Box}
+use Rattle.paper.specs.Engine.{Fixed}
 use Rattle.paper.proofs.IndexLaws.{unknown-yes, unknown-no}
 use Rattle.paper.specs.Layout.{Blocks}
 use Rattle.arc.specs.Arc.{Lists, top_rows, has_row, taken_by, replace, cleared, cleared! }
-use Rattle.arclists.specs.Holding.{Sized}
 use Rattle.parts.specs.declared.BoxRecord.{BoxRecord}
 use Rattle.parts.specs.Rep.{numbers_of, engine}
 use Rattle.parts.specs.Asked.{no_block}
 use Rattle.step.specs.Steps.{OnceEach, Picked, picked_taken}
 use Rattle.step.specs.Taking.{taken_at}
+use Rattle.arcstep.specs.declared.Running.{Running}
 use Rattle.arcstep.specs.declared.Cleared.{Cleared}
 use Rattle.arcstep.specs.Victim.{oldest_at, victim_at}
 use Rattle.arcstep.specs.Runs.{Within, Clears, Taken}
@@ -77,6 +75,10 @@ module _ (b : BoxRecord) (C : ℕ) (b2 : Bool) (S : Within b) where
   unfolding cleared
   on zero l e = absurd (omega (arith, l))
   on (suc k) l e = let q : suc k - 1 ≡ k = omega arith in ap (λ n. cleared (engine b) n C b2 (replace (engine b) C b2 S)) q ∙ rw e refl
+
+-- as often as T1 and T2 have addresses
+abbrev pub turns : Running → ℕ
+turns r = r.sizes.t1 + r.sizes.t2
 
 -- a box of which k turns are left, from R with K turns
 pub record Going (b : BoxRecord) (c : Cleared) (disk flash addrs blocks lists : List ℕ) (C k K : ℕ) (b2 : Bool) (R : Within b) : Type 0 where

@@ -11,15 +11,16 @@ use borrow.Author.Tests.{lt-ltb}
 use Rattle.tables.specs.Find.{all}
 use Rattle.tables.specs.Sound.{distinct}
 use Rattle.paper.specs.KeyedLaws.{All, all_append, all_map, by-test, eqb-self}
-use Rattle.arc.specs.Arc.{Lists, is_in, t1b1, t2b2, t1b3, b1b3, b2b3}
+use Rattle.arc.specs.Arc.{Lists, is_in}
 use Rattle.arc.specs.Tally.{count, tally-first, tally-append, tally-has, length_none}
 use Rattle.arc.specs.ArcMid.{named}
 use Rattle.arc.specs.ArcLent.{words, end_to_end}
 use Rattle.arc.proofs.ArcLentLaws.{words_take}
 use Rattle.arclists.specs.declared.ListSizes.{ListSizes}
-use Rattle.arclists.specs.declared.Ghost.{Ghost}
-use Rattle.arclists.specs.declared.Ghost.TheVariants.{OfB1, OfB2, OfB3}
-use Rattle.arclists.specs.Holding.{total, Sized, Holds, Low, ghosts, out_of, size_of}
+use Rattle.arclists.specs.declared.ListName.{ListName}
+use Rattle.arclists.specs.declared.ListName.TheVariants.{T1, T2, B1, B2, B3}
+use Rattle.arclists.specs.Holding.{total, Sized, Holds, Low, names_of, with_names, out_of, moved, size_of, rank}
+use Rattle.arclists.specs.MoveLaws.{size-is, others}
 use Rattle.arclists.specs.LeaveLaws.{read_back}
 use Rattle.arclists.specs.Names.{possible, fine}
 use Rattle.arclists.specs.NameLaws.{elem_in}
@@ -43,97 +44,49 @@ small_low l h =
     (all_append P l.T2 (l.B1 ++ (l.B2 ++ l.B3)) h.t2
     (all_append P l.B1 (l.B2 ++ l.B3) h.b1 (all_append P l.B2 l.B3 h.b2 h.b3))))
 
-moved : (from to : List ℕ) → All P from → All P to → All P (to ++ take 1 from)
-moved from to f t = all_append P to (take 1 from) t (all_first from f)
+-- the names list by list
+all-of : (x : ListName) {l : Lists} → Small l → All P (names_of x l)
+all-of T1 h = h.t1
+all-of T2 h = h.t2
+all-of B1 h = h.b1
+all-of B2 h = h.b2
+all-of B3 h = h.b3
 
--- how often a name is there
-moved-count : (x : ℕ) (from to : List ℕ) → count x (drop 1 from) + count x (to ++ take 1 from) ≡ count x from + count x to
-moved-count x from to = let e = tally-first (λ z. z) x from in let f = tally-append (λ z. z) x to (take 1 from) in omega (arith, e, f)
+named-with : (x : ListName) (xs : List ℕ) (l : Lists) (a : ℕ) → named a (with_names x xs l) + count a (names_of x l) ≡ named a l + count a xs
+named-with T1 xs l a = omega arith
+named-with T2 xs l a = omega arith
+named-with B1 xs l a = omega arith
+named-with B2 xs l a = omega arith
+named-with B3 xs l a = omega arith
 
-later-count : (x : ℕ) (l : List ℕ) → count x (drop 1 l) ≤ count x l
-later-count x l = let e = tally-first (λ z. z) x l in omega (arith, e)
+small-with : (x : ListName) (xs : List ℕ) {l : Lists} → Small l → All P xs → ((a : ℕ) → named a (with_names x xs l) ≤ 1) → Small (with_names x xs l)
+small-with T1 xs h b n = record { t1 = b; t2 = h.t2; b1 = h.b1; b2 = h.b2; b3 = h.b3; single = n }
+small-with T2 xs h b n = record { t1 = h.t1; t2 = b; b1 = h.b1; b2 = h.b2; b3 = h.b3; single = n }
+small-with B1 xs h b n = record { t1 = h.t1; t2 = h.t2; b1 = b; b2 = h.b2; b3 = h.b3; single = n }
+small-with B2 xs h b n = record { t1 = h.t1; t2 = h.t2; b1 = h.b1; b2 = b; b3 = h.b3; single = n }
+small-with B3 xs h b n = record { t1 = h.t1; t2 = h.t2; b1 = h.b1; b2 = h.b2; b3 = b; single = n }
 
-module _ (l : Lists) (h : Small l) where
-  -- the lists f have no name more often
-  module _ (f : Lists) (few : (x : ℕ) → named x f ≤ named x l) where
-    fewer : (x : ℕ) → named x f ≤ 1
-    fewer x = let a = few x in let b = h.single x in omega (arith, a, b)
+-- the names when the oldest of x has left, or has become the newest of y
+pub small-out : (l : Lists) → Small l → (x : ListName) → Small (out_of x l)
+small-out l h x =
+    let xs = names_of x l in
+    small-with x (drop 1 xs) h (all-later xs (all-of x h))
+    (λ a. let e = named-with x (drop 1 xs) l a in let f = tally-first (λ z. z) a xs in let s = h.single a in omega (arith, e, f, s))
 
-  pub small-out : (from : Ghost) → Small (out_of from l)
-  small-out OfB1 = record {
-    t1 = h.t1;
-    t2 = h.t2;
-    b1 = all-later l.B1 h.b1;
-    b2 = h.b2;
-    b3 = h.b3;
-    single = fewer (out_of OfB1 l) (λ x. let e = later-count x l.B1 in omega (arith, e));
-  }
-  small-out OfB2 = record {
-    t1 = h.t1;
-    t2 = h.t2;
-    b1 = h.b1;
-    b2 = all-later l.B2 h.b2;
-    b3 = h.b3;
-    single = fewer (out_of OfB2 l) (λ x. let e = later-count x l.B2 in omega (arith, e));
-  }
-  small-out OfB3 = record {
-    t1 = h.t1;
-    t2 = h.t2;
-    b1 = h.b1;
-    b2 = h.b2;
-    b3 = all-later l.B3 h.b3;
-    single = fewer (out_of OfB3 l) (λ x. let e = later-count x l.B3 in omega (arith, e));
-  }
-
-  pub small-t1b1 : Small (t1b1 l)
-  small-t1b1 = record {
-    t1 = all-later l.T1 h.t1;
-    t2 = h.t2;
-    b1 = moved l.T1 l.B1 h.t1 h.b1;
-    b2 = h.b2;
-    b3 = h.b3;
-    single = fewer (t1b1 l) (λ x. let e = moved-count x l.T1 l.B1 in omega (arith, e));
-  }
-
-  pub small-t2b2 : Small (t2b2 l)
-  small-t2b2 = record {
-    t1 = h.t1;
-    t2 = all-later l.T2 h.t2;
-    b1 = h.b1;
-    b2 = moved l.T2 l.B2 h.t2 h.b2;
-    b3 = h.b3;
-    single = fewer (t2b2 l) (λ x. let e = moved-count x l.T2 l.B2 in omega (arith, e));
-  }
-
-  pub small-t1b3 : Small (t1b3 l)
-  small-t1b3 = record {
-    t1 = all-later l.T1 h.t1;
-    t2 = h.t2;
-    b1 = h.b1;
-    b2 = h.b2;
-    b3 = moved l.T1 l.B3 h.t1 h.b3;
-    single = fewer (t1b3 l) (λ x. let e = moved-count x l.T1 l.B3 in omega (arith, e));
-  }
-
-  pub small-b1b3 : Small (b1b3 l)
-  small-b1b3 = record {
-    t1 = h.t1;
-    t2 = h.t2;
-    b1 = all-later l.B1 h.b1;
-    b2 = h.b2;
-    b3 = moved l.B1 l.B3 h.b1 h.b3;
-    single = fewer (b1b3 l) (λ x. let e = moved-count x l.B1 l.B3 in omega (arith, e));
-  }
-
-  pub small-b2b3 : Small (b2b3 l)
-  small-b2b3 = record {
-    t1 = h.t1;
-    t2 = h.t2;
-    b1 = h.b1;
-    b2 = all-later l.B2 h.b2;
-    b3 = moved l.B2 l.B3 h.b2 h.b3;
-    single = fewer (b2b3 l) (λ x. let e = moved-count x l.B2 l.B3 in omega (arith, e));
-  }
+pub small-moved : (x y : ListName) → rank x < rank y → (l : Lists) → Small l → Small (moved x y l)
+small-moved x y r l h =
+    let xs = names_of x l in
+    let ys = names_of y l in
+    let o = out_of x l in
+    small-with y (ys ++ take 1 xs) (small-out l h x) (all_append P ys (take 1 xs) (all-of y h) (all_first xs (all-of x h)))
+    (λ a.
+    let d = named-with x (drop 1 xs) l a in
+    let e = named-with y (ys ++ take 1 xs) o a in
+    let k = ap (count a) (others x y (drop 1 xs) l r) in
+    let f = tally-first (λ z. z) a xs in
+    let g = tally-append (λ z. z) a ys (take 1 xs) in
+    let s = h.single a in
+    omega (arith, d, e, k, f, g, s))
 
 -- names that are each there once are different
 counted-distinct : (l : List ℕ) → ((x : ℕ) → count x l ≤ 1) → distinct l ≡ true
@@ -172,7 +125,5 @@ tops-read {m} {s} {t} {l} h q n e =
     ∙ ap (take n) (read_back h (small_low l q) (total s) refl ∙ sym (append_assoc l.T1 l.T2 rest))
     ∙ ap (λ (i : ℕ). take i (tops l ++ rest)) k ∙ take-append_seam (tops l) rest
 
-pub ghosts-none : (from : Ghost) (s : ListSizes) (l : Lists) → Sized s l → size_of from s ≡ 0 → ghosts from l ≡ []
-ghosts-none OfB1 s l z e = length_none l.B1 (omega (arith, e, z.b1-is))
-ghosts-none OfB2 s l z e = length_none l.B2 (omega (arith, e, z.b2-is))
-ghosts-none OfB3 s l z e = length_none l.B3 (omega (arith, e, z.b3-is))
+pub names-none : (x : ListName) (s : ListSizes) (l : Lists) → Sized s l → size_of x s ≡ 0 → names_of x l ≡ []
+names-none x s l z e = length_none (names_of x l) (sym (size-is x z) ∙ e)

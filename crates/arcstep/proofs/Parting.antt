@@ -1,14 +1,14 @@
 -- The requested address leaves and joins, by what the code finds. Assumes nothing.
-use mathlib.Core.Path.{◌≡◌, refl, sym, ap, ◌∙◌, subst}
+use mathlib.Core.Path.{◌≡◌, refl, sym, ap, ◌∙◌}
 use mathlib.Core.Bool.{Bool, true, false, cond}
-use mathlib.Core.List.{List, [], ◌∷◌, ◌++◌}
+use mathlib.Core.List.{List, [], ◌∷◌}
 use Prim.Native.Nat.{ℕ, ◌+◌, ◌≤◌, ◌<◌}
 use native.Mathlib.Omega.{arith}
 use lib.Dec.{eqb}
-use lib.ListN.{length, length-append}
+use lib.ListN.{length-append}
 use Rattle.tables.specs.Records.{address_row, address_bytes}
 use Rattle.tables.specs.Operations.{row_added}
-use Rattle.paper.specs.KeyedLaws.{All, all_append, all_map, all_without, Distinct, distinct_without}
+use Rattle.paper.specs.KeyedLaws.{All, all_append, all_map, Distinct, distinct_without}
 use Rattle.paper.specs.Cache.{Seat, AddressRow, Box, newest, without_address}
 use Rattle.paper.specs.Engine.{Fixed}
 use Rattle.paper.specs.Lent.{bit}
@@ -21,12 +21,13 @@ use Rattle.arc.proofs.ArcLentLaws.{named_end, in-below, all_in}
 use Rattle.arc.specs.ArcStep.{ArcSound}
 use Rattle.arc.proofs.ArcStepLaws.{mid-parted}
 use Rattle.arclists.specs.declared.ListSizes.{ListSizes}
-use Rattle.arclists.specs.Holding.{total, Holds, Low}
+use Rattle.arclists.specs.declared.ListName.{ListName}
+use Rattle.arclists.specs.Holding.{Holds, with_last}
 use Rattle.parts.specs.declared.BoxRecord.{BoxRecord}
-use Rattle.parts.specs.Rep.{Rep, with_held, numbers_of, engine}
+use Rattle.parts.specs.Rep.{Rep, engine}
 use Rattle.parts.specs.MoveLaws.{pushed}
 use Rattle.arcstep.specs.declared.Running.{Running}
-use Rattle.arcstep.specs.Runs.{Within, Runs, Stands, Small, sizes_for}
+use Rattle.arcstep.specs.Runs.{Within, Runs, Stands, Small, sizes_for, joins}
 
 -- the names of rows of different addresses on the disk are small
 module _ (P : ℕ) (most : P ≤ 65536) (rows : List (AddressRow (Fixed 32))) (l : Lists) (ds : Distinct eqb (λ r. r.address) rows)
@@ -121,3 +122,9 @@ module _ (b : BoxRecord) (t : Running) (disk flash addrs blocks lists : List ℕ
         flashed = h.flashed;
         primary = h.primary;
       }
+
+-- the list that the address joined
+pub joined-to : {m : ℕ} {s : ListSizes} {t : List ℕ} (l : Lists) (a : ℕ) (b : Bool) (x : ListName) → x ≡ joins b → Holds m s t (with_last x a l)
+    → Holds m s t (cond b (join_t2 a l) (join_t1 a l))
+joined-to l a true x e h = rw e at h
+joined-to l a false x e h = rw e at h

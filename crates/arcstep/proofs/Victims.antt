@@ -1,4 +1,6 @@
 -- The block row that is taken, by the marks of the rows of T1 and T2. Assumes nothing.
+use Rattle.std.specs.Prelude.{unwrap_or}
+use Rattle.std.specs.Prelude.{Option as Optional}
 use mathlib.Core.Path.{◌≡◌, refl, sym, ap, ap₂, ◌∙◌}
 use mathlib.Core.Bool.{Bool, true, false, not, ◌||◌, cond}
 use mathlib.Core.List.{List, [], ◌∷◌, ◌++◌, map}
@@ -16,7 +18,6 @@ use Rattle.tables.specs.Unsound.{elem}
 use Rattle.tables.specs.Sound.{mark, row_address}
 use Rattle.tables.specs.SoundLaws.{Marked}
 use Rattle.tables.specs.Index.{unique, place_in, unknown_in}
-use Rattle.tables.specs.declared.Found.{Found}
 use Rattle.table_laws.specs.Written.{address-address}
 use Rattle.table_laws.specs.Knowns.{Tells, unmarked-is, place-below}
 use Rattle.paper.specs.KeyedLaws.{All, by-test, clash, has-append}
@@ -30,7 +31,7 @@ use Rattle.arc.specs.Arc.{Lists, is_nil, is_in, on_top, top_rows, is_some, has_r
 use Rattle.arclists.specs.NameLaws.{mark-test, elem_in}
 use Rattle.parts.specs.Asked.{no_block}
 use Rattle.parts.specs.MoveLaws.{first-flag, used-flag}
-use Rattle.parts.specs.TableLaws.{addr_bytes, rows-addrs, placed, unknown-first}
+use Rattle.parts.specs.TableLaws.{addr_bytes, rows-addrs, unknown-first}
 use Rattle.step.specs.Steps.{OnceEach, Picked, picked_taken}
 use Rattle.step.specs.Taking.{taken_at}
 use Rattle.arcstep.specs.Victim.{top_place, oldest_at, victim_at}
@@ -73,9 +74,9 @@ module _ (P m n d : ℕ) (addrs blocks seen bytes : List ℕ) (l : Lists) (rs : 
       ∙ ap (λ (x : List (List ℕ)). mark (elem k (map (top_place seen (rows d blocks)) x))) (rows-addrs P m n addrs rs ha)
       ∙ ap mark (marks-tops seen l marked (rows d blocks) k (omega (arith, h, s)) rs (low rs ha.below)))
 
-  pub found-oldest : (f : Found) → ((hs : List (List ℕ)) → Tells d blocks bytes hs → f ≡ find_from (unknown_in hs) 0 (rows d blocks))
-      → placed f d ≡ index_where (λ u. not (known comparing u.fingerprint (top_rows l rs))) used
-  found-oldest f e = ap (λ (x : Found). placed x d) (e (map addr_bytes (top_rows l rs)) tells) ∙ unknown-first (top_rows l rs) d blocks used hb
+  pub found-oldest : (f : Optional ℕ) → ((hs : List (List ℕ)) → Tells d blocks bytes hs → f ≡ find_from (unknown_in hs) 0 (rows d blocks))
+      → unwrap_or f d ≡ index_where (λ u. not (known comparing u.fingerprint (top_rows l rs))) used
+  found-oldest f e = ap (λ (x : Optional ℕ). unwrap_or x d) (e (map addr_bytes (top_rows l rs)) tells) ∙ unknown-first (top_rows l rs) d blocks used hb
 
 -- a free row is first
 pub free-first : {X : Type 0} (l : Lists) (s : Box (Fixed 32) X) → is_nil s.free ≡ false → 0 ≡ victim_at l s

@@ -10,7 +10,7 @@ use Rattle.paper.specs.KeyedLaws.{by-test}
 use Rattle.arc.specs.Arc.{Sizes, Lists, is_nil, takes_t1, t1b1, t2b2, t1b3, b1b3, b2b3, listed, room_in_b, replace, manage, check}
 use Rattle.arc.specs.Tally.{nil-yes as nil-length}
 use Rattle.arclists.specs.declared.ListSizes.{ListSizes}
-use Rattle.arclists.specs.declared.Ghost.TheVariants.{OfB1, OfB2, OfB3}
+use Rattle.arclists.specs.declared.ListName.TheVariants.{B1, B2, B3}
 use Rattle.arclists.specs.Holding.{Sized, Holds, Limits}
 use Rattle.arclists.specs.ReplaceLaws.{nil-yes, nil-no}
 use Rattle.parts.specs.declared.BoxRecord.{BoxRecord}
@@ -39,12 +39,12 @@ module _ (b : BoxRecord) (s : ListSizes) (R : Within b) (z : Sized s R.kept) whe
   unfolding room_in_b
   room-there h = rw (lt-leb s.cached (length R.kept.B1 + length R.kept.B2) (omega (arith, h, z.b1-is, z.b2-is))) refl
 
-  pub room-b2 : s.cached ≤ s.b1 + s.b2 → s.b1 ≡ 0 → room_in_b (engine b) s.cached R ≡ evicted_from b OfB2 R
+  pub room-b2 : s.cached ≤ s.b1 + s.b2 → s.b1 ≡ 0 → room_in_b (engine b) s.cached R ≡ evicted_from b B2 R
   unfolding room_in_b
   room-b2 h e =
       rw (le-leb s.cached (length R.kept.B1 + length R.kept.B2) (omega (arith, h, z.b1-is, z.b2-is)), nil-yes s.b1 R.kept.B1 z.b1-is e) refl
 
-  pub room-b1 : s.cached ≤ s.b1 + s.b2 → 1 ≤ s.b1 → room_in_b (engine b) s.cached R ≡ evicted_from b OfB1 R
+  pub room-b1 : s.cached ≤ s.b1 + s.b2 → 1 ≤ s.b1 → room_in_b (engine b) s.cached R ≡ evicted_from b B1 R
   unfolding room_in_b
   room-b1 h e =
       rw (le-leb s.cached (length R.kept.B1 + length R.kept.B2) (omega (arith, h, z.b1-is, z.b2-is)), nil-no s.b1 R.kept.B1 z.b1-is e) refl
@@ -120,7 +120,7 @@ module _ (b : BoxRecord) (s : ListSizes) (R : Within b) (z : Sized s R.kept) whe
         (λ q. n (omega (arith, q, e.0, e.1, z.t1-is, z.t2-is, z.b3-is)))) refl
 
     pub check-none : s.t1 + s.t2 + s.b3 ≡ s.cached + s.extra → s.b3 ≡ 0 → check (engine b) Z b2 R
-        ≡ evicted_from b OfB3 (manage (engine b) s.cached b2 R)
+        ≡ evicted_from b B3 (manage (engine b) s.cached b2 R)
     unfolding check
     check-none q n =
         rw (
@@ -130,7 +130,7 @@ module _ (b : BoxRecord) (s : ListSizes) (R : Within b) (z : Sized s R.kept) whe
           e.0,
         ) refl
 
-    pub check-some : s.t1 + s.t2 + s.b3 ≡ s.cached + s.extra → 1 ≤ s.b3 → check (engine b) Z b2 R ≡ evicted_from b OfB3 R
+    pub check-some : s.t1 + s.t2 + s.b3 ≡ s.cached + s.extra → 1 ≤ s.b3 → check (engine b) Z b2 R ≡ evicted_from b B3 R
     unfolding check
     check-some q n =
         rw (

@@ -7,8 +7,9 @@ use Rattle.paper.specs.Engine.{Fixed}
 use Rattle.arc.specs.Policy.{Ran}
 use Rattle.arc.specs.Arc.{Sizes, Lists, Was, in_t1, in_t2, in_b1, in_b2, in_b3, unheld, evicted, has_row, cleared! }
 use Rattle.arc.specs.ArcMid.{named}
-use Rattle.arclists.specs.Holding.{total, Holds, Kept, ghosts, out_of}
-use Rattle.arclists.specs.declared.Ghost.{Ghost}
+use Rattle.arclists.specs.Holding.{total, Holds, Kept, names_of, out_of}
+use Rattle.arclists.specs.declared.ListName.{ListName}
+use Rattle.arclists.specs.declared.ListName.TheVariants.{T1, T2}
 use Rattle.arclists.specs.declared.ListSizes.{ListSizes}
 use Rattle.parts.specs.declared.BoxRecord.{BoxRecord}
 use Rattle.parts.specs.Rep.{with_held, Rep, engine}
@@ -41,9 +42,9 @@ pub record Runs (b : BoxRecord) (r : Running) (disk flash addrs blocks lists : L
   pub flashed : r.flashed ≡ R.stepped.flash_writes
   pub primary : r.primary ≡ R.stepped.primary_writes
 
--- "B1's oldest, or B2's if B1 is empty, is evicted first", "B3's oldest is evicted": of one of the three lists
-abbrev pub evicted_from : (b : BoxRecord) → Ghost → Within b → Within b
-evicted_from b from R = record { kept = out_of from R.kept; stepped = evicted (engine b) (ghosts from R.kept) R.stepped }
+-- "B1's oldest, or B2's if B1 is empty, is evicted first", "B3's oldest is evicted": of a list
+abbrev pub evicted_from : (b : BoxRecord) → ListName → Within b → Within b
+evicted_from b from R = record { kept = out_of from R.kept; stepped = evicted (engine b) (names_of from R.kept) R.stepped }
 
 -- other sizes, and the rest as it is
 abbrev pub with_sizes : Running → ListSizes → Running
@@ -106,3 +107,8 @@ needs_check in_b1 = true
 needs_check in_b2 = true
 needs_check in_b3 = false
 needs_check unheld = true
+
+-- the list that the address joins, by whether it goes to T2
+abbrev pub joins : Bool → ListName
+joins true = T2
+joins false = T1

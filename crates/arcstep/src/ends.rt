@@ -8,14 +8,14 @@ ghost use Rattle.paper.specs.Lent.{bit};
 ghost use Rattle.paper.specs.Index.{index_where};
 ghost use Rattle.paper.specs.Layout.{Addrs};
 ghost use Rattle.paper.specs.KeyedLaws.{Distinct};
-ghost use Rattle.arc.specs.Arc.{Lists, list_of, parted, joined, join_t1, join_t2, to_t2};
+ghost use Rattle.arc.specs.Arc.{Lists, list_of, parted, joined, to_t2};
 ghost use Rattle.arc.specs.ArcStep.{ArcSound};
 ghost use Rattle.arclists.specs.Holding.{total, Holds, Kept, was_of};
 ghost use Rattle.parts.specs.Rep.{Rep, engine};
-ghost use Rattle.arcstep.specs.Runs.{Within, Runs, Stands, sizes_for};
+ghost use Rattle.arcstep.specs.Runs.{Within, Runs, Stands, sizes_for, joins};
 
 use crate::{Parted, Running};
-use arclists::{ListSizes, Was, adapt, leave};
+use arclists::{ListName, ListSizes, adapt, leave};
 use parts::{BoxRecord, rows};
 use tables::{SourceAddress, put, shift};
 
@@ -56,8 +56,8 @@ pub(crate) fn part(
     let i = rows::row_of(addrs, b.held, a);
     let held = row_out(addrs, b.held, i);
     let running = Running {
-        held: held,
-        sizes: sizes,
+        held,
+        sizes,
         flashed: 0,
         primary: 0,
     };
@@ -65,18 +65,13 @@ pub(crate) fn part(
 }
 
 // ".. and joins one last"; "an address of T1 or T2 goes to T2". One of B1 or B2 goes to T2, one of B3 and a new one to T1.
-pub(crate) fn join_list(was: Was, s: ListSizes, lists: &mut [u8], a: u32) -> ListSizes
-    requires { total s * 4 + 4 ≤ length lists.old }
-    ensures { (N : Numbers) (m : ℕ) (l : Lists) → Holds m s lists.old l → total s < m
-        → Holds m result lists.new (cond (to_t2 (labelled N) (was_of was)) (join_t2 a l) (join_t1 a l)) }
+#[tactic(auto, unfolding(arc::specs::Arc::to_t2))]
+pub(crate) fn joins(was: Option<ListName>) -> ListName
+    ensures { (N : Numbers) → result ≡ joins (to_t2 (labelled N) (was_of was)) }
 {
     match was {
-        Was::InB3 => leave::join_t1(s, lists, a),
-        Was::Unheld => leave::join_t1(s, lists, a),
-        Was::InT1 => leave::join_t2(s, lists, a),
-        Was::InT2 => leave::join_t2(s, lists, a),
-        Was::InB1 => leave::join_t2(s, lists, a),
-        Was::InB2 => leave::join_t2(s, lists, a),
+        None | Some(ListName::B3) => ListName::T1,
+        Some(ListName::T1 | ListName::T2 | ListName::B1 | ListName::B2) => ListName::T2,
     }
 }
 
@@ -84,7 +79,7 @@ pub(crate) fn join_list(was: Was, s: ListSizes, lists: &mut [u8], a: u32) -> Lis
 pub(crate) fn join(
     b: BoxRecord,
     t: Running,
-    was: Was,
+    was: Option<ListName>,
     a: SourceAddress,
     g: &[u8],
     dirty: u8,
@@ -101,11 +96,10 @@ pub(crate) fn join(
         → Stands b result disk flash addrs.new blocks lists.new (joined (engine b) a.0 f w (bytes2 seat) (was_of was) R) }
 {
     put::push_address(addrs, t.held, a, g, dirty, seat);
-    let s = join_list(was, t.sizes, lists, a.0);
+    let s = leave::join(t.sizes, lists, joins(was), a.0);
     Running {
         held: t.held + 1,
         sizes: s,
-        flashed: t.flashed,
-        primary: t.primary,
+        ..t
     }
 }

@@ -8,7 +8,7 @@ ghost use Rattle.parts.specs.Rep.{Sized, Rep, LentBox, engine};
 ghost use Rattle.arcstep.specs.Runs.{RowGone, Within, Runs, SomeRuns, Fits, Less, evicted_from};
 
 use crate::Running;
-use arclists::{Ghost, ghosts};
+use arclists::{ListName, ghosts};
 use parts::{BoxRecord, copy, rows};
 use tables::{SourceAddress, shift};
 
@@ -47,13 +47,13 @@ pub(crate) fn evict_row(
     shift::remove_row(addrs, b.held, i);
     Gone {
         held: b.held - 1,
-        primary: primary,
+        primary,
     }
 }
 
-// The oldest address of B1, B2 or B3 leaves the box, if there is one: its row, and its name.
+// The oldest address of the list leaves the box, if there is one: its row, and its name.
 pub(crate) fn evict(
-    from: Ghost,
+    from: ListName,
     b: BoxRecord,
     t: Running,
     disk: &mut [u8],
@@ -68,8 +68,7 @@ pub(crate) fn evict(
     ensures runs { (R : Within b) → Runs b t disk.old flash.now addrs.old blocks.now lists.old R
         → Runs b result disk.new flash.now addrs.new blocks.now lists.new (evicted_from b from R) }
 {
-    let n = ghosts::size_of(from, t.sizes);
-    if n == 0 {
+    if t.sizes.size(from) == 0 {
         return t;
     }
     let x = ghosts::oldest(from, t.sizes, lists);
@@ -79,7 +78,7 @@ pub(crate) fn evict(
     Running {
         held: g.held,
         sizes: s,
-        flashed: t.flashed,
         primary: t.primary + g.primary,
+        ..t
     }
 }

@@ -34,10 +34,9 @@ pub(crate) fn again(
         (replace (engine b) t.sizes.cached b2 R) }
 {
     let r = metadata::replace(b2, b, t, disk, flash, addrs, blocks, lists);
-    let j = victim::victim(b, r, addrs, blocks, lists, heads);
     Cleared {
         running: r,
-        place: j,
+        place: victim::victim(b, r, addrs, blocks, lists, heads),
     }
 }
 
@@ -61,17 +60,14 @@ pub(crate) fn clear(
         → Clears b result disk.new flash.now addrs.new blocks.now lists.new
         (cleared! (engine b) t.sizes.cached b2 R) }
 {
-    let mut k = t.sizes.t1 + t.sizes.t2;
-    let j = victim::victim(b, t, addrs, blocks, lists, heads);
     let mut c = Cleared {
         running: t,
-        place: j,
+        place: victim::victim(b, t, addrs, blocks, lists, heads),
     };
-    while 0 < k {
+    for _i in 0..t.sizes.t1 + t.sizes.t2 {
         if c.place < b.slots {
             return c;
         }
-        k -= 1;
         c = again(b2, b, c.running, disk, flash, addrs, blocks, lists, heads);
     }
     c
@@ -100,12 +96,10 @@ pub(crate) fn store(
 {
     let c = parts::with_held(b, t.held);
     let count = steps::store_at(c, j, disk, flash, addrs, blocks, g, block);
-    let s = t.sizes;
     Running {
-        held: t.held,
-        sizes: s,
         flashed: 1,
         primary: t.primary + count,
+        ..t
     }
 }
 

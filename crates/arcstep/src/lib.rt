@@ -8,7 +8,7 @@ pub mod metadata;
 pub mod request;
 pub mod victim;
 
-use arclists::{ListSizes, Was};
+use arclists::{ListName, ListSizes};
 
 // What runs through the parts of a step: how many rows are held, the lists' sizes with p, C and X, the blocks stored in the flash, and those copied
 // to the disk.
@@ -20,7 +20,7 @@ pub struct Running {
     pub primary: usize,
 }
 
-// What runs on, and the place of the block row that can be taken then, the count of block rows for none.
+// What runs on, and the place of the block row that can be taken then, the count of block rows for none: a number, as `victim_at` of the specs has it.
 #[derive(Clone, Copy)]
 pub struct Cleared {
     pub running: Running,
@@ -31,5 +31,5 @@ pub struct Cleared {
 #[derive(Clone, Copy)]
 pub struct Parted {
     pub running: Running,
-    pub was: Was,
+    pub was: Option<ListName>,
 }

@@ -6,19 +6,14 @@ ghost use Rattle.parts.specs.Rep.{engine};
 ghost use Rattle.arcstep.specs.Runs.{Within, Runs, SomeRuns, Fits, Less, with_sizes};
 
 use crate::{Running, evict};
-use arclists::{Ghost, ListSizes, moves, replace as lists_replace};
+use arclists::{ListName, ListSizes, moves, replace as lists_replace};
 use parts::BoxRecord;
 
 // The same with other sizes of the lists.
 pub(crate) fn with_sizes(r: Running, s: ListSizes) -> Running
     ensures { result ≡ with_sizes r s }
 {
-    Running {
-        held: r.held,
-        sizes: s,
-        flashed: r.flashed,
-        primary: r.primary,
-    }
+    Running { sizes: s, ..r }
 }
 
 // "Where B1 and B2 would pass C, B1's oldest, or B2's if B1 is empty, is evicted first."
@@ -42,9 +37,9 @@ pub(crate) fn room(
         return t;
     }
     if t.sizes.b1 == 0 {
-        return evict::evict(Ghost::OfB2, b, t, disk, flash, addrs, blocks, lists);
+        return evict::evict(ListName::B2, b, t, disk, flash, addrs, blocks, lists);
     }
-    evict::evict(Ghost::OfB1, b, t, disk, flash, addrs, blocks, lists)
+    evict::evict(ListName::B1, b, t, disk, flash, addrs, blocks, lists)
 }
 
 // REPLACEINMETADATACACHE: "move LRU from T1 to B1", else "from T2 to B2"; "where both are empty it does nothing".
@@ -93,16 +88,16 @@ pub(crate) fn manage_full(
         (manage (engine b) t.sizes.cached b2 R) }
 {
     if t.sizes.t1 < t.sizes.cached {
-        let s = moves::b1_to_b3(t.sizes, lists);
+        let s = moves::move_lru(t.sizes, lists, ListName::B1, ListName::B3);
         let r = with_sizes(t, s);
         return replace(b2, b, r, disk, flash, addrs, blocks, lists);
     }
     if t.sizes.b1 == 0 {
-        let s = moves::t1_to_b3(t.sizes, lists);
+        let s = moves::move_lru(t.sizes, lists, ListName::T1, ListName::B3);
         return with_sizes(t, s);
     }
-    let s = moves::b1_to_b3(t.sizes, lists);
-    let u = moves::t1_to_b1(s, lists);
+    let s = moves::move_lru(t.sizes, lists, ListName::B1, ListName::B3);
+    let u = moves::move_lru(s, lists, ListName::T1, ListName::B1);
     with_sizes(t, u)
 }
 
@@ -128,7 +123,7 @@ pub(crate) fn manage(
         return manage_full(b2, b, t, disk, flash, addrs, blocks, lists);
     }
     if t.sizes.cached <= t.sizes.b1 + t.sizes.b2 {
-        let s = moves::b2_to_b3(t.sizes, lists);
+        let s = moves::move_lru(t.sizes, lists, ListName::B2, ListName::B3);
         let r = with_sizes(t, s);
         return replace(b2, b, r, disk, flash, addrs, blocks, lists);
     }
@@ -159,7 +154,7 @@ pub(crate) fn check(
     }
     if t.sizes.b3 == 0 {
         let r = manage(b2, b, t, disk, flash, addrs, blocks, lists);
-        return evict::evict(Ghost::OfB3, b, r, disk, flash, addrs, blocks, lists);
+        return evict::evict(ListName::B3, b, r, disk, flash, addrs, blocks, lists);
     }
-    evict::evict(Ghost::OfB3, b, t, disk, flash, addrs, blocks, lists)
+    evict::evict(ListName::B3, b, t, disk, flash, addrs, blocks, lists)
 }

@@ -13,41 +13,27 @@ ghost use Rattle.step.specs.Steps.{asks};
 ghost use Rattle.arcstep.specs.Runs.{Within, Runs, Fits, Ends, Stands, sizes_for, needs_check};
 
 use crate::{Running, ends, insert, metadata};
-use arclists::{ListSizes, Was};
+use arclists::{ListName, ListSizes};
 use parts::BoxRecord;
 use tables::SourceAddress;
 
 // Whether the address was in B2.
-pub(crate) fn was_b2(was: Was) -> bool
+pub(crate) fn was_b2(was: Option<ListName>) -> bool
     ensures { result ≡ was_b2 (was_of was) }
 {
-    match was {
-        Was::InB2 => true,
-        Was::InT1 => false,
-        Was::InT2 => false,
-        Was::InB1 => false,
-        Was::InB3 => false,
-        Was::Unheld => false,
-    }
+    matches!(was, Some(ListName::B2))
 }
 
 // "Algorithm 2 runs CHECK for an address of B1 or B2 and for a new one".
-pub(crate) fn needs_check(was: Was) -> bool
+pub(crate) fn needs_check(was: Option<ListName>) -> bool
     ensures { result ≡ needs_check (was_of was) }
 {
-    match was {
-        Was::InB1 => true,
-        Was::InB2 => true,
-        Was::Unheld => true,
-        Was::InT1 => false,
-        Was::InT2 => false,
-        Was::InB3 => false,
-    }
+    matches!(was, None | Some(ListName::B1 | ListName::B2))
 }
 
 // The block of the request gets a block row, and the metadata cache is checked.
 pub(crate) fn settle(
-    was: Was,
+    was: Option<ListName>,
     b: BoxRecord,
     t: Running,
     disk: &mut [u8],

@@ -12,7 +12,7 @@ use crate::Running;
 use arclists::names;
 use checks::known;
 use parts::BoxRecord;
-use tables::{Found, row};
+use tables::row;
 
 // The place of the block row of row `k`, if its address has its bit; 256 for none.
 pub(crate) fn top_place(
@@ -52,9 +52,7 @@ pub(crate) fn mark_tops(
     ensures by_index_3 { (x : ℕ) → x < length known.new → get_or known.new x 0
         ≡ mark (elem x (map (top_place seen.now (rows d blocks.now)) (rows n addrs.now))) }
 {
-    let mut k = n;
-    while 0 < k {
-        k -= 1;
+    for k in (0..n).rev() {
         let x = top_place(addrs, k, seen, blocks, d, heads);
         known[x] = 1;
     }
@@ -80,8 +78,8 @@ pub(crate) fn oldest_at(
     let mut known = [0u8; 257];
     mark_tops(addrs, t.held, &seen, blocks, b.slots, heads, &mut known);
     match known::first_unknown(blocks, b.slots, &known) {
-        Found::At(j) => j,
-        Found::Nothing => b.slots,
+        Some(j) => j,
+        None => b.slots,
     }
 }
 

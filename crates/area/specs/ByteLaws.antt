@@ -1,18 +1,23 @@
 -- The bytes of a body by their index, and a write of 64 of them. Assumes nothing.
-use Rattle.std.specs.Prelude.{◌≡◌, refl, true, false, ◌&&◌, List, [], ◌∷◌, ◌++◌, ℕ, zero, suc, ◌+◌, ◌-◌, ◌*◌, ◌/◌, ◌%◌, ◌≤◌, ◌<◌, eqb, ltb, length, take, drop, get_or, set, replicate}
-use Rattle.std.proofs.Common.{sym, ap, ap₂, ◌∙◌, arith, length-drop, drop_of_length-le, eq-eqb, ne_eqb, ltb-true, ltb-false, add-one, get_or-append-add, get_or-drop, length-take-le, take_all, take-suc, take-suc-set, drop-cons}
+use Rattle.std.specs.Prelude.{◌≡◌, refl, ◌&&◌, List, [], ◌∷◌, ◌++◌, map, ℕ, zero, suc, ◌+◌, ◌-◌, ◌*◌, ◌/◌, ◌%◌, ◌≤◌, ◌<◌, eqb, ltb, length, take, drop, get_or, set, replicate}
+use Rattle.std.proofs.Common.{sym, ap, ap₂, ◌∙◌, arith, length-drop, ltb-true, ltb-false, add-one, get_or-append-add, get_or-drop, length-take-le, take_all, take-suc, take-suc-set, Bor}
+use Rattle.std.specs.Cmp.Lexicographic.{pointwise}
+use Rattle.std.proofs.lemmas.Bool.Decides.{nat_tests}
+use Rattle.std.proofs.lemmas.List.{at_drop_more, at_drop_all}
 use Rattle.std.proofs.Math.ListN.{get_or-append, get_or-eq_default}
 use Rattle.tables.specs.Rows.{flat, zeros}
 use Rattle.tables.specs.Records.{bytes4}
 use Rattle.tables.specs.Find.{same}
 use Rattle.paper.specs.KeyedLaws.{by-test}
-use Rattle.area.specs.Given.{fields, body_from}
+use Rattle.area.specs.declared.Body.{Body}
+use Rattle.area.specs.Given.{bytes_of}
 use Rattle.arc.specs.ArcLent.{word_bytes}
 use Rattle.arc.proofs.ArcLentLaws.{length-words}
-use Rattle.image.specs.Body.{Fields, body_of}
+use Rattle.image.specs.Body.{body_of}
+use borrow.Rule.Slice.PartMut.{put_mid}
 use Rattle.block.specs.Blocks.{splice}
 use Rattle.block.specs.Laws.{length-splice}
-use Rattle.image.specs.Area.{mark, header, clearing, heading, save_writes, padded, put, applied, body_write, body_writes, writes_for}
+use Rattle.image.specs.Area.{mark, version, header, clearing, heading, save_writes, padded, put, applied, body_write, body_writes, writes_for}
 use Rattle.image.proofs.AreaLaws.{applied-append, length-padded}
 
 -- an element behind a list
@@ -52,91 +57,49 @@ words-later ns rest i h =
     let l : length (word_bytes ns) ≡ 4 * length ns = length-words ns ∙ omega arith in
     behind (word_bytes ns) rest i (omega arith) ∙ ap (λ k. get_or rest (i - k) 0) l
 
-pub body-number : (x : Fields) (i : ℕ) → i < 4 * length x.numbers → get_or (body_of x) i 0 ≡ get_or (bytes4 (get_or x.numbers (i / 4) 0)) (i % 4) 0
-unfolding body_of
-body-number x i h = words-here x.numbers (flat x.strings) i h
-
-pub body-string : (x : Fields) (i : ℕ) → 4 * length x.numbers ≤ i → get_or (body_of x) i 0 ≡ get_or (flat x.strings) (i - 4 * length x.numbers) 0
-unfolding body_of
-body-string x i h = words-later x.numbers (flat x.strings) i h
-
 -- ---- the code's own cases
 
--- byte j of a number
-pub byte-0 : (x j : ℕ) → j ≡ 0 → x % 256 ≡ get_or (bytes4 x) j 0
-byte-0 x j e = rw e refl
+-- byte i of the strings from number j on: in that one, in those behind it, or in none
+abbrev pub byte_in : List (Bor (List ℕ)) → ℕ → ℕ
+byte_in ss i = get_or (flat (map (λ s. s.now) ss)) i 0
 
-pub byte-1 : (x j : ℕ) → j ≡ 1 → x / 256 % 256 ≡ get_or (bytes4 x) j 0
-byte-1 x j e = rw e refl
+module _ (ss : List (Bor (List ℕ))) (j i : ℕ) (z : Bor (List ℕ)) (h : j < length ss) where
+  abbrev at-j : List ℕ
+  at-j = (get_or ss j z).now
 
-pub byte-2 : (x j : ℕ) → j ≡ 2 → x / 65536 % 256 ≡ get_or (bytes4 x) j 0
-byte-2 x j e = rw e refl
+  abbrev rest : List (List ℕ)
+  rest = map (λ s. s.now) (drop (j + 1) ss)
 
-pub byte-3 : (x j : ℕ) → j ≡ 3 → x / 16777216 % 256 ≡ get_or (bytes4 x) j 0
-byte-3 x j e = rw e refl
+  pub string-here : i < length at-j → get_or at-j i 0 ≡ byte_in (drop j ss) i
+  string-here g = sym (at_drop_more (λ xs. byte_in xs i) ss j z h ∙ flat-here at-j rest i g)
 
--- byte i of four strings
-module _ (a b c d : List ℕ) (i : ℕ) where
-  abbrev all : List ℕ
-  all = flat (a ∷ b ∷ c ∷ d ∷ [])
+  pub string-later : length at-j ≤ i → byte_in (drop j ss) i ≡ byte_in (drop (j + 1) ss) (i - length at-j)
+  string-later g = at_drop_more (λ xs. byte_in xs i) ss j z h ∙ flat_later at-j rest i g
 
-  abbrev i₁ : ℕ
-  i₁ = i - length a
+pub string-none : (ss : List (Bor (List ℕ))) (j i : ℕ) → length ss ≤ j → byte_in (drop j ss) i ≡ 0
+string-none ss j i h = at_drop_all (λ xs. byte_in xs i) ss j h ∙ flat-none i
 
-  abbrev i₂ : ℕ
-  i₂ = i₁ - length b
+-- a byte of a number of the body
+pub number-here : (b : Body) (i : ℕ) (bs : List ℕ) → i < 4 * length b.numbers.now → bs ≡ bytes4 (get_or b.numbers.now (i / 4) 0)
+    → get_or bs (i % 4) 0 ≡ get_or (bytes_of b) i 0
+unfolding body_of
+number-here b i bs h e = ap (λ x. get_or x (i % 4) 0) e ∙ sym (words-here b.numbers.now (flat (map (λ s. s.now) b.strings)) i h)
 
-  abbrev i₃ : ℕ
-  i₃ = i₂ - length c
+-- a byte behind them
+pub string_in : (b : Body) (i : ℕ) → 4 * length b.numbers.now ≤ i → byte_in b.strings (i - 4 * length b.numbers.now) ≡ get_or (bytes_of b) i 0
+unfolding body_of
+string_in b i h = sym (words-later b.numbers.now (flat (map (λ s. s.now) b.strings)) i h)
 
-  pub in-1 : i < length a → get_or a i 0 ≡ get_or all i 0
-  in-1 h = sym (flat-here a (b ∷ c ∷ d ∷ []) i h)
+-- two lists compared, the other one first
+eqb-turned : (x y : ℕ) → eqb y x ≡ eqb x y
+eqb-turned x y = grind (arith, nat_tests)
 
-  to-2 : length a ≤ i → get_or all i 0 ≡ get_or (flat (b ∷ c ∷ d ∷ [])) i₁ 0
-  to-2 h = flat_later a (b ∷ c ∷ d ∷ []) i h
-
-  to-3 : length a ≤ i → length b ≤ i₁ → get_or all i 0 ≡ get_or (flat (c ∷ d ∷ [])) i₂ 0
-  to-3 h g = to-2 h ∙ flat_later b (c ∷ d ∷ []) i₁ g
-
-  to-4 : length a ≤ i → length b ≤ i₁ → length c ≤ i₂ → get_or all i 0 ≡ get_or (flat (d ∷ [])) i₃ 0
-  to-4 h g f = to-3 h g ∙ flat_later c (d ∷ []) i₂ f
-
-  pub in-2 : length a ≤ i → i₁ < length b → get_or b i₁ 0 ≡ get_or all i 0
-  in-2 h g = sym (to-2 h ∙ flat-here b (c ∷ d ∷ []) i₁ g)
-
-  pub in-3 : length a ≤ i → length b ≤ i₁ → i₂ < length c → get_or c i₂ 0 ≡ get_or all i 0
-  in-3 h g f = sym (to-3 h g ∙ flat-here c (d ∷ []) i₂ f)
-
-  pub in-4 : length a ≤ i → length b ≤ i₁ → length c ≤ i₂ → i₃ < length d → get_or d i₃ 0 ≡ get_or all i 0
-  in-4 h g f e = sym (to-4 h g f ∙ flat-here d [] i₃ e)
-
-  pub in-none : length a ≤ i → length b ≤ i₁ → length c ≤ i₂ → length d ≤ i₃ → 0 ≡ get_or all i 0
-  in-none h g f e = sym (to-4 h g f ∙ flat_later d [] i₃ e ∙ flat-none (i₃ - length d))
-
--- two slices compared from k on
-pub same-hit : (a b : List ℕ) (k : ℕ) → k < length a → length a ≡ length b → get_or a k 0 ≡ get_or b k 0
-    → same (drop k a) (drop k b) ≡ same (drop (k + 1) a) (drop (k + 1) b)
+pub same-turned : (xs ys : List ℕ) → pointwise eqb ys xs ≡ same xs ys
 unfolding same
-same-hit a b k h l e = rw (drop-cons a k 0 h, drop-cons b k 0 (rw (← l) h), eq-eqb (get_or a k 0) (get_or b k 0) e, add-one)
-
-pub same-miss : (a b : List ℕ) (k : ℕ) → k < length a → length a ≡ length b → (get_or a k 0 ≡ get_or b k 0 → ⊥) → same (drop k a) (drop k b) ≡ false
-unfolding same
-same-miss a b k h l e = rw (drop-cons a k 0 h, drop-cons b k 0 (rw (← l) h), ne_eqb (get_or a k 0) (get_or b k 0) e)
-
-pub same_end : (a b : List ℕ) (k : ℕ) → length a ≤ k → length a ≡ length b → same (drop k a) (drop k b) ≡ true
-unfolding same
-same_end a b k h l = rw (drop_of_length-le a {i = k} h, drop_of_length-le b {i = k} (rw (← l) h))
-
--- a byte of a body by the code's cases
-pub number-here : (numbers : List ℕ) (label addresses blocks lists : List ℕ) (i b : ℕ) → i < 4 * length numbers
-    → b ≡ get_or (bytes4 (get_or numbers (i / 4) 0)) (i % 4) 0
-    → b ≡ get_or (body_from numbers label addresses blocks lists) i 0
-number-here numbers label addresses blocks lists i b h e = e ∙ sym (body-number (fields numbers label addresses blocks lists) i h)
-
-pub string-here : (numbers : List ℕ) (label addresses blocks lists : List ℕ) (i b : ℕ) → 4 * length numbers ≤ i
-    → b ≡ get_or (flat (label ∷ addresses ∷ blocks ∷ lists ∷ [])) (i - 4 * length numbers) 0
-    → b ≡ get_or (body_from numbers label addresses blocks lists) i 0
-string-here numbers label addresses blocks lists i b h e = e ∙ sym (body-string (fields numbers label addresses blocks lists) i h)
+same-turned [] [] = refl
+same-turned [] (y ∷ ys) = refl
+same-turned (x ∷ xs) [] = refl
+same-turned (x ∷ xs) (y ∷ ys) = ap₂ ◌&&◌ (eqb-turned x y) (same-turned xs ys)
 
 -- a byte of a body is that of the body with its fill
 zero-at : (n i : ℕ) → ◌≡◌ {A = ℕ} (get_or (replicate n 0) i 0) 0
@@ -164,12 +127,10 @@ chunk-turn body bytes k i b e l h g v =
     let v' : b ≡ get_or rest i 0 = v ∙ padded-byte body (k * 64 + i) ∙ sym (get_or-drop (k * 64) (padded body) i 0) in
     rw add-one (take-suc-set bytes i b (omega arith) ∙ ap₂ {C = List ℕ} (λ x y. x ++ (y ∷ [])) e v' ∙ sym (take-suc rest i 0 (omega arith)))
 
-pub chunk-done : (body bytes : List ℕ) (k i : ℕ) → take i bytes ≡ take i (drop (k * 64) (padded body)) → length bytes ≡ 64 → i ≤ 64 → 64 ≤ i
+pub chunk-done : (body bytes : List ℕ) (k : ℕ) → take 64 bytes ≡ take 64 (drop (k * 64) (padded body)) → length bytes ≡ 64
     → bytes ≡ (body_write body k).bytes
 unfolding body_write
-chunk-done body bytes k i e l h g =
-    let p : i ≡ 64 = omega arith in
-    sym (take_all 64 bytes (omega arith)) ∙ rw p at e
+chunk-done body bytes k e l = sym (take_all 64 bytes (omega arith)) ∙ e
 
 pub chunk-length : (body : List ℕ) (k : ℕ) → k < writes_for (length body) → length (body_write body k).bytes ≡ 64
 unfolding body_write
@@ -194,11 +155,10 @@ none_yet body area = refl
 
 -- ---- the header, and all writes
 
-pub header_made : (h : List ℕ) (n a b c d : ℕ) → h ≡ splice 0 mark (replicate 64 0) → a ≡ get_or (bytes4 n) 0 0
-    → b ≡ get_or (bytes4 n) 1 0 → c ≡ get_or (bytes4 n) 2 0 → d ≡ get_or (bytes4 n) 3 0
-    → set (set (set (set (set h 3 1) 5 a) 6 b) 7 c) 8 d ≡ header n
+pub header_made : (h vs bs : List ℕ) (n : ℕ) → h ≡ splice 0 mark (replicate 64 0) → vs ≡ version → bs ≡ bytes4 n
+    → put_mid 5 4 (put_mid 3 2 h vs) bs ≡ header n
 unfolding splice header zeros
-header_made h n a b c d e ea eb ec ed = rw (e, ea, eb, ec, ed)
+header_made h vs bs n e v f = rw (e, v, f) refl
 
 pub writes_are : (n : ℕ) → writes_for n ≡ (n + 63) / 64
 unfolding writes_for

@@ -1,4 +1,5 @@
 -- Laws of an index. Assumes nothing.
+use Rattle.std.specs.Prelude.{Some, is_none, cond}
 use mathlib.Core.Path.{◌≡◌, refl, sym, ap, ◌∙◌, subst}
 use mathlib.Core.Bool.{Bool, true, false, and-false, false≢true}
 use Prim.Native.Nat.{ℕ, suc, ◌+◌, ◌-◌, ◌≤◌, ◌<◌}
@@ -10,10 +11,10 @@ use lib.ListN.{length, get_or, set, drop, length-set}
 use lib.Seq.{get_or-set_same, get_or-set_other}
 use borrow.Author.Tests.{eqb-true, eqb-false}
 use Rattle.tables.specs.Rows.{rows, row_at}
-use Rattle.tables.specs.Find.{find_from, pick, caches, same, absent, is_used}
+use Rattle.tables.specs.Find.{find_from, caches, same, is_used}
 use Rattle.tables.specs.Index.{bucket, choice, entry, start, onward, In, Index, First, Goes, Linked, unique}
-use Rattle.tables.specs.declared.Found.TheVariants.{At}
 use Rattle.tables.specs.FindLaws.{find-miss, find-end}
+use Rattle.tables.specs.RowLaws.{rows-length, rows_at}
 use Rattle.tables.specs.SoundLaws.{same_true, not-true-false}
 use Rattle.tables.specs.Records.{read_block}
 
@@ -45,7 +46,7 @@ module _ (heads : List ℕ) (rs : List (List ℕ)) (k : ℕ) (l : k < length rs)
     | false ↦ λ q. (let s = eqb-false r k q in i.links r x (omega arith) c n)
   ] refl
 
-  pub linked-free : Linked k heads rs
+  linked-free : Linked k heads rs
   linked-free = record {
     chosen = i.chosen;
     index = λ g. find-miss (caches g) rs k [] l (rw free refl) ∙ i.index g;
@@ -53,26 +54,28 @@ module _ (heads : List ℕ) (rs : List (List ℕ)) (k : ℕ) (l : k < length rs)
     links = free-link;
   }
 
--- the entries after `put_row` on row k, of bucket x, whose entry was h
-module _ (heads : List ℕ) (k x h : ℕ) (few : k < 256) (size : length heads ≡ 4353) (b : x < 4096) where
+-- the entries after `put_row` on row k, of bucket x
+module _ (heads : List ℕ) (k x : ℕ) (few : k < 256) (size : length heads ≡ 4353) (b : x < 4096) where
   abbrev turned : List ℕ
-  turned = set (set heads (4096 + k) h) x (256 - k)
+  turned = set (set heads (4096 + k) (get_or heads x 0)) x (256 - k)
 
   turned-here : get_or turned x 0 ≡ 256 - k
-  turned-here = get_or-set_same (set heads (4096 + k) h) x (256 - k) 0 (simp length-set (omega arith))
+  turned-here = get_or-set_same (set heads (4096 + k) (get_or heads x 0)) x (256 - k) 0 (simp length-set (omega arith))
 
   -- an entry that is neither that of the bucket nor that of the row
   turned-other : (y : ℕ) → (y ≡ x → ⊥) → (y ≡ 4096 + k → ⊥) → get_or turned y 0 ≡ get_or heads y 0
-  turned-other y n o = get_or-set_other (set heads (4096 + k) h) x y (256 - k) 0 n ∙ get_or-set_other heads (4096 + k) y h 0 o
+  turned-other y n o = get_or-set_other (set heads (4096 + k) (get_or heads x 0)) x y (256 - k) 0 n ∙ get_or-set_other heads (4096 + k) y (get_or heads x 0) 0 o
 
-  turned-row : get_or turned (4096 + k) 0 ≡ h
-  turned-row = get_or-set_other (set heads (4096 + k) h) x (4096 + k) (256 - k) 0 (λ o. omega arith) ∙ get_or-set_same heads (4096 + k) h 0 (omega arith)
+  turned-row : get_or turned (4096 + k) 0 ≡ get_or heads x 0
+  turned-row =
+      get_or-set_other (set heads (4096 + k) (get_or heads x 0)) x (4096 + k) (256 - k) 0 (λ o. omega arith)
+      ∙ get_or-set_same heads (4096 + k) (get_or heads x 0) 0 (omega arith)
 
   same-choice : choice turned ≡ choice heads
   same-choice = turned-other 4352 (λ o. omega arith) (λ o. omega arith)
 
   -- one row more
-  module _ (rs : List (List ℕ)) (l : k < length rs) (m : length rs ≤ 256) (e : In (choice heads) rs x k) (f : h ≡ get_or heads x 0) (i : Linked (k + 1) heads rs) where
+  module _ (rs : List (List ℕ)) (l : k < length rs) (m : length rs ≤ 256) (e : In (choice heads) rs x k) (i : Linked (k + 1) heads rs) where
     abbrev c : ℕ
     c = choice heads
 
@@ -108,7 +111,7 @@ module _ (heads : List ℕ) (k x h : ℕ) (few : k < 256) (size : length heads �
           (let s = eqb-true r k q in
           let p = i.firsts x b in
           let z : x ≡ y = sym e.1 ∙ ap (λ (j : ℕ). bucket c (read_block (get_or rs j [])).fingerprint) (sym s) ∙ n.1 in
-          let w : onward turned k ≡ entry heads x = ap (λ (v : ℕ). 256 - v) (turned-row ∙ f) in
+          let w : onward turned k ≡ entry heads x = ap (λ (v : ℕ). 256 - v) turned-row in
           let t : Goes c rs x k (entry heads x) = (omega (arith, p.1.0), (p.1.1, λ g v. i.index g ∙ ap (λ (u : ℕ). find_from (caches g) (entry heads u) (drop (entry heads u) rs)) v)) in
           subst (λ (u : ℕ). Goes c rs u r (onward turned r)) z (subst (λ (u : ℕ). Goes c rs x u (onward turned u)) (sym s) (subst (Goes c rs x k) (sym w) t)))
       | false ↦ λ q.
@@ -117,7 +120,7 @@ module _ (heads : List ℕ) (k x h : ℕ) (few : k < 256) (size : length heads �
           subst (Goes c rs y r) (sym w) (i.links r y (omega arith) d n))
     ] refl
 
-    pub linked-more : Linked k turned rs
+    linked-more : Linked k turned rs
     linked-more = record {
       chosen = rw same-choice i.chosen;
       index = more-index;
@@ -126,28 +129,41 @@ module _ (heads : List ℕ) (k x h : ℕ) (few : k < 256) (size : length heads �
     }
 
 -- whether something is found does not depend on the number of the first
-pub absent-from : {A : Type 0} (p : A → Bool) (j k : ℕ) (xs : List A) → absent (find_from p j xs) ≡ absent (find_from p k xs)
+pub absent-from : {A : Type 0} (p : A → Bool) (j k : ℕ) (xs : List A) → is_none (find_from p j xs) ≡ is_none (find_from p k xs)
 unfolding find_from
 absent-from p j k [] = refl
-absent-from p j k (x ∷ xs) = elim (p x) as (λ q. absent (pick q (At j) (find_from p (suc j) xs)) ≡ absent (pick q (At k) (find_from p (suc k) xs))) [ true ↦ refl | false ↦ absent-from p (suc j) (suc k) xs ]
+absent-from p j k (x ∷ xs) = elim (p x) as (λ q. is_none (cond q (Some j) (find_from p (suc j) xs)) ≡ is_none (cond q (Some k) (find_from p (suc k) xs))) [ true ↦ refl | false ↦ absent-from p (suc j) (suc k) xs ]
 
--- a search for g that starts where the index says, at row w, the entry of bucket x
-module _ (heads : List ℕ) (rs : List (List ℕ)) (g : List ℕ) (x w k : ℕ) (e : x ≡ bucket (choice heads) g) (b : x < 4096) (f : w ≡ entry heads x) (i : Linked k heads rs) where
-  pub found-by : find_from (caches g) w (drop w rs) ≡ find_from (caches g) k (drop k rs)
-  found-by = sym (i.index g ∙ rw (f, e))
-
-  pub from-bucket : w < length rs → In (choice heads) rs (bucket (choice heads) g) w
-  from-bucket = subst (λ (v : ℕ). v < length rs → In (choice heads) rs (bucket (choice heads) g) v) (sym f) (λ h. (let p = (i.firsts x b).1.1 h in (p.0, p.1 ∙ e)))
+-- a search for g that starts where the index says, at row w
+module _ (heads : List ℕ) (rs : List (List ℕ)) (g : List ℕ) (w k : ℕ) (f : w ≡ start heads g) (i : Linked k heads rs) where
+  found-by : find_from (caches g) w (drop w rs) ≡ find_from (caches g) k (drop k rs)
+  found-by = sym (i.index g ∙ rw f)
 
   pub from-links : (r y : ℕ) → w ≤ r → r < length rs → In (choice heads) rs y r → Goes (choice heads) rs y r (onward heads r)
-  from-links r y h o n = let p = (i.firsts x b).1.0 in i.links r y (omega (arith, p, f)) o n
+  from-links r y h o n =
+      let p = (i.firsts (bucket (choice heads) g) (bucket-below (choice heads) g)).1.0 in
+      i.links r y (omega (arith, p, f)) o n
 
 -- the row's fingerprint is in no row behind it, by the search from row w
-pub alone-is : (heads t : List ℕ) (d k x w : ℕ) → k < d → is_used (row_at t k) ≡ true → x ≡ bucket (choice heads) (read_block (row_at t k)).fingerprint → x < 4096 → w ≡ entry heads x → Linked (k + 1) heads (rows d t)
-    → absent (find_from (caches (read_block (row_at t k)).fingerprint) w (drop w (rows d t))) ≡ unique (row_at t k) (drop (suc k) (rows d t))
-alone-is heads t d k x w h u e b f i =
+pub alone-is : (heads t : List ℕ) (d k w : ℕ) → is_used (row_at t k) ≡ true → w ≡ start heads (read_block (row_at t k)).fingerprint → Linked (k + 1) heads (rows d t)
+    → is_none (find_from (caches (read_block (row_at t k)).fingerprint) w (drop w (rows d t))) ≡ unique (row_at t k) (drop (suc k) (rows d t))
+alone-is heads t d k w u f i =
     let g = (read_block (row_at t k)).fingerprint in
-    ap absent (found-by heads (rows d t) g x w (k + 1) e b f i)
+    ap is_none (found-by heads (rows d t) g w (k + 1) f i)
     ∙ absent-from (caches g) (k + 1) 0 (drop (k + 1) (rows d t))
-    ∙ ap (λ (j : ℕ). absent (find_from (caches g) 0 (drop j (rows d t)))) (add-one k)
+    ∙ ap (λ (j : ℕ). is_none (find_from (caches g) 0 (drop j (rows d t)))) (add-one k)
     ∙ rw u refl
+
+-- row k before the rows behind it
+module _ (heads t : List ℕ) (d k : ℕ) (h : k < d) (i : Linked (k + 1) heads (rows d t)) where
+  row-below : k < length (rows d t)
+  row-below = rw rows-length h
+
+  pub free-row : is_used (row_at t k) ≡ false → Linked k heads (rows d t)
+  free-row e = linked-free heads (rows d t) k row-below (ap is_used (rows_at d t k h) ∙ e) i
+
+  pub used-row : (x : ℕ) → d ≤ 256 → length heads ≡ 4353 → is_used (row_at t k) ≡ true → x ≡ bucket (choice heads) (read_block (row_at t k)).fingerprint
+      → Linked k (set (set heads (4096 + k) (get_or heads x 0)) x (256 - k)) (rows d t)
+  used-row x few size u e =
+      linked-more heads k x (omega arith) size (rw e (bucket-below (choice heads) (read_block (row_at t k)).fingerprint)) (rows d t) row-below
+      (rw rows-length few) (ap is_used (rows_at d t k h) ∙ u, ap (λ r. bucket (choice heads) (read_block r).fingerprint) (rows_at d t k h) ∙ sym e) i

@@ -5,10 +5,10 @@ ghost use Rattle.tables.specs.Find.{all, every, find_from, is_used};
 ghost use Rattle.tables.specs.Unsound.{elem};
 ghost use Rattle.tables.specs.Sound.{mark};
 ghost use Rattle.table_laws.specs.Knowns.{Tells};
-ghost use Rattle.tables.specs.Index.{BlockTable, Indexed, unique, place_in, cached_in, dirty_ok, cached_ok, unknown_in};
+ghost use Rattle.tables.specs.Index.{BlockTable, Indexed, unique, place_in, cached_in, dirty_ok, unknown_in};
 
 use crate::index;
-use tables::{Found, row};
+use tables::row;
 
 // The index of the block row of held row `k` of `a`, or 256.
 pub fn place_of(a: &[u8], k: usize, t: &[u8], d: usize, heads: &[u16]) -> usize
@@ -16,10 +16,7 @@ pub fn place_of(a: &[u8], k: usize, t: &[u8], d: usize, heads: &[u16]) -> usize
     requires indexed { Indexed d t.now heads.now }
     ensures { result ≡ place_in (rows d t.now) (row_at a.now k) }
 {
-    match index::find(t, d, heads, row::address_fingerprint(a, k)) {
-        Found::At(i) => i,
-        Found::Nothing => 256,
-    }
+    index::find(t, d, heads, row::address_fingerprint(a, k)).unwrap_or(256)
 }
 
 // Whether the fingerprint of held row `k` of `a` is cached.
@@ -28,10 +25,7 @@ pub(crate) fn cached(a: &[u8], k: usize, t: &[u8], d: usize, heads: &[u16]) -> b
     requires indexed { Indexed d t.now heads.now }
     ensures { result ≡ cached_in (rows d t.now) (row_at a.now k) }
 {
-    match index::find(t, d, heads, row::address_fingerprint(a, k)) {
-        Found::At(_) => true,
-        Found::Nothing => false,
-    }
+    index::find(t, d, heads, row::address_fingerprint(a, k)).is_some()
 }
 
 // Whether row `k` of `a` is clean, or has a cached fingerprint.
@@ -40,45 +34,7 @@ pub(crate) fn dirty_ok(a: &[u8], k: usize, t: &[u8], d: usize, heads: &[u16]) ->
     requires indexed { Indexed d t.now heads.now }
     ensures { result ≡ dirty_ok (rows d t.now) (row_at a.now k) }
 {
-    if !row::is_dirty(a, k) {
-        return true;
-    }
-    cached(a, k, t, d, heads)
-}
-
-// The one or the other: whether row `k` of `a` has a cached fingerprint, which of a clean row is asked only where `each` row is.
-pub(crate) fn cached_ok(each: bool, a: &[u8], k: usize, t: &[u8], d: usize, heads: &[u16]) -> bool
-    requires has_row { HasRow a.now k × BlockTable d t.now }
-    requires indexed { Indexed d t.now heads.now }
-    ensures { result ≡ cached_ok each (rows d t.now) (row_at a.now k) }
-{
-    if each {
-        return cached(a, k, t, d, heads);
-    }
-    dirty_ok(a, k, t, d, heads)
-}
-
-// Whether that holds of every row of the first `n`.
-pub(crate) fn every_cached(
-    each: bool,
-    a: &[u8],
-    n: usize,
-    t: &[u8],
-    d: usize,
-    heads: &[u16],
-) -> bool
-    requires has_rows { HasRows a.now n × BlockTable d t.now }
-    requires indexed { Indexed d t.now heads.now }
-    ensures { result ≡ all (cached_ok each (rows d t.now)) (rows n a.now) }
-{
-    let mut k = 0;
-    while k < n {
-        if !cached_ok(each, a, k, t, d, heads) {
-            return false;
-        }
-        k += 1;
-    }
-    true
+    !row::is_dirty(a, k) || cached(a, k, t, d, heads)
 }
 
 // Whether every dirty row of the first `n` has a cached fingerprint: the clean ones are not searched for.
@@ -87,7 +43,7 @@ pub fn dirty_cached(a: &[u8], n: usize, t: &[u8], d: usize, heads: &[u16]) -> bo
     requires indexed { Indexed d t.now heads.now }
     ensures { result ≡ all (dirty_ok (rows d t.now)) (rows n a.now) }
 {
-    every_cached(false, a, n, t, d, heads)
+    (0..n).all(|k| dirty_ok(a, k, t, d, heads))
 }
 
 // Whether every row of the first `n` has a cached fingerprint.
@@ -96,7 +52,7 @@ pub fn all_cached(a: &[u8], n: usize, t: &[u8], d: usize, heads: &[u16]) -> bool
     requires indexed { Indexed d t.now heads.now }
     ensures { result ≡ all (cached_in (rows d t.now)) (rows n a.now) }
 {
-    every_cached(true, a, n, t, d, heads)
+    (0..n).all(|k| cached(a, k, t, d, heads))
 }
 
 // Sets the byte of `known`, 0 everywhere at first, at the place of the block row of each of the first `n` rows.
@@ -108,9 +64,7 @@ pub(crate) fn mark_known(a: &[u8], n: usize, t: &[u8], d: usize, heads: &[u16], 
     ensures by_index_2 { (x : ℕ) → x < length known.new
         → get_or known.new x 0 ≡ mark (elem x (map (place_in (rows d t.now)) (rows n a.now))) }
 {
-    let mut k = n;
-    while 0 < k {
-        k -= 1;
+    for k in (0..n).rev() {
         let x = place_of(a, k, t, d, heads);
         known[x] = 1;
     }
@@ -121,29 +75,19 @@ pub(crate) fn unmarked(t: &[u8], k: usize, b: u8) -> bool
     requires { HasRow t.now k }
     ensures { result ≡ is_used (row_at t.now k) && eqb b 0 }
 {
-    if row::is_used(t, k) {
-        return b == 0;
-    }
-    false
+    row::is_used(t, k) && b == 0
 }
 
 // The index of the first used row of `d` whose byte of `known` is 0: where the bytes tell it, that whose fingerprint none of some address rows has.
-pub fn first_unknown(t: &[u8], d: usize, known: &[u8]) -> Found
+pub fn first_unknown(t: &[u8], d: usize, known: &[u8]) -> Option<usize>
     requires { HasRows t.now d × (d ≤ length known.now) }
     ensures { (hs : List (List ℕ)) → Tells d t.now known.now hs → result ≡ find_from (unknown_in hs) 0 (rows d t.now) }
 {
-    let mut k = 0;
-    while k < d {
-        if unmarked(t, k, known[k]) {
-            return Found::At(k);
-        }
-        k += 1;
-    }
-    Found::Nothing
+    (0..d).find(|k| unmarked(t, *k, known[*k]))
 }
 
 // The index of the oldest used row of `d` whose fingerprint no address row of the first `n` has.
-pub fn oldest_unknown(a: &[u8], n: usize, t: &[u8], d: usize, heads: &[u16]) -> Found
+pub fn oldest_unknown(a: &[u8], n: usize, t: &[u8], d: usize, heads: &[u16]) -> Option<usize>
     requires has_rows { HasRows a.now n × BlockTable d t.now }
     requires t_value { every unique (rows d t.now) ≡ true }
     requires indexed { Indexed d t.now heads.now }

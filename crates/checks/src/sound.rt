@@ -1,12 +1,14 @@
 // Whether a table's bytes are those of a sound table.
-ghost use Rattle.std.specs.Prelude.{◌≡◌, true, false, not, cond, ◌&&◌, ◌||◌, map, ℕ, suc, ◌<◌, ◌≤◌, length, drop};
+ghost use Rattle.std.specs.Prelude.{◌≡◌, true, false, not, cond, ◌&&◌, ◌||◌, map, ℕ, suc, ◌<◌, ◌≤◌, length, drop, OnOk};
 ghost use Rattle.tables.specs.Rows.{rows, row_at, table_bytes, HasRow, HasRows};
 ghost use Rattle.tables.specs.Find.{all, every, is_used};
 ghost use Rattle.tables.specs.Unsound.{addresses_unsound, blocks_unsound, dirty_uncached};
 ghost use Rattle.tables.specs.Sound.{address_ok, distinct, row_address, zero_row, sound_addresses, addresses_fit, blocks_fit};
+ghost use Rattle.refusal.specs.Numbers.{number_of};
 ghost use Rattle.tables.specs.Index.{heads_length, Blank, Linked, Indexed, row_ok};
 
 use crate::{index, known};
+use refusal::Refusal;
 use tables::{distinct, row};
 
 // Whether row `k` is a held address row's, with an address below `p`.
@@ -14,11 +16,7 @@ pub(crate) fn address_ok(t: &[u8], k: usize, p: u32) -> bool
     requires { HasRow t.now k }
     ensures { result ≡ address_ok p (row_at t.now k) }
 {
-    let a = row::address_at(t, k);
-    if a.0 < p {
-        return row::seated_tail_ok(t, k);
-    }
-    false
+    row::address_at(t, k).0 < p && row::seated_tail_ok(t, k)
 }
 
 // Whether each of the first `n` rows is one of a held address.
@@ -26,14 +24,7 @@ pub(crate) fn addresses_ok(t: &[u8], n: usize, p: u32) -> bool
     requires { table_bytes n ≤ length t.now }
     ensures { result ≡ all (address_ok p) (rows n t.now) }
 {
-    let mut k = 0;
-    while k < n {
-        if !address_ok(t, k, p) {
-            return false;
-        }
-        k += 1;
-    }
-    true
+    (0..n).all(|k| address_ok(t, k, p))
 }
 
 // Whether the rows from row `n` on, of `m`, are zero.
@@ -41,14 +32,7 @@ pub(crate) fn rows_zero(t: &[u8], n: usize, m: usize) -> bool
     requires { HasRows t.now m }
     ensures { result ≡ all zero_row (drop n (rows m t.now)) }
 {
-    let mut k = n;
-    while k < m {
-        if !row::is_zero(t, k) {
-            return false;
-        }
-        k += 1;
-    }
-    true
+    (n..m).all(|k| row::is_zero(t, k))
 }
 
 // Whether the addresses of the first `n` rows, each below `p`, are all different.
@@ -64,31 +48,12 @@ pub(crate) fn distinct_below(t: &[u8], n: usize, p: u32) -> bool
 }
 
 // Whether the address table is sound: `n` rows of `m` held, over `p` disk blocks.
+#[tactic(auto, unfolding(tables::specs::Sound::sound_addresses))]
 pub(crate) fn addresses_sound(t: &[u8], m: usize, n: usize, p: u32) -> bool
     requires { (length t.now ≡ table_bytes m) × (p ≤ 65536) }
     ensures { result ≡ sound_addresses p m n t.now }
 {
-    if m < n {
-        return false;
-    }
-    if !addresses_ok(t, n, p) {
-        return false;
-    }
-    if !distinct_below(t, n, p) {
-        return false;
-    }
-    rows_zero(t, n, m)
-}
-
-// Whether row `k` and the rows behind it, of which `used` tells, are all used.
-pub(crate) fn used_from(t: &[u8], k: usize, used: bool) -> bool
-    requires { HasRow t.now k }
-    ensures { result ≡ is_used (row_at t.now k) && used }
-{
-    if row::is_used(t, k) {
-        return used;
-    }
-    false
+    n <= m && addresses_ok(t, n, p) && distinct_below(t, n, p) && rows_zero(t, n, m)
 }
 
 // Whether row `k` of `d` is a sound block row by itself; `used` tells whether the rows behind it are all used.
@@ -97,18 +62,15 @@ pub(crate) fn row_ok(t: &[u8], d: usize, k: usize, used: bool) -> bool
     requires used_value { used ≡ all is_used (drop (suc k) (rows d t.now)) }
     ensures { result ≡ row_ok d (row_at t.now k) (drop (suc k) (rows d t.now)) }
 {
-    let slot = row::slot_at(t, k);
-    let x = slot.0;
-    if d <= x as usize {
+    let x = row::slot_at(t, k).0 as usize;
+    if d <= x || !row::tail_ok(t, k) {
         return false;
     }
-    if !row::tail_ok(t, k) {
-        return false;
+    if row::is_used(t, k) {
+        used
+    } else {
+        row::no_fingerprint(t, k)
     }
-    if !row::is_used(t, k) {
-        return row::no_fingerprint(t, k);
-    }
-    used
 }
 
 // Whether each of the `d` rows is a sound block row by itself.
@@ -117,13 +79,12 @@ pub(crate) fn rows_ok(t: &[u8], d: usize) -> bool
     ensures { result ≡ every (row_ok d) (rows d t.now) }
 {
     let mut used = true;
-    let mut k = d;
-    while 0 < k {
-        k -= 1;
+    for k in (0..d).rev() {
         if !row_ok(t, d, k, used) {
             return false;
         }
-        used = used_from(t, k, used);
+        // Behind a used row that passes, all rows are used.
+        used = row::is_used(t, k);
     }
     true
 }
@@ -136,48 +97,29 @@ pub(crate) fn blocks_sound(t: &[u8], d: usize, heads: &mut [u16]) -> bool
     ensures linked { result ≡ true → Linked 0 heads.new (rows d t.now) }
     ensures heads_len { length heads.new ≡ heads_length }
 {
-    if !rows_ok(t, d) {
-        return false;
-    }
-    if !distinct::slots_distinct(t, d) {
-        return false;
-    }
-    index::build(t, d, heads)
+    rows_ok(t, d) && distinct::slots_distinct(t, d) && index::build(t, d, heads)
 }
 
 // Refusal 6, of any bytes and numbers: whether the address table of `m` rows, `n` of them held, is unsound over `p` disk blocks.
+#[tactic(auto, unfolding(tables::specs::Sound::addresses_fit))]
 pub fn addresses_unsound(t: &[u8], m: usize, n: usize, p: usize) -> bool
     ensures { result ≡ not (addresses_fit p m t.now) || addresses_unsound p m n t.now }
 {
-    if 65536 < p {
-        return true;
-    }
-    if 1024 < m {
-        return true;
-    }
-    if t.len() != m * row::BYTES {
-        return true;
-    }
-    !addresses_sound(t, m, n, p as u32)
+    65536 < p || 1024 < m || t.len() != m * row::BYTES || !addresses_sound(t, m, n, p as u32)
 }
 
 // Refusal 7, of any bytes and numbers: whether the block table of `d` rows is unsound. If not, `heads`, 0 everywhere at first, is its index.
+#[tactic(auto, unfolding(tables::specs::Sound::blocks_fit))]
 pub fn blocks_unsound(t: &[u8], d: usize, heads: &mut [u16]) -> bool
     requires { Blank heads.old }
     ensures value { result ≡ not (blocks_fit d t.now) || blocks_unsound d t.now }
     ensures linked { result ≡ false → Linked 0 heads.new (rows d t.now) }
     ensures heads_len { length heads.new ≡ heads_length }
 {
-    if 256 < d {
-        return true;
-    }
-    if t.len() != d * row::BYTES {
-        return true;
-    }
-    !blocks_sound(t, d, heads)
+    256 < d || t.len() != d * row::BYTES || !blocks_sound(t, d, heads)
 }
 
-// The first of 6, 7 and 8 that applies, of any bytes and numbers, 0 where none does: `heads`, 0 everywhere at first, is then the block table's index.
+// The first of 6, 7 and 8 that applies, of any bytes and numbers. Where none does `heads`, 0 everywhere at first, is the block table's index.
 pub fn tables_refused(
     addresses: &[u8],
     m: usize,
@@ -186,22 +128,22 @@ pub fn tables_refused(
     blocks: &[u8],
     d: usize,
     heads: &mut [u16],
-) -> u32
+) -> Result<(), Refusal>
     requires { Blank heads.old }
-    ensures value { result ≡ cond (not (addresses_fit p m addresses.now) || addresses_unsound p m n addresses.now) 6
+    ensures value { number_of result ≡ cond (not (addresses_fit p m addresses.now) || addresses_unsound p m n addresses.now) 6
         (cond (not (blocks_fit d blocks.now) || blocks_unsound d blocks.now) 7
         (cond (dirty_uncached n d addresses.now blocks.now) 8 0)) }
-    ensures indexed { result ≡ 0 → Indexed d blocks.now heads.new }
+    ensures indexed { OnOk result (Indexed d blocks.now heads.new) }
     ensures heads_len { length heads.new ≡ heads_length }
 {
     if addresses_unsound(addresses, m, n, p) {
-        return 6;
+        return Err(Refusal::BadAddresses);
     }
     if blocks_unsound(blocks, d, heads) {
-        return 7;
+        return Err(Refusal::BadBlocks);
     }
     if known::dirty_cached(addresses, n, blocks, d, heads) {
-        return 0;
+        return Ok(());
     }
-    8
+    Err(Refusal::DirtyUncached)
 }

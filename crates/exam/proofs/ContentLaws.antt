@@ -1,12 +1,13 @@
 -- Addresses told by the first with their content.
 use mathlib.Core.Path.{◌≡◌, refl, sym, ap, ap₂, ◌∙◌}
-use mathlib.Core.Bool.{Bool, true, false, cond}
+use mathlib.Core.Bool.{Bool, true, false}
 use mathlib.Core.List.{List, ◌++◌}
 use mathlib.Core.Logic.{◌⊎◌, inl, inr}
 use Prim.Native.Nat.{ℕ, zero, suc, ◌+◌, ◌*◌, ◌-◌, ◌≤◌, ◌<◌}
 use native.Mathlib.Omega.{arith}
-use native.Mathlib.Numerals.{add-one}
 use lib.Dec.{eqb, ltb}
+use Rattle.std.specs.Prelude.{Option, None, Some, MatchOption}
+use Rattle.std.specs.Option.{unwrap_or}
 use lib.ListN.{length, take, drop, get_or, length-drop}
 use lib.Seq.{take-append-le, drop-drop}
 use borrow.Author.Tests.{eqb-true, eqb-false, eq-eqb, ne_eqb, lt-ltb, ltb-true, ltb-false}
@@ -21,21 +22,27 @@ use Rattle.exam.specs.declared.search.Question.{Question}
 use Rattle.exam.specs.Small.{pick, print_at, first_from, first_with, contents_of}
 use Rattle.exam.proofs.Simulated.{Contents}
 
--- the loop's steps
-module _ (t : ℕ → Bool) (b a : ℕ) where
-  pub first-here : b < a → t b ≡ true → first_from t b (a - b) ≡ b
-  unfolding first_from
-  first-here l e = let s : a - b ≡ suc (a - b - 1) = omega arith in rw s (rw e refl)
+-- the first that passes, by its place: x passes, or is the end
+first-at : (t : ℕ → Bool) (b left x : ℕ) → b ≤ x → x ≤ b + left → (x < b + left → t x ≡ true) → ((k : ℕ) → b ≤ k → k < x → t k ≡ false)
+    → first_from t b left ≡ x
+unfolding first_from
+first-at t b zero x l m y n = omega arith
+first-at t b (suc left) x l m y n =
+    by-test (t b)
+    (λ e. by-test (eqb b x)
+    (λ q. rw e (eqb-true b x q))
+    (λ q. let ne = eqb-false b x q in clash e (n b (omega arith) (omega arith))))
+    (λ e. by-test (eqb b x)
+    (λ q. let is = eqb-true b x q in clash (ap t is ∙ y (omega arith)) e)
+    (λ q. let ne = eqb-false b x q in
+    rw e (first-at t (suc b) left x (omega arith) (omega arith) (λ h. y (omega arith)) (λ k h i. n k (omega arith) i))))
 
-  pub first_on : b < a → t b ≡ false → first_from t b (a - b) ≡ first_from t (b + 1) (a - (b + 1))
-  unfolding first_from
-  first_on l e =
-      let s : a - b ≡ suc (a - (b + 1)) = omega arith in
-      ap (first_from t b) s ∙ ap (λ z. cond z b (first_from t (suc b) (a - (b + 1)))) e ∙ ap (λ j. first_from t j (a - (b + 1))) (sym (add-one b))
-
-  pub first-end : a ≤ b → first_from t b (a - b) ≡ b
-  unfolding first_from
-  first-end l = let s : a - b ≡ 0 = omega arith in rw s refl
+pub first-found : (t : ℕ → Bool) (a : ℕ) (r : Option ℕ)
+    → MatchOption r ((k : ℕ) → 0 ≤ k → k < a → t k ≡ false)
+    (λ i. (0 ≤ i) × (i < a) × (t i ≡ true) × ((k : ℕ) → 0 ≤ k → k < i → t k ≡ false))
+    → unwrap_or r a ≡ first_from t 0 a
+first-found t a None h = sym (first-at t 0 a a (omega arith) (omega arith) (λ l. absurd (omega arith)) h)
+first-found t a (Some i) h = sym (first-at t 0 a i (omega arith) (omega (arith, h.1)) (λ l. h.2) h.3)
 
 -- what is found
 first_passes : (t : ℕ → Bool) (b left : ℕ) → (t (first_from t b left) ≡ true) ⊎ (first_from t b left ≡ b + left)
@@ -106,7 +113,7 @@ module _ (label disk : List ℕ) where
   print = print_at label disk
 
   pick-contents : (P a : ℕ) → P ≤ 4 → a < P → pick (contents_of label disk P) a ≡ first_with same print a
-  unfolding pick contents_of
+  unfolding contents_of pick
   pick-contents P zero l h = rw (lt-ltb 0 P (omega arith)) refl
   pick-contents P (suc zero) l h = rw (lt-ltb 1 P (omega arith)) refl
   pick-contents P (suc (suc zero)) l h = rw (lt-ltb 2 P (omega arith)) refl

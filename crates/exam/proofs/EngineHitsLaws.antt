@@ -1,27 +1,16 @@
 -- The hits of a list of reads in the printed D-LRU are the engine's: the counts are over the engine's own answers.
-use Rattle.std.specs.Prelude.{◌≡◌, Bool, ℕ, ◌+◌, ◌*◌, ◌^◌, ◌≤◌, ◌<◌, eqb, length}
-use Rattle.std.proofs.Math.Path.{refl, ap, subst}
-use Rattle.std.proofs.Common.{sym, ap₂, ◌∙◌, arith, le_trans, le-ltb}
-use Rattle.std.proofs.Math.Bool.{true, false, cond}
-use mathlib.Core.List.{List, [], ◌∷◌, ◌++◌, map}
-use Rattle.std.proofs.Math.Option.{Option, none, some}
+use Rattle.std.specs.Prelude.{◌≡◌, ℕ, ◌<◌, eqb, length}
+use Rattle.std.proofs.Math.Path.{ap}
+use Rattle.std.proofs.Common.{sym, ◌∙◌, arith}
+use mathlib.Core.List.{List, [], map}
 use Rattle.paper.specs.KeyedLaws.{All, all_map}
-use Rattle.paper.specs.Cache.{Numbers, Word, hit, miss, same_block, new_block, from_cache, from_disk, done, Counters}
+use Rattle.paper.specs.Cache.{Numbers}
 use Rattle.paper.specs.Engine.{labelled}
-use Rattle.paper.specs.Lent.{Lent, Ask, opening, calling, unfit, limit_outside, FewDirty, box_in, over, refusal, call, opened, fresh}
-use Rattle.paper.specs.LentLaws.{Passes}
-use Rattle.paper.proofs.LentLaws.{sound-passes}
-use Rattle.paper.specs.BatchLent.{one, served_in_turn}
-use Rattle.paper.proofs.BatchLentLaws.{only-9-between}
-use Rattle.paper.specs.Machines.{Printed, printed_next, printed_hit}
-use Rattle.paper.specs.Demand3.{Throughout, refusals}
-use Rattle.paper.specs.Demand3Laws.{Written}
-use Rattle.paper.proofs.Demand3Laws.{demand-3, opened-written, next-written}
+use Rattle.paper.specs.Lent.{Lent, opening, refusal, opened, fresh}
+use Rattle.paper.specs.Demand3.{Throughout}
+use Rattle.paper.proofs.Demand3Laws.{demand-3, opened-written}
 use Rattle.paper.proofs.RefusalLaws.{exactly-opening, opened-is}
-use Rattle.paper.proofs.CallLaws.{fits, outcome-few, served-box, adds-few}
-use Rattle.counting.specs.Told.{tell}
-use Rattle.counting.specs.TellHit.{words, NoneRefused, content_in}
-use Rattle.counting.proofs.TellHitLaws.{Follows, printed-told, follows_next, follows-none, tell-hit}
+use Rattle.counting.specs.TellHit.{NoneRefused, content_in}
 use Rattle.exam.specs.Scores.{lists, how_many, nine, start, hits, with_hits, scores}
 use Rattle.exam.specs.ScoreLaws.{each-list}
 use Rattle.exam.specs.Contract.{question_refusal, Counted, question}

@@ -1,8 +1,8 @@
 -- The small machine does what the printed D-LRU does, so that the search gives the counts of the printed D-LRU.
 use mathlib.Core.Path.{◌≡◌, refl, sym, ap, ap₂, ◌∙◌}
-use mathlib.Core.Bool.{Bool, true, false, ◌&&◌, ◌||◌}
+use mathlib.Core.Bool.{Bool, ◌&&◌, ◌||◌}
 use mathlib.Core.List.{List, [], ◌∷◌, ◌++◌, map, map-append}
-use Prim.Native.Nat.{ℕ, zero, suc, ◌+◌, ◌≤◌, ◌<◌}
+use Prim.Native.Nat.{ℕ, zero, suc, ◌≤◌, ◌<◌}
 use native.Mathlib.Omega.{arith}
 use lib.Dec.{eqb}
 use lib.ListN.{length, length-map, drop}
@@ -11,10 +11,9 @@ use Rattle.paper.specs.KeyedLaws.{All, Distinct, by-test, eqb→≡, eqb-self}
 use Rattle.paper.specs.Machines.{put, Printed, printed_next, printed_hit}
 use Rattle.exam.specs.declared.search.State.{State}
 use Rattle.exam.specs.declared.search.Question.{Question}
-use Rattle.exam.specs.declared.search.Nine.{Nine}
 use Rattle.exam.specs.Scores.{start, plus, moved, summed, search, scores}
 use Rattle.exam.specs.ScoreLaws.{search-scores}
-use Rattle.exam.specs.Small.{empty, pick, hit_small, next_small, listed, up_nine, plus_nine, summed_nine, searched}
+use Rattle.exam.specs.Small.{empty, pick, hit_small, next_small, searched}
 use Rattle.exam.proofs.SmallLaws.{Holds, of0, has-four, put_four_lem, put_all, put-distinct, put-length}
 
 -- A list of keys told by others: f gives the key, and equal keys are told alike
@@ -81,7 +80,7 @@ module _ {F : Type 0} (same : F → F → Bool) (content : ℕ → F) (q : Quest
       let alike = ap (λ z. same (content a) (content z)) x.1 ∙ ap (same (content a)) (cq.tells w.0.0 x.0) in
       (alike ∙ cq.apart a w.0.0 l x.0 ∙ ap (eqb (pick q.contents a)) (sym x.1), all_tell a l cs w.1)
 
-  hit_same : (s : State) (p : Printed F) (a : ℕ) → a < q.blocks → Same s p → hit_small q s a ≡ printed_hit same content p a
+  hit_same : (s : State) (p : Printed F) (a : ℕ) → a < q.blocks → Same s p → hit_small s a (pick q.contents a) ≡ printed_hit same content p a
   unfolding hit_small printed_hit
   hit_same s p a l v =
       let c = pick q.contents a in
@@ -90,7 +89,8 @@ module _ {F : Type 0} (same : F → F → Bool) (content : ℕ → F) (q : Quest
       (has-four c (cq.small a l) v.cached_is ∙ sym (has-told same content c (content a) v.told (all_tell a l v.told v.told_some))
       ∙ ap (has same (λ x. x) (content a)) (sym v.told_is))
 
-  next-same : (s : State) (p : Printed F) (a : ℕ) → a < q.blocks → Same s p → Same (next_small q s a) (printed_next same q.rows q.slots content p a)
+  next-same : (s : State) (p : Printed F) (a : ℕ) → a < q.blocks → Same s p
+      → Same (next_small q s a (pick q.contents a)) (printed_next same q.rows q.slots content p a)
   unfolding next_small printed_next
   next-same s p a l v =
       let c = pick q.contents a in
@@ -113,34 +113,22 @@ module _ {F : Type 0} (same : F → F → Bool) (content : ℕ → F) (q : Quest
         cached_most = put-length eqb eqb→≡ eqb-self d c v.told d1 v.cached_most;
       }
 
-  -- counts as lists
-  listed-up : (t : Nine) (b : Bool) → listed (up_nine t b) ≡ moved b (listed t)
-  unfolding up_nine
-  listed-up t true = refl
-  listed-up t false = refl
+  summed-same : (f g : ℕ → List ℕ) (n : ℕ) → ((a : ℕ) → a < n → f a ≡ g a) → summed f n ≡ summed g n
+  summed-same f g zero e = refl
+  summed-same f g (suc n) e = ap₂ plus (summed-same f g n (λ a l. e a (omega arith))) (e n (omega arith))
 
-  listed-plus : (s t : Nine) → listed (plus_nine s t) ≡ plus (listed s) (listed t)
-  unfolding plus_nine
-  listed-plus s t = refl
-
-  listed-summed : (f : ℕ → Nine) (g : ℕ → List ℕ) (n : ℕ) → ((a : ℕ) → a < n → listed (f a) ≡ g a) → listed (summed_nine f n) ≡ summed g n
-  unfolding summed_nine
-  listed-summed f g zero e = refl
-  listed-summed f g (suc n) e = listed-plus (summed_nine f n) (f n) ∙ ap₂ plus (listed-summed f g n (λ a l. e a (omega arith))) (e n (omega arith))
-
-  search-same : (k : ℕ) (s : State) (p : Printed F) → Same s p
-      → listed (searched q s k) ≡ search same q.rows q.slots content q.blocks p k
+  search-same : (k : ℕ) (s : State) (p : Printed F) → Same s p → searched q s k ≡ search same q.rows q.slots content q.blocks p k
   unfolding searched search
   search-same zero s p v = refl
   search-same (suc k) s p v =
-      let next : ℕ → Printed F = printed_next same q.rows q.slots content p in
-      listed-summed (λ a. up_nine (searched q (next_small q s a) k) (hit_small q s a))
-      (λ a. moved (printed_hit same content p a) (search same q.rows q.slots content q.blocks (next a) k)) q.blocks
-      (λ a l. listed-up (searched q (next_small q s a) k) (hit_small q s a)
-      ∙ ap₂ moved (hit_same s p a l v) (search-same k (next_small q s a) (next a) (next-same s p a l v)))
+      let next : ℕ → State = λ a. next_small q s a (pick q.contents a) in
+      let after : ℕ → Printed F = printed_next same q.rows q.slots content p in
+      summed-same (λ a. moved (hit_small s a (pick q.contents a)) (searched q (next a) k))
+      (λ a. moved (printed_hit same content p a) (search same q.rows q.slots content q.blocks (after a) k)) q.blocks
+      (λ a l. ap₂ moved (hit_same s p a l v) (search-same k (next a) (after a) (next-same s p a l v)))
 
   -- the search from fresh gives the counts of the printed D-LRU
-  pub searched-scores : (k : ℕ) → listed (searched q empty k) ≡ scores same q.rows q.slots content q.blocks k
+  pub searched-scores : (k : ℕ) → searched q empty k ≡ scores same q.rows q.slots content q.blocks k
   searched-scores k =
       search-same k empty start
       (record {

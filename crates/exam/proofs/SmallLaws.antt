@@ -1,23 +1,22 @@
 -- The small machine is the printed D-LRU, where there are at most four addresses.
-use mathlib.Core.Path.{◌≡◌, refl, sym, ap, ◌∙◌, subst}
-use mathlib.Core.Bool.{Bool, true, false, ◌||◌, or-false}
+use mathlib.Core.Path.{◌≡◌, refl, sym, ap, ap₂, ◌∙◌, subst}
+use mathlib.Core.Bool.{Bool, true, false, ◌||◌}
 use mathlib.Core.List.{List, [], ◌∷◌}
 use Prim.Native.Nat.{ℕ, zero, suc, ◌≤◌, ◌<◌}
 use native.Mathlib.Omega.{arith}
 use lib.Dec.{eqb, ltb}
 use lib.ListN.{length, length-append, drop}
-use borrow.Author.Tests.{eqb-true, eqb-false, ne_eqb, lt-ltb, le-ltb}
+use borrow.Author.Tests.{eqb-true, eqb-false, eq-eqb, ne_eqb, lt-ltb, le-ltb}
 use Rattle.paper.specs.Keyed.{has, without}
 use Rattle.paper.specs.KeyedLaws.{All, Distinct, by-test, eqb→≡, eqb-self, or-false-left, or-false-right}
 use Rattle.paper.specs.KeyedLaws.{all_append, all_without, distinct_without, distinct_snoc, has-without-self, without-absent}
 use Rattle.paper.proofs.SoundLaws.{length-without-lt}
 use Rattle.paper.specs.Machines.{put}
 use Rattle.counting.proofs.Recency.{one_out}
-use Rattle.exam.specs.declared.search.Four.{Four}
 use Rattle.exam.specs.Small.{four, kept, has_four, put_four}
 
--- the list that a Four stands for
-pub data Holds : Four → List ℕ → Type 0 where
+-- the list that four numbers stand for
+pub data Holds : List ℕ → List ℕ → Type 0 where
   of0 : Holds (four 4 4 4 4) []
   of1 : (z : ℕ) → Holds (four 4 4 4 z) (z ∷ [])
   of2 : (y z : ℕ) → Holds (four 4 4 y z) (y ∷ z ∷ [])
@@ -52,15 +51,21 @@ few (suc n) l d s =
     rest n [] s = tt
     rest n (x ∷ xs) s = by-test (eqb n x) (λ e. rw e (rest n xs s.1)) (λ e. rw e ((let ne = eqb-false n x e in omega (arith, s.0)), rest n xs s.1))
 
-pub has-four : {l : Four} {s : List ℕ} (k : ℕ) → k < 4 → Holds l s → has_four l k ≡ In k s
-unfolding has_four
-has-four k h of0 = rw (below-four k h) refl
-has-four k h (of1 z) = rw (below-four k h) (sym (or-false (eqb k z)))
-has-four k h (of2 y z) = rw (below-four k h) (ap (λ b. eqb k y || b) (sym (or-false (eqb k z))))
-has-four k h (of3 x y z) = rw (below-four k h) (ap (λ b. eqb k x || (eqb k y || b)) (sym (or-false (eqb k z))))
-has-four k h (of4 w x y z) = ap (λ b. eqb k w || (eqb k x || (eqb k y || b))) (sym (or-false (eqb k z)))
+tested : (k x : ℕ) → eqb x k ≡ eqb k x
+tested k x = by-test (eqb k x) (λ e. eq-eqb x k (sym (eqb-true k x e)) ∙ sym e) (λ e. ne_eqb x k (λ q. eqb-false k x e (sym q)) ∙ sym e)
 
-pub put_four_lem : {l : Four} {s : List ℕ} (n k : ℕ) → k < 4 → 1 ≤ n → Holds l s → All (λ x. x < 4) s → Distinct eqb (λ x. x) s → length s ≤ n
+any-in : (k : ℕ) (l : List ℕ) → has_four l k ≡ In k l
+any-in k [] = refl
+any-in k (x ∷ l) = ap₂ ◌||◌ (tested k x) (any-in k l)
+
+pub has-four : {l s : List ℕ} (k : ℕ) → k < 4 → Holds l s → has_four l k ≡ In k s
+has-four k h of0 = any-in k (four 4 4 4 4) ∙ rw (below-four k h) refl
+has-four k h (of1 z) = any-in k (four 4 4 4 z) ∙ rw (below-four k h) refl
+has-four k h (of2 y z) = any-in k (four 4 4 y z) ∙ rw (below-four k h) refl
+has-four k h (of3 x y z) = any-in k (four 4 x y z) ∙ rw (below-four k h) refl
+has-four k h (of4 w x y z) = any-in k (four w x y z)
+
+pub put_four_lem : {l s : List ℕ} (n k : ℕ) → k < 4 → 1 ≤ n → Holds l s → All (λ x. x < 4) s → Distinct eqb (λ x. x) s → length s ≤ n
     → Holds (put_four l n k) (put eqb n k s)
 unfolding put_four put
 put_four_lem n k h n1 of0 a d l = rw (below-four k h, ne_eqb 0 n (λ e. omega arith), kept-none (ltb 3 n), kept-none (ltb 2 n), kept-none (ltb 1 n)) (of1 k)

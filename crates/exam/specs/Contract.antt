@@ -1,11 +1,12 @@
 -- U12: what is asked of an exam question, its refusals and its counts.
 -- Assumes nothing.
-use Rattle.std.specs.Prelude.{Bool, not, ◌||◌, cond, List, [], ◌∷◌, ℕ, ◌*◌, eqb, ltb}
+use Rattle.std.specs.Prelude.{Bool, not, ◌||◌, cond, List, [], ◌∷◌, ℕ, ◌*◌, eqb, ltb, Result, Ok, Err}
 use Rattle.paper.specs.Cache.{Numbers}
 use Rattle.paper.specs.Engine.{labelled}
 use Rattle.paper.specs.Lent.{unfit, limit_outside, other_length, split, Test, test, first}
 use Rattle.paper.specs.Machines.{content_of}
-use Rattle.exam.specs.declared.Tally.{Tally}
+use Rattle.refusal.specs.declared.Refusal.{Refusal}
+use Rattle.refusal.specs.Numbers.{code}
 use Rattle.exam.specs.Scores.{nine_zeros, scores}
 
 -- the bytes that are lent for the nine counts, 8 each
@@ -43,6 +44,7 @@ question N disk k room =
     let x = question_refusal N disk k room in
     record { number = x; counts = cond (eqb x 0) (counts_of N disk k) nine_zeros }
 
--- the code's answer
-abbrev pub told : Tally → Counted
-told r = record { number = r.number; counts = r.counts }
+-- the code's answer: the counts, or a refusal, which has its number and nine zeros
+abbrev pub told : Result (List ℕ) Refusal → Counted
+told (Ok counts) = record { number = 0; counts = counts }
+told (Err r) = record { number = code r; counts = nine_zeros }

@@ -1,22 +1,15 @@
 -- Of a question: each number is given exactly when its test is the first to hold; the counts' total, those beyond k, those of a refusal.
-use Rattle.std.specs.Prelude.{◌≡◌, true, ◌||◌, ◌↔◌, ◌≢◌, ℕ, zero, suc, ◌*◌, ◌^◌, ◌≤◌, ◌<◌, eqb, length, get_or, take, drop}
-use Rattle.std.proofs.Math.Path.{refl, ap}
-use Rattle.std.proofs.Common.{sym, ◌∙◌}
-use Rattle.std.proofs.Math.Bool.{not}
-use mathlib.Core.List.{List, [], ◌∷◌, map}
-use Rattle.std.proofs.Math.Dec.{ltb}
-use borrow.Author.Tests.{eqb-true, not-false, ltb-false, ne_eqb}
-use Rattle.paper.specs.KeyedLaws.{by-test, or-false-left, or-false-right}
+use Rattle.std.specs.Prelude.{◌≡◌, ℕ, zero, suc, ◌<◌, eqb, get_or}
+use Rattle.std.proofs.Math.Path.{refl}
+use mathlib.Core.List.{List, map}
+use Rattle.paper.specs.KeyedLaws.{by-test}
 use Rattle.paper.specs.Cache.{Numbers}
 use Rattle.paper.specs.Engine.{labelled}
-use Rattle.paper.specs.Lent.{unfit, limit_outside, other_length, split, test, one_of}
+use Rattle.paper.specs.Lent.{split}
 use Rattle.paper.specs.Machines.{content_of}
-use Rattle.paper.specs.RefusalLaws.{Apart, NoneOf}
-use Rattle.paper.proofs.RefusalLaws.{gives, gives_none, in-first}
-use Rattle.paper.proofs.CallLaws.{fits}
-use Rattle.exam.specs.Scores.{nine, nine_zeros, start, with_hits, scores}
-use Rattle.exam.specs.ScoreLaws.{total, totals, beyond}
-use Rattle.exam.specs.Contract.{counts_bytes, wrong_lent, too_large, question_tests, question_refusal, counts_of, Counted, question}
+use Rattle.exam.specs.Scores.{nine, start, with_hits, scores}
+use Rattle.exam.specs.ScoreLaws.{beyond}
+use Rattle.exam.specs.Contract.{question_refusal, question}
 
 nine-at : (f : ℕ → ℕ) (k : ℕ) → ((h : ℕ) → k < h → f h ≡ 0) → (h : ℕ) → k < h → get_or (map f nine) h 0 ≡ 0
 nine-at f k e zero l = e 0 l

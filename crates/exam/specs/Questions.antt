@@ -1,7 +1,6 @@
 -- Worked questions, the contents being labels, and worked refusals.
-use Rattle.std.specs.Prelude.{◌≡◌, refl, List, [], ◌∷◌, map, ℕ, eqb, get_or, replicate}
+use Rattle.std.specs.Prelude.{◌≡◌, refl, [], ◌∷◌, map, ℕ, eqb, get_or, replicate}
 use Rattle.tables.specs.Unsound.{elem}
-use Rattle.paper.specs.Cache.{Numbers}
 use Rattle.paper.specs.Lent.{unfit}
 use Rattle.paper.specs.Machines.{put, printed_next, printed_hit}
 use Rattle.exam.specs.Scores.{lists, hits, with_hits, scores}

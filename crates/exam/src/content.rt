@@ -3,12 +3,12 @@ ghost use Rattle.std.specs.Prelude.{◌≡◌, ◌+◌, ◌*◌, ◌≤◌, ◌<
 ghost use Rattle.tables.specs.Find.{same};
 ghost use Rattle.exam.specs.Small.{kept, print_at, first_with, contents_of};
 
-use crate::search::Four;
 use hash::fingerprint;
 use parts::BoxRecord;
 use tables::find;
 
 // The fingerprint of block a.
+#[tactic(auto, unfolding(crate::specs::Small::print_at))]
 pub(crate) fn print_at(b: BoxRecord, disk: &[u8], a: usize) -> [u8; 32]
     requires { (a < 4) × (a * 64 + 64 ≤ length disk.now) }
     ensures { result ≡ print_at b.label disk.now a }
@@ -25,15 +25,11 @@ pub(crate) fn first_with(b: BoxRecord, disk: &[u8], a: usize) -> usize
     ensures most { result ≤ a }
 {
     let own = print_at(b, disk, a);
-    let mut i = 0;
-    while i < a {
-        let other = print_at(b, disk, i);
-        if find::same_fingerprint(&other, &own) {
-            return i;
-        }
-        i += 1;
-    }
-    a
+    let first = (0..a).find(|i| {
+        let other = print_at(b, disk, *i);
+        find::same_fingerprint(&other, &own)
+    });
+    first.unwrap_or(a)
 }
 
 // The same where there is an address a, else 4.
@@ -42,20 +38,22 @@ pub(crate) fn told_by(b: BoxRecord, disk: &[u8], a: usize) -> u8
     ensures { result ≡ kept (ltb a b.blocks) (first_with same (print_at b.label disk.now) a) }
 {
     if a < b.blocks {
-        return first_with(b, disk, a) as u8;
+        first_with(b, disk, a) as u8
+    } else {
+        4
     }
-    4
 }
 
 // The content of each address.
-pub(crate) fn contents(b: BoxRecord, disk: &[u8]) -> Four
+#[tactic(auto, unfolding(crate::specs::Small::contents_of))]
+pub(crate) fn contents(b: BoxRecord, disk: &[u8]) -> [u8; 4]
     requires { b.blocks * 64 ≤ length disk.now }
     ensures { result ≡ contents_of b.label disk.now b.blocks }
 {
-    Four {
-        first: told_by(b, disk, 0),
-        second: told_by(b, disk, 1),
-        third: told_by(b, disk, 2),
-        newest: told_by(b, disk, 3),
-    }
+    [
+        told_by(b, disk, 0),
+        told_by(b, disk, 1),
+        told_by(b, disk, 2),
+        told_by(b, disk, 3),
+    ]
 }

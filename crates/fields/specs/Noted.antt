@@ -1,10 +1,10 @@
 -- What is written of an answer, of a folder read's, of an opening and of a look's place, in numbers and bytes. Assumes nothing.
-use Rattle.std.specs.Prelude.{cond, List, ℕ, ◌*◌, eqb}
+use Rattle.std.specs.Prelude.{cond, List, ℕ, ◌*◌, eqb, Result, Ok, Err}
 use Rattle.paper.specs.Cache.{Counters}
 use Rattle.paper.specs.Lent.{Answer, refused, answered}
 use Rattle.paper.specs.BatchLent.{BatchAnswer, batched}
 use Rattle.look.specs.declared.Place.{Place}
-use Rattle.look.specs.declared.Place.TheVariants.{Refused, Flash, Disk}
+use Rattle.look.specs.declared.Place.TheVariants.{Flash, Disk}
 use Rattle.fields.specs.Fields.{put8, put_state, put_label, put_answer, put_many, word_number}
 
 -- ---- what an answer of the paper is in numbers and bytes
@@ -62,14 +62,14 @@ pub record LeftLook : Type 0 where
   pub number : ℕ
   pub answer : List ℕ
 
--- where the part starts
-abbrev pub start_of : (B a : ℕ) → Place → ℕ
-start_of B a (Refused k) = 0
-start_of B a (Flash s) = s.0 * B
-start_of B a Disk = a * B
+-- where the part starts, of a place or the number of a refusal
+abbrev pub start_of : (B a : ℕ) → Result Place ℕ → ℕ
+start_of B a (Err k) = 0
+start_of B a (Ok (Flash s)) = s.0 * B
+start_of B a (Ok Disk) = a * B
 
 -- a refused look keeps the answer's bytes
-abbrev pub noted_place : (B a : ℕ) → List ℕ → Place → LeftLook
-noted_place B a l (Refused k) = record { number = k; answer = l }
-noted_place B a l (Flash s) = record { number = 0; answer = put_answer 5 (s.0 * B) B l }
-noted_place B a l Disk = record { number = 0; answer = put_answer 6 (a * B) B l }
+abbrev pub noted_place : (B a : ℕ) → List ℕ → Result Place ℕ → LeftLook
+noted_place B a l (Err k) = record { number = k; answer = l }
+noted_place B a l (Ok (Flash s)) = record { number = 0; answer = put_answer 5 (s.0 * B) B l }
+noted_place B a l (Ok Disk) = record { number = 0; answer = put_answer 6 (a * B) B l }

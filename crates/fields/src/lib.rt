@@ -1,44 +1,40 @@
 // Numbers in bytes: the fields of the state and of an answer.
 #![tactic(auto)]
 
-ghost use Rattle.std.specs.Prelude.{◌≡◌, ◌+◌, ◌*◌, ◌≤◌, ◌<◌, ◌^◌, cond, eqb, length};
+ghost use Rattle.std.specs.Prelude.{◌≡◌, ◌+◌, ◌*◌, ◌≤◌, ◌<◌, ◌^◌, length};
+ghost use Rattle.refusal.specs.Numbers.{number_of};
 ghost use Rattle.refusals.specs.Given.{counters_of};
 ghost use Rattle.policy.specs.Contract.{word_of, answer_of, many_answer_of};
-ghost use Rattle.open.specs.Contract.{opening_number};
+ghost use Rattle.look.specs.Look.{numbered};
 ghost use Rattle.block.specs.Blocks.{part, splice};
 ghost use Rattle.tables.specs.Rows.{le8};
-ghost use Rattle.fields.specs.Fields.{low_bytes, state_bytes, record_in, counters_in, put8, put_state, put_label, put_record, put_answer, put_many, counts_after};
-ghost use Rattle.fields.specs.Fields.{word_number, fitting};
+ghost use Rattle.fields.specs.Fields.{low_bytes, state_bytes, record_in, counters_in, put8, put_state, put_label, put_record};
+ghost use Rattle.fields.specs.Fields.{put_answer, put_many, counts_after, word_number, fitting};
 ghost use Rattle.fields.specs.Noted.{noted, noted_many, state_opened, start_of, noted_place};
 
 use counters::Counters;
 use look::Place;
-use open::{Begun, Opening};
+use outcome::Outcome;
 use parts::BoxRecord;
-use policy::calls::Outcome;
-use policy::{Answer, Word, many};
+use policy::{Answered, Batch, Word};
+use refusal::Refusal;
 use tables::SourceAddress;
-
-// A byte, widened.
-fn wide(x: u8) -> u64
-    ensures { (result ≡ x) × (result < 256) }
-{
-    x as u64
-}
 
 // The number in the eight bytes from index `at` on, little-endian.
 pub fn get8(s: &[u8], at: usize) -> u64
     requires { at + 8 ≤ length s.now }
     ensures { result ≡ le8 s.now at }
 {
-    wide(s[at])
-        + 256 * wide(s[at + 1])
-        + 65536 * wide(s[at + 2])
-        + 16777216 * wide(s[at + 3])
-        + 4294967296 * wide(s[at + 4])
-        + 1099511627776 * wide(s[at + 5])
-        + 281474976710656 * wide(s[at + 6])
-        + 72057594037927936 * wide(s[at + 7])
+    u64::from_le_bytes([
+        s[at],
+        s[at + 1],
+        s[at + 2],
+        s[at + 3],
+        s[at + 4],
+        s[at + 5],
+        s[at + 6],
+        s[at + 7],
+    ])
 }
 
 // Writes the eight bytes of `v` from index `at` on, little-endian.
@@ -46,30 +42,18 @@ pub fn put8(s: &mut [u8], at: usize, v: u64)
     requires { at + 8 ≤ length s.old }
     ensures { s.new ≡ splice at (low_bytes 8 v) s.old }
 {
-    let w = [
-        (v % 256) as u8,
-        (v / 256 % 256) as u8,
-        (v / 256 / 256 % 256) as u8,
-        (v / 256 / 256 / 256 % 256) as u8,
-        (v / 256 / 256 / 256 / 256 % 256) as u8,
-        (v / 256 / 256 / 256 / 256 / 256 % 256) as u8,
-        (v / 256 / 256 / 256 / 256 / 256 / 256 % 256) as u8,
-        (v / 256 / 256 / 256 / 256 / 256 / 256 / 256 % 256) as u8,
-    ];
-    block::put(&w, s, at);
+    block::put(&v.to_le_bytes(), s, at);
 }
 
 // The bytes of the state.
 pub const STATE: usize = 144;
 
 // Whether the state has its bytes and the answer `n`.
+#[tactic(auto, unfolding(crate::specs::Fields::fitting))]
 pub fn fit(n: usize, state: &[u8], answer: &[u8]) -> bool
     ensures { result ≡ fitting n state.now answer.now }
 {
-    if state.len() != STATE {
-        return false;
-    }
-    answer.len() == n
+    state.len() == STATE && answer.len() == n
 }
 
 // The label in the state.
@@ -78,28 +62,29 @@ pub(crate) fn label_in(state: &[u8]) -> [u8; 64]
     ensures { result ≡ part 72 64 state.now }
 {
     let mut label = [0u8; 64];
-    block::copy_all(&state[72..136], &mut label);
+    label.copy_from_slice(&state[72..136]);
     label
 }
 
 // The box record in the state.
+#[tactic(auto, unfolding(crate::specs::Fields::get8))]
 pub fn record_in(state: &[u8]) -> BoxRecord
     requires { length state.now ≡ state_bytes }
     ensures { result ≡ record_in state.now }
 {
-    let label = label_in(state);
     BoxRecord {
         size: get8(state, 0) as usize,
         blocks: get8(state, 8) as usize,
         rows: get8(state, 16) as usize,
         slots: get8(state, 24) as usize,
         held: get8(state, 32) as usize,
-        label: label,
+        label: label_in(state),
         limit: get8(state, 136) as usize,
     }
 }
 
 // The counters in the state.
+#[tactic(auto, unfolding(crate::specs::Fields::get8))]
 pub fn counters_in(state: &[u8]) -> Counters
     requires { length state.now ≡ state_bytes }
     ensures { result ≡ counters_in state.now }
@@ -113,6 +98,7 @@ pub fn counters_in(state: &[u8]) -> Counters
 }
 
 // Writes n and the counters into the state.
+#[tactic(auto, unfolding(crate::specs::Fields::put_state, crate::specs::Fields::put8))]
 pub fn put_state(state: &mut [u8], held: usize, c: Counters)
     requires { length state.old ≡ state_bytes }
     ensures { state.new ≡ put_state held (counters_of c) state.old }
@@ -125,6 +111,7 @@ pub fn put_state(state: &mut [u8], held: usize, c: Counters)
 }
 
 // Writes an answer's three numbers.
+#[tactic(auto, unfolding(crate::specs::Fields::put_answer, crate::specs::Fields::put8))]
 pub fn put_answer(answer: &mut [u8], word: u64, second: usize, third: usize)
     requires { length answer.old ≡ 24 }
     ensures { answer.new ≡ put_answer word second third answer.old }
@@ -135,6 +122,7 @@ pub fn put_answer(answer: &mut [u8], word: u64, second: usize, third: usize)
 }
 
 // Writes the four numbers of a folder read's answer.
+#[tactic(auto, unfolding(crate::specs::Fields::put_many, crate::specs::Fields::put8))]
 pub fn put_many(answer: &mut [u8], hits: usize, flash: usize, primary: usize, fetches: usize)
     requires { length answer.old ≡ 32 }
     ensures { answer.new ≡ put_many hits flash primary fetches answer.old }
@@ -152,10 +140,8 @@ pub fn put_counts(s: &mut [u8], c: [u64; 9])
     if s.len() != exam::COUNTS {
         return;
     }
-    let mut h = 0;
-    while h < 9 {
+    for h in 0..9 {
         put8(s, h * 8, c[h]);
-        h += 1;
     }
 }
 
@@ -175,57 +161,41 @@ pub fn word_number(w: Word) -> u64
 }
 
 // Writes what a call tells into the state and the answer. The number of the refusal, 0 where the call was served.
-pub fn write_outcome(state: &mut [u8], answer: &mut [u8], o: Outcome) -> u32
+pub fn write_outcome(state: &mut [u8], answer: &mut [u8], o: Outcome<Answered, BoxRecord>) -> u32
     requires { (length state.old ≡ state_bytes) × (length answer.old ≡ 24) }
     ensures { record { number = result; state = state.new; answer = answer.new }
         ≡ noted (answer_of o.answer) o.box_record.held (counters_of o.counters) state.old answer.old }
 {
-    let a = o.answer;
     let b = o.box_record;
-    let c = o.counters;
-    match a {
-        Answer::Refused(k) => k,
-        Answer::Answered(w, f, p) => {
-            put_state(state, b.held, c);
-            put_answer(answer, word_number(w), f, p);
+    match o.answer {
+        Err(r) => u32::from(r),
+        Ok(a) => {
+            put_state(state, b.held, o.counters);
+            put_answer(answer, word_number(a.word), a.flashed, a.primary);
             0
         }
     }
 }
 
 // The same of a folder read.
-pub fn write_many(state: &mut [u8], answer: &mut [u8], o: many::Outcome) -> u32
+pub fn write_many(state: &mut [u8], answer: &mut [u8], o: Outcome<Batch, BoxRecord>) -> u32
     requires { (length state.old ≡ state_bytes) × (length answer.old ≡ 32) }
     ensures { record { number = result; state = state.new; answer = answer.new }
         ≡ noted_many (many_answer_of o.answer) o.box_record.held (counters_of o.counters) state.old answer.old }
 {
-    let a = o.answer;
     let b = o.box_record;
-    let c = o.counters;
-    match a {
-        many::Answer::Refused(k) => k,
-        many::Answer::Batched(h, f, p, n) => {
-            put_state(state, b.held, c);
-            put_many(answer, h, f, p, n);
+    match o.answer {
+        Err(r) => u32::from(r),
+        Ok(a) => {
+            put_state(state, b.held, o.counters);
+            put_many(answer, a.hits, a.flashed, a.primary, a.fetches);
             0
         }
     }
 }
 
-// Writes n of an opening into the state, and the counters where it was served.
-pub(crate) fn put_opening(state: &mut [u8], number: u32, held: usize, c: Counters)
-    requires { length state.old ≡ state_bytes }
-    ensures state_after { state.new ≡ cond (eqb number 0) (put_state held (counters_of c) state.old) (put8 32 held state.old) }
-    ensures state_len { length state.new ≡ state_bytes }
-{
-    if number == 0 {
-        put_state(state, held, c);
-        return;
-    }
-    put8(state, 32, held as u64);
-}
-
 // Writes a label into the state.
+#[tactic(auto, unfolding(crate::specs::Fields::put_label))]
 pub(crate) fn put_label(state: &mut [u8], label: [u8; 64])
     requires { length state.old ≡ state_bytes }
     ensures { state.new ≡ put_label label state.old }
@@ -234,6 +204,7 @@ pub(crate) fn put_label(state: &mut [u8], label: [u8; 64])
 }
 
 // Writes the box record into the state; the counters stay.
+#[tactic(auto, unfolding(crate::specs::Fields::put_record, crate::specs::Fields::put_label, crate::specs::Fields::put8))]
 pub fn put_record(state: &mut [u8], b: BoxRecord)
     requires { length state.old ≡ state_bytes }
     ensures { state.new ≡ put_record b state.old }
@@ -243,52 +214,43 @@ pub fn put_record(state: &mut [u8], b: BoxRecord)
     put8(state, 16, b.rows as u64);
     put8(state, 24, b.slots as u64);
     put8(state, 32, b.held as u64);
-    let label = b.label;
-    put_label(state, label);
+    put_label(state, b.label);
     put8(state, 136, b.limit as u64);
 }
 
 // Writes what an opening tells into the state: n and the label, and the counters where it was served. The number of the refusal, 0 where the box is open.
-pub fn write_opening(state: &mut [u8], o: Begun) -> u32
+pub fn write_opening(state: &mut [u8], o: Outcome<(), BoxRecord>) -> u32
     requires { length state.old ≡ state_bytes }
-    ensures { (result ≡ opening_number o.answer) × (state.new ≡ state_opened (opening_number o.answer) o.box_record.held
+    ensures { (result ≡ number_of o.answer) × (state.new ≡ state_opened (number_of o.answer) o.box_record.held
         (counters_of o.counters) o.box_record.label state.old) }
 {
-    let a = o.answer;
     let b = o.box_record;
-    let c = o.counters;
-    let number = opening_number(a);
-    put_opening(state, number, b.held, c);
-    let label = b.label;
-    put_label(state, label);
-    number
-}
-
-// The number of an opening's answer.
-fn opening_number(a: Opening) -> u32
-    ensures { result ≡ opening_number a }
-{
-    match a {
-        Opening::Refused(k) => k,
-        Opening::Open => 0,
+    match o.answer {
+        Ok(()) => put_state(state, b.held, o.counters),
+        Err(_) => put8(state, 32, b.held as u64),
     }
+    put_label(state, b.label);
+    refusal::number(&o.answer)
 }
 
 // Writes the place of a look's part into the answer. The number of the refusal, 0 where the look was served.
-pub fn write_place(answer: &mut [u8], size: usize, address: SourceAddress, p: Place) -> u32
-    requires { (length answer.old ≡ 24) × (start_of size address.0 p < 2 ^ 64) }
-    ensures { record { number = result; answer = answer.new } ≡ noted_place size address.0 answer.old p }
+pub fn write_place(
+    answer: &mut [u8],
+    size: usize,
+    address: SourceAddress,
+    p: Result<Place, Refusal>,
+) -> u32
+    requires { (length answer.old ≡ 24) × (start_of size address.0 (numbered p) < 2 ^ 64) }
+    ensures { record { number = result; answer = answer.new } ≡ noted_place size address.0 answer.old (numbered p) }
 {
     match p {
-        Place::Refused(k) => k,
-        Place::Flash(s) => {
-            let k = s.0;
-            put_answer(answer, 5, k as usize * size, size);
+        Err(r) => u32::from(r),
+        Ok(Place::Flash(s)) => {
+            put_answer(answer, 5, s.0 as usize * size, size);
             0
         }
-        Place::Disk => {
-            let a = address.0;
-            put_answer(answer, 6, a as usize * size, size);
+        Ok(Place::Disk) => {
+            put_answer(answer, 6, address.0 as usize * size, size);
             0
         }
     }

@@ -1,10 +1,14 @@
 -- Laws on the message schedule, the blocks and the padding of SHA-256.
 -- Assumes nothing.
-use Rattle.std.proofs.Common.{◌≡◌, ℕ, zero, suc, ◌+◌, ◌-◌, ◌*◌, ◌/◌, ◌%◌, ◌^◌, ◌<◌, ◌≤◌, List, [], ◌∷◌, ◌++◌, length, get_or, take, drop, set, replicate, sym, refl, ap, ◌∙◌, append_assoc, le_refl, add-zero, add-suc, add-one, arith, length-append, length-drop, length-set, take-append-drop, length-take, length-take-le, take_all, get_or-take, take-suc, take-suc-set, take_at, le-ltb, lt-ltb}
+use Rattle.std.proofs.Common.{◌≡◌, ℕ, zero, suc, ◌+◌, ◌-◌, ◌*◌, ◌/◌, ◌%◌, ◌^◌, ◌<◌, ◌≤◌, nat_lt, inl, inr, List, [], ◌∷◌, ◌++◌, length, get_or, take, drop, set, replicate, sym, refl, ap, subst, ◌∙◌, append_assoc, le_refl, add-zero, add-suc, add-one, arith, length-append, length-drop, length-set, take-append-drop, length-take, length-take-le, take_all, get_or-take, take-suc-set, take_at, drop_at, drop-drop, le-ltb, lt-ltb}
+use Rattle.std.proofs.lemmas.List.{drop-replicate}
+use Rattle.std.proofs.lemmas.Slice.{take-put_mid}
+use borrow.Rule.Slice.PartMut.{put_mid}
 use lib.ListN.{length-replicate, replicate-append-replicate}
 use lib.Seq.{get_or_at, take-length, set_at, sets, sets-eq, take-append-le, drop-append-le, drop-append-add}
 use Rattle.hash.specs.Done.{Done}
-use Rattle.hash.specs.Sha256.{K, W, M, next, round, rounds, blocks, bytes32, bytes64, digest, padded, pad}
+use Rattle.std.proofs.lemmas.Bool.{cases_lt}
+use Rattle.hash.specs.Sha256.{choose, K, W, M, next, round, rounds, compress, blocks, bytes32, bytes64, digest, padded, pad}
 
 -- word t is made of the words before it
 next-take : (w : List ℕ) (t : ℕ) → 16 ≤ t → next (take t w) t ≡ next w t
@@ -35,11 +39,12 @@ word_at b t n x h e =
     let g : take (suc t) (W b n) ≡ W b (suc t) = ap (λ (m : ℕ). take (suc t) (W b m)) k ∙ take-W b (suc t) (n - suc t) in
     sym (get_or-take (suc t) (W b n) t 0 (omega arith)) ∙ ap (λ (l : List ℕ). get_or l t 0) (g ∙ e) ∙ get_or_at (W b t) x [] 0 t (length-W b t)
 
--- one round more, and one word more, x being word t
+-- one round more over a schedule whose word t is x
 state-more : (b h : List ℕ) (t n x : ℕ) → t < n → W b (suc t) ≡ W b t ++ (x ∷ []) → round (get_or K t 0) x (rounds (W b n) h t) ≡ rounds (W b n) h (t + 1)
 unfolding rounds
 state-more b h t n x k e = rw (add-one, word_at b t n x k e)
 
+-- one round more, and one word more, x being word t
 one_more : (b h w s : List ℕ) (t x : ℕ) → t < 64 → W b (suc t) ≡ W b t ++ (x ∷ []) → Done b h t w s
     → Done b h (t + 1) (set w t x) (round (get_or K t 0) x s)
 one_more b h w s t x k e d =
@@ -50,19 +55,23 @@ one_more b h w s t x k e d =
       state = rw d.state (state-more b h t 64 x k e);
     }
 
-word-of-block : (b : List ℕ) (t : ℕ) → t < 16 → W b (suc t) ≡ W b t ++ (M b t ∷ [])
+-- from 16 on, word t of the schedule is made of the words before it
+chosen : (b w : List ℕ) (t : ℕ) → take t w ≡ W b t → choose (nat_lt t 16) (M b t) (next (W b t) t) ≡ choose (nat_lt t 16) (M b t) (next w t)
+chosen b w t e =
+    elim (cases_lt t 16) [
+      | inl k ↦ rw (lt-ltb t 16 k)
+      | inr k ↦ rw (le-ltb t 16 k, ← e, next-take)
+    ]
+
+-- one round more, x being word t
+pub done_more : (b h w s : List ℕ) (t x : ℕ) → t < 64 → x ≡ choose (nat_lt t 16) (M b t) (next w t) → Done b h t w s
+    → Done b h (t + 1) (set w t x) (round (get_or K t 0) x s)
 unfolding W
-word-of-block b t k = rw (lt-ltb t 16 k)
+done_more b h w s t x k e d = one_more b h w s t x k (ap (λ y. W b t ++ (y ∷ [])) (chosen b w t d.made ∙ sym e)) d
 
-word-of-words : (b w : List ℕ) (t : ℕ) → 16 ≤ t → take t w ≡ W b t → W b (suc t) ≡ W b t ++ (next w t ∷ [])
-unfolding W
-word-of-words b w t k e = rw (le-ltb t 16 k, ← e, next-take)
-
-pub done-block : (b h w s : List ℕ) (t : ℕ) → t < 16 → Done b h t w s → Done b h (t + 1) (set w t (M b t)) (round (get_or K t 0) (M b t) s)
-done-block b h w s t k d = one_more b h w s t (M b t) (omega arith) (word-of-block b t k) d
-
-pub done-words : (b h w s : List ℕ) (t : ℕ) → 16 ≤ t → t < 64 → Done b h t w s → Done b h (t + 1) (set w t (next w t)) (round (get_or K t 0) (next w t) s)
-done-words b h w s t j k d = one_more b h w s t (next w t) k (word-of-words b w t j d.made) d
+-- the same number of rounds, written otherwise
+pub done_at : {b h w s : List ℕ} (t k : ℕ) → t ≡ k → Done b h t w s → Done b h k w s
+done_at {b} {h} {w} {s} t k e d = subst (λ (n : ℕ). Done b h n w s) e d
 
 -- nothing is done before the first round
 pub done_none : (b h w : List ℕ) → length w ≡ 64 → Done b h 0 w h
@@ -73,35 +82,27 @@ done_none b h w k = record { full = k; made = refl; state = refl }
 pub filled : (F : ℕ → List ℕ) (w : List ℕ) (t i n : ℕ) → length w ≡ t → i ≡ n → take t w ≡ F i → w ≡ F n
 filled F w t i n h k e = sym (take-length w) ∙ rw (h, ← k) e
 
--- one byte more of a message's last bytes
-pub copied : (s : List ℕ) (i : ℕ) → i < length s → length s < 64
-    → set (take i s ++ replicate (128 - i) 0) i (get_or s i 0) ≡ take (i + 1) s ++ replicate (128 - (i + 1)) 0
-copied s i h k =
-    let e : 128 - i ≡ suc (127 - i) = omega arith in
-    let e' : 128 - suc i ≡ 127 - i = omega arith in
-    let l : length (take i s) ≡ i = length-take-le i s (omega arith) in
-    rw (add-one, e, e', set_at (take i s) 0 (replicate (127 - i) 0) (get_or s i 0) i l, take-suc s i 0, append_assoc)
+-- the byte after a message's last, where zeros follow the message
+pub ended : (s ys : List ℕ) → ys ≡ s → length s < 64
+    → set (ys ++ drop (length s) (replicate 128 0)) (length s) 0x80 ≡ s ++ (0x80 ∷ replicate (127 - length s) 0)
+ended s ys e h =
+    let n : 128 - length s ≡ suc (127 - length s) = omega arith in
+    rw (e, drop-replicate, n, set_at s 0 (replicate (127 - length s) 0) 0x80 (length s) refl)
 
--- the byte after a message's last
-pub ended : (s b : List ℕ) (i : ℕ) → i ≡ length s → length s < 64 → b ≡ take i s ++ replicate (128 - i) 0
-    → set b (length s) 0x80 ≡ s ++ (0x80 ∷ replicate (127 - length s) 0)
-ended s b i e k h =
-    let e' : 128 - length s ≡ suc (127 - length s) = omega arith in
-    rw (h, e, take-length, e', set_at s 0 (replicate (127 - length s) 0) 0x80 (length s) refl)
+-- a part of a list that is written whole
+pub written : (l vs : List ℕ) (i k : ℕ) → k ≡ length vs → i + k ≤ length l → put_mid i k l vs ≡ sets l i vs
+written l vs i k e h = rw (sets-eq vs l i (omega arith), drop-drop, ← e) (sym (append_assoc (take i l) vs (drop (i + k) l)))
 
--- eight bytes stored one after the other
-pub stored : (l : List ℕ) (i a b c d e f g h : ℕ)
-    → set (set (set (set (set (set (set (set l i a) (i + 1) b) (i + 2) c) (i + 3) d) (i + 4) e) (i + 5) f) (i + 6) g) (i + 7) h
-    ≡ sets l i (a ∷ b ∷ c ∷ d ∷ e ∷ f ∷ g ∷ h ∷ [])
-stored l i a b c d e f g h =
-    let e1 : i + 1 ≡ suc i = omega arith in
-    let e2 : i + 2 ≡ suc (suc i) = omega arith in
-    let e3 : i + 3 ≡ suc (suc (suc i)) = omega arith in
-    let e4 : i + 4 ≡ suc (suc (suc (suc i))) = omega arith in
-    let e5 : i + 5 ≡ suc (suc (suc (suc (suc i)))) = omega arith in
-    let e6 : i + 6 ≡ suc (suc (suc (suc (suc (suc i))))) = omega arith in
-    let e7 : i + 7 ≡ suc (suc (suc (suc (suc (suc (suc i)))))) = omega arith in
-    rw (e1, e2, e3, e4, e5, e6, e7)
+-- one block more, x being the first 64 bytes of what follows n blocks, and b what follows x
+pub block-more : (h m b x : List ℕ) (n k : ℕ) → k ≡ n + 1 → 64 * n ≤ length m → drop (64 * n) m ≡ x ++ b → length x ≡ 64
+    → (64 * k ≤ length m) × (b ≡ drop (64 * k) m) × (compress (blocks h m n) x ≡ blocks h m k)
+unfolding blocks
+block-more h m b x n k ek l d lx =
+    let ld : length m - 64 * n ≡ 64 + length b = sym (length-drop (64 * n) m) ∙ ap length d ∙ length-append x b ∙ ap (λ i. i + length b) lx in
+    let e : 64 * k ≡ 64 * n + 64 = omega (arith, ek) in
+    let past : b ≡ drop (64 * k) m = sym (drop_at x b 64 lx) ∙ ap (drop 64) (sym d) ∙ drop-drop 64 (64 * n) m ∙ ap (λ i. drop i m) (sym e) in
+    let first : take 64 (drop (64 * n) m) ≡ x = ap (take 64) d ∙ take_at x b 64 lx in
+    (omega (arith, ek, ld), past, rw (ek, add-one, first))
 
 -- the blocks of a list do not depend on what follows them
 pub blocks-before : (h a b : List ℕ) (i : ℕ) → 64 * i ≤ length a → blocks h (a ++ b) i ≡ blocks h a i
@@ -133,17 +134,12 @@ take-sets vs l i n e h =
     rw (sets-eq vs l i k, take_at (take i l ++ vs) (drop (i + length vs) l) n len)
 
 -- the bytes of one word more
-pub digested : (h d : List ℕ) (i : ℕ) → i < 8 → length d ≡ 32 → take (4 * i) d ≡ digest h i
-    → take (4 * (i + 1))
-    (set (set (set (set d (4 * i) (get_or h i 0 / 2 ^ 24 % 256)) (4 * i + 1) (get_or h i 0 / 2 ^ 16 % 256)) (4 * i + 2) (get_or h i 0 / 2 ^ 8 % 256))
-    (4 * i + 3) (get_or h i 0 % 256))
-    ≡ digest h (i + 1)
+pub digested : (h d ys : List ℕ) (i k : ℕ) → take (4 * i) d ≡ digest h i → 4 * i ≤ length d → ys ≡ bytes32 (get_or h i 0)
+    → take (4 * (i + 1)) (put_mid (4 * i) k d ys) ≡ digest h (i + 1)
 unfolding digest bytes32
-digested h d i k l e =
-    let e1 : 4 * i + 1 ≡ suc (4 * i) = omega arith in
-    let e2 : 4 * i + 2 ≡ suc (suc (4 * i)) = omega arith in
-    let e3 : 4 * i + 3 ≡ suc (suc (suc (4 * i))) = omega arith in
-    rw (e1, e2, e3, take-sets (bytes32 (get_or h i 0)) d (4 * i) (4 * (i + 1)) (omega arith) (omega arith), e, add-one)
+digested h d ys i k e l y =
+    let n : length ys ≡ 4 = rw y refl in
+    rw (take-put_mid (4 * i) k d ys (4 * (i + 1)) (omega arith) l, e, y, add-one)
 
 -- the last bytes of a message, with the length stored, are padded
 pub tail-padded : (s : List ℕ) (end bits : ℕ) → length s + 9 ≤ end → end ≤ 128
@@ -164,7 +160,7 @@ tail-padded s end bits h k =
     )
 
 -- the blocks of a padded message are those of the message and then those of its padded last bytes
-pub message : (h m t : List ℕ) (at end bits : ℕ) → at ≡ length m - length m % 64 → end ≡ (length m % 64 + 72) / 64 * 64 → bits ≡ length m % 2 ^ 61 * 8
+pub message : (h m t : List ℕ) (at end bits : ℕ) → at ≡ length m - length m % 64 → end ≡ (length m % 64 + 72) / 64 * 64 → bits ≡ length m * 8 % 2 ^ 64
     → t ≡ padded (drop at m) (end - 9 - length (drop at m)) bits
     → blocks h (pad m) (length (pad m) / 64) ≡ blocks (blocks h m (length m / 64)) t (length t / 64)
 unfolding padded pad

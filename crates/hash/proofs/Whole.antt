@@ -1,7 +1,7 @@
 -- A label, the chunks of a block of the cache, and then one chunk of padding.
 -- Assumes nothing.
-use Rattle.std.proofs.Common.{◌≡◌, ℕ, ◌+◌, ◌*◌, ◌/◌, ◌%◌, List, ◌++◌, length, refl, ap, ◌∙◌, arith, length-append, take_all}
-use Rattle.hash.specs.Sha256.{H0, blocks, compress, digest, bytes64, pad, sha256}
+use Rattle.std.proofs.Common.{◌≡◌, ℕ, ◌+◌, ◌/◌, List, ◌++◌, length, refl, ap, ◌∙◌, arith, length-append, take_all}
+use Rattle.hash.specs.Sha256.{H0, blocks, compress, digest, bytes64, sha256}
 use Rattle.hash.specs.LastChunk.{Size, bit_length, last_chunk}
 use Rattle.hash.proofs.SpecLaws.{size-whole, one_chunk}
 use Rattle.hash.proofs.Laws.{blocks-after}

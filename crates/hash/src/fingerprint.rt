@@ -6,6 +6,7 @@ ghost use Rattle.hash.specs.LastChunk.{Size, bit_length, last_chunk};
 use crate::{blocks, compress, digest, initial};
 
 // The bit length of a label and a block of `size` bytes, in seven cases; 0 for what is no size.
+#[tactic(auto, unfolding(crate::specs::LastChunk::bit_length))]
 pub(crate) fn bit_length(size: usize) -> u64
     ensures { result ≡ bit_length size }
 {
@@ -27,14 +28,7 @@ pub(crate) fn last_chunk(bits: u64) -> [u8; 64]
 {
     let mut b = [0u8; 64];
     b[0] = 0x80;
-    b[56] = (bits / 72057594037927936 % 256) as u8;
-    b[57] = (bits / 281474976710656 % 256) as u8;
-    b[58] = (bits / 1099511627776 % 256) as u8;
-    b[59] = (bits / 4294967296 % 256) as u8;
-    b[60] = (bits / 16777216 % 256) as u8;
-    b[61] = (bits / 65536 % 256) as u8;
-    b[62] = (bits / 256 % 256) as u8;
-    b[63] = (bits % 256) as u8;
+    b[56..].copy_from_slice(&bits.to_be_bytes());
     b
 }
 

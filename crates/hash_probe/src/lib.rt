@@ -17,10 +17,7 @@ pub extern "C" fn hash_probe_sha256(message: &[u8], digest: &mut [u8; 32])
 fn is_size(n: usize) -> bool
     ensures { (result ≡ true → Size n) × (Size n → result ≡ true) }
 {
-    match n {
-        64 | 128 | 256 | 512 | 1024 | 2048 | 4096 => true,
-        _ => false,
-    }
+    matches!(n, 64 | 128 | 256 | 512 | 1024 | 2048 | 4096)
 }
 
 // Puts the fingerprint of a block under a label into `digest`. Whether the block has one of the seven lengths: `digest` is kept where it hasn't.

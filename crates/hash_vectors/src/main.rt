@@ -16,31 +16,26 @@ fn glyph(x: u8) -> u8
     requires { x < 16 }
     ensures { result ≡ glyph_of x }
 {
-    if x < 10 { 48 + x } else { 87 + x }
+    if x < 10 { b'0' + x } else { b'a' + (x - 10) }
 }
 
-// A digest in hexadecimal. The length is what lending the text needs.
+// A digest in hexadecimal.
 fn hex(digest: [u8; 32]) -> [u8; 64]
-    ensures value { 64 ≡ length result }
-    ensures value_2 { result ≡ Hex.hex digest 32 }
+    ensures { result ≡ Hex.hex digest 32 }
 {
     let mut text = [0u8; 64];
-    let mut i = 0;
-    while i < 32 {
-        let x = digest[i];
-        let high = glyph(x / 16 % 16);
+    for (i, x) in digest.iter().enumerate() {
+        let high = glyph(x / 16);
         let low = glyph(x % 16);
         text[2 * i] = high;
         text[2 * i + 1] = low;
-        i += 1;
     }
     text
 }
 
 // The digest of a message, in hexadecimal.
 fn of_message(message: &[u8]) -> [u8; 64]
-    ensures value { 64 ≡ length result }
-    ensures value_2 { result ≡ Hex.hex (S.sha256 message.now) 32 }
+    ensures { result ≡ Hex.hex (S.sha256 message.now) 32 }
 {
     hex(hash::sha256(message))
 }
@@ -48,15 +43,13 @@ fn of_message(message: &[u8]) -> [u8; 64]
 // The fingerprint of a block under a label, in hexadecimal.
 fn of_block(label: [u8; 64], block: &[u8]) -> [u8; 64]
     requires { Size (length block.now) }
-    ensures value { 64 ≡ length result }
-    ensures value_2 { result ≡ Hex.hex (S.sha256 (label ++ block.now)) 32 }
+    ensures { result ≡ Hex.hex (S.sha256 (label ++ block.now)) 32 }
 {
     hex(hash::fingerprint::labelled_sha256(label, block))
 }
 
 // Writes a line with a digest and the name of what it is of.
 fn line<W: Write>(out: &mut W, text: [u8; 64], name: &[u8]) -> io::Result<()>
-    requires { 64 ≡ length text }
     ensures { OnOk result (Appends (W.contents out.old) (W.contents out.new) (Hex.line text name.now)) }
 {
     out.write_all(&text)?;
@@ -93,10 +86,9 @@ fn blocks<W: Write>(out: &mut W) -> io::Result<()> {
     show_block(out, b"l, 64 times, a, 4096 times", &letters[0..4096])
 }
 
-// A million letters. The length is what lending the array needs.
+// A million letters.
 fn million() -> [u8; 1000000]
-    ensures value { 1000000 ≡ length result }
-    ensures value_2 { result ≡ replicate 1000000 97 }
+    ensures { result ≡ replicate 1000000 97 }
 {
     [b'a'; 1000000]
 }

@@ -1,14 +1,21 @@
 -- The words of a line, byte by byte, as the loops go. Each law is the definition at the byte that the index shows. Assumes nothing.
-use mathlib.Core.Path.{◌≡◌, refl, ap}
-use mathlib.Core.Bool.{true, false}
-use mathlib.Core.List.{List, [], ◌∷◌, ◌++◌, append-nil, append_assoc}
+use mathlib.Core.Path.{◌≡◌, refl, sym, ap, ◌∙◌}
+use mathlib.Core.Bool.{Bool, ◌&&◌}
+use mathlib.Core.List.{List, [], ◌∷◌}
 use Prim.Native.Nat.{ℕ, zero, suc, ◌+◌, ◌-◌, ◌≤◌, ◌<◌}
 use native.Mathlib.Omega.{arith}
 use native.Mathlib.Numerals.{add-one}
-use lib.Dec.{eqb}
-use lib.ListN.{length, take, drop, get_or, drop_of_length-le, length-drop}
-use lib.Seq.{drop-cons, take-suc, get_or-drop}
+use lib.Dec.{eqb, ltb}
+use lib.ListN.{length, take, drop, get_or, drop_of_length-le}
+use lib.Seq.{drop-cons}
 use borrow.Author.Tests.{eq-eqb, ne_eqb}
+use Rattle.std.proofs.Common.{not, ltb-false, length-drop}
+use Rattle.std.proofs.lemmas.List.{take_all}
+use Rattle.std.proofs.lemmas.List.Sums.{prefix_len-le-length}
+use Rattle.std.proofs.lemmas.Option.{cond_some, none-some}
+use Rattle.std.specs.Prelude.{Some, None}
+use Rattle.std.specs.List.{filter, position, position_or_len}
+use Rattle.std.specs.Str.{bytes_eq}
 use Rattle.paper.specs.KeyedLaws.{by-test}
 use Rattle.lines.specs.Text.{same}
 use Rattle.lines.specs.Lines.{onto, words}
@@ -39,6 +46,41 @@ unfolding onto
 onto-first c [] = refl
 onto-first c (w ∷ ws) = refl
 
+abbrev pub space : ℕ → Bool
+space c = eqb c 32
+
+-- a word more than spaces
+pub words-length : (l : List ℕ) → length (words l) ≡ length (filter space l) + 1
+unfolding words
+words-length [] = refl
+words-length (c ∷ l) =
+    by-test (space c)
+    (λ e. rw e (omega (arith, words-length l)))
+    (λ e. rw e (onto-length c (words l) (some_word l) ∙ words-length l))
+
+-- the first word ends at the first space
+pub first-word : (l : List ℕ) → get_or (words l) 0 [] ≡ take (position_or_len space l) l
+unfolding words
+first-word [] = refl
+first-word (c ∷ l) =
+    let q : 1 + position_or_len space l ≡ suc (position_or_len space l) = omega arith in
+    by-test (space c) (λ e. rw e) (λ e. rw (e, q) (onto-first c (words l) ∙ ap (λ w. c ∷ w) (first-word l)))
+
+pub first-ended : (l : List ℕ) (k : ℕ) → Some k ≡ position space l → (k ≤ length l) × (get_or (words l) 0 [] ≡ take k l)
+first-ended l k e =
+    let f = cond_some _ _ _ (sym e) in
+    (omega (arith, f.1, prefix_len-le-length (λ c. not (space c)) l), first-word l ∙ ap (λ n. take n l) f.1)
+
+pub first-whole : (l : List ℕ) → None ≡ position space l → get_or (words l) 0 [] ≡ l
+first-whole l e =
+    by-test (ltb (position_or_len space l) (length l))
+    (λ t. absurd (none-some (position_or_len space l) (e ∙ rw t refl)))
+    (λ t. first-word l ∙ take_all _ l (ltb-false (position_or_len space l) (length l) t))
+
+pub to-end : (n : ℕ) (l : List ℕ) → take (length l - n) (drop n l) ≡ drop n l
+to-end n l = take_all _ (drop n l) (omega (arith, length-drop n l))
+
+-- from an index on
 module _ (l : List ℕ) (i : ℕ) where
   at-space : i < length l → get_or l i 0 ≡ 32 → words (drop i l) ≡ [] ∷ words (drop (i + 1) l)
   unfolding words
@@ -51,16 +93,6 @@ module _ (l : List ℕ) (i : ℕ) where
   at-end : length l ≤ i → words (drop i l) ≡ [] ∷ []
   unfolding words
   at-end h = rw (drop_of_length-le l h)
-
-  -- how many words are left
-  pub count-space : i < length l → get_or l i 0 ≡ 32 → length (words (drop i l)) ≡ length (words (drop (i + 1) l)) + 1
-  count-space h e = rw (at-space h e) (omega arith)
-
-  pub count-letter : i < length l → (get_or l i 0 ≡ 32 → ⊥) → length (words (drop i l)) ≡ length (words (drop (i + 1) l))
-  count-letter h e = rw (at-letter h e) (onto-length _ (words (drop (i + 1) l)) (some_word _))
-
-  pub count-end : length l ≤ i → length (words (drop i l)) ≡ 1
-  count-end h = rw (at-end h)
 
   -- a later word
   pub later-space : (n : ℕ) → i < length l → get_or l i 0 ≡ 32 → 0 < n → get_or (words (drop i l)) n [] ≡ get_or (words (drop (i + 1) l)) (n - 1) []
@@ -75,39 +107,10 @@ module _ (l : List ℕ) (i : ℕ) where
   later-end zero h = refl
   later-end (suc n) h = rw (at-end h)
 
-  -- the word that has begun at an earlier index
-  module _ (from : ℕ) where
-    pub begun-letter : from ≤ i → i < length l → (get_or l i 0 ≡ 32 → ⊥)
-        → take (i - from) (drop from l) ++ get_or (words (drop i l)) 0 [] ≡ take (i + 1 - from) (drop from l) ++ get_or (words (drop (i + 1) l)) 0 []
-    begun-letter b h e =
-        let q : i + 1 - from ≡ suc (i - from) = omega arith in
-        let s : from + (i - from) ≡ i = omega arith in
-        let r : i - from < length (drop from l) = omega (arith, length-drop from l) in
-        rw (at-letter h e, onto-first, q, take-suc (drop from l) (i - from) 0 r, get_or-drop, s, append_assoc)
-
-    pub begun-space : i < length l → get_or l i 0 ≡ 32 → take (i - from) (drop from l) ++ get_or (words (drop i l)) 0 [] ≡ take (i - from) (drop from l)
-    begun-space h e = rw (at-space h e) (append-nil _)
-
-    pub begun-end : length l ≤ i → take (i - from) (drop from l) ++ get_or (words (drop i l)) 0 [] ≡ take (i - from) (drop from l)
-    begun-end h = rw (at-end h) (append-nil _)
-
--- two texts, byte by byte
-pub same-lengths : (a b : List ℕ) → (length a ≡ length b → ⊥) → same a b ≡ false
+-- two texts are the same as std compares them
+pub same-eq : (a b : List ℕ) → bytes_eq a b ≡ same a b
 unfolding same
-same-lengths [] [] n = absurd (n refl)
-same-lengths [] (y ∷ ys) n = refl
-same-lengths (x ∷ xs) [] n = refl
-same-lengths (x ∷ xs) (y ∷ ys) n = by-test (eqb x y) (λ e. rw e (same-lengths xs ys (λ q. n (ap suc q)))) (λ e. rw e)
-
-module _ (a b : List ℕ) (i : ℕ) where
-  pub same_byte : i < length a → i < length b → get_or a i 0 ≡ get_or b i 0 → same (drop i a) (drop i b) ≡ same (drop (i + 1) a) (drop (i + 1) b)
-  unfolding same
-  same_byte h k e = rw (add-one, drop-cons a i 0 h, drop-cons b i 0 k, eq-eqb _ _ e)
-
-  pub other_byte : i < length a → i < length b → (get_or a i 0 ≡ get_or b i 0 → ⊥) → same (drop i a) (drop i b) ≡ false
-  unfolding same
-  other_byte h k e = rw (drop-cons a i 0 h, drop-cons b i 0 k, ne_eqb _ _ e)
-
-  pub same_end : length a ≤ i → length b ≤ i → same (drop i a) (drop i b) ≡ true
-  unfolding same
-  same_end h k = rw (drop_of_length-le a h, drop_of_length-le b k)
+same-eq [] [] = refl
+same-eq [] (y ∷ ys) = refl
+same-eq (x ∷ xs) [] = refl
+same-eq (x ∷ xs) (y ∷ ys) = ap (λ b. eqb x y && b) (same-eq xs ys)

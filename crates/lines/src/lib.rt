@@ -5,7 +5,7 @@ mod numbers;
 pub mod parse;
 mod words;
 
-// A line of a list: the box line with B, P, m and d, a call with its address and the byte that fills its block, or no line of the form.
+// A line of a list that has the form: the box line with B, P, m and d, or a call with its address and the byte that fills its block.
 #[derive(Clone, Copy)]
 pub enum Command {
     Box(u32, u32, u32, u32),
@@ -15,5 +15,4 @@ pub enum Command {
     Through(u32, u8),
     Back(u32, u8),
     Invalidate(u32, u8),
-    Unformed,
 }

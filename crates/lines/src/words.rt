@@ -7,15 +7,7 @@ ghost use Rattle.lines.specs.Lines.{words};
 pub fn count(line: &[u8]) -> usize
     ensures { result ≡ length (words line.now) }
 {
-    let mut n = 1;
-    let mut i = 0;
-    while i < line.len() {
-        if line[i] == b' ' {
-            n += 1;
-        }
-        i += 1;
-    }
-    n
+    line.iter().filter(|c| **c == b' ').count() + 1
 }
 
 // Where word number `k` starts, the line's end where there is no such word.
@@ -23,14 +15,15 @@ pub fn start(line: &[u8], k: usize) -> usize
     ensures { (result ≤ length line.now) × (get_or (words line.now) k [] ≡ get_or (words (drop result line.now)) 0 []) }
 {
     let mut left = k;
-    let mut i = 0;
-    while i < line.len() && 0 < left {
+    for i in 0..line.len() {
+        if left == 0 {
+            return i;
+        }
         if line[i] == b' ' {
             left -= 1;
         }
-        i += 1;
     }
-    i
+    line.len()
 }
 
 // Where the word that starts at `from` ends.
@@ -39,28 +32,17 @@ pub fn end(line: &[u8], from: usize) -> usize
     ensures { (from ≤ result) × (result ≤ length line.now) × (get_or (words (drop from line.now)) 0 []
         ≡ take (result - from) (drop from line.now)) }
 {
-    let mut i = from;
-    while i < line.len() && line[i] != b' ' {
-        i += 1;
+    match line[from..].iter().position(|c| *c == b' ') {
+        Some(k) => from + k,
+        None => line.len(),
     }
-    i
 }
 
 // Whether two texts are the same.
 pub fn equal(a: &[u8], b: &[u8]) -> bool
     ensures { result ≡ same a.now b.now }
 {
-    if a.len() != b.len() {
-        return false;
-    }
-    let mut i = 0;
-    while i < a.len() {
-        if a[i] != b[i] {
-            return false;
-        }
-        i += 1;
-    }
-    true
+    a == b
 }
 
 // Whether word number `k` is the text.

@@ -18,19 +18,21 @@ use Rattle.paper.proofs.Demand3Laws.{demand-3, opened-written, next-written, loo
 use Rattle.parts.specs.declared.BoxRecord.{BoxRecord}
 use Rattle.parts.specs.Rep.{numbers_of}
 use Rattle.refusals.specs.Given.{counters_of, lent}
-use Rattle.open.specs.declared.Begun.{Begun}
-use Rattle.open.specs.Contract.{Opened, begun, opens, opening_number}
-use Rattle.policy.specs.declared.Answer as CodeAnswer
-use Rattle.policy.specs.declared.many.Answer as ManyAnswer
+use Rattle.outcome.specs.declared.Outcome.{Outcome}
+use Rattle.open.specs.Contract.{Opened, begun, opens}
+use Rattle.refusal.specs.declared.Refusal.{Refusal}
+use Rattle.refusal.specs.Numbers.{number_of}
+use Rattle.policy.specs.declared.Answered.{Answered}
+use Rattle.policy.specs.declared.Batch.{Batch}
 use Rattle.policy.specs.Contract.{answer_of, Told, told, called, many_answer_of, ToldMany, told_many, called_many}
 use Rattle.look.specs.Listed.{Follows, InTurn, Is, Made, asked_by, first, follows}
 
 -- The theorem. `open` was called, by its contract told r and left addresses' and blocks', and was not refused; then any list of calls, one after the other.
-module _ (b : BoxRecord) (disk flash addresses blocks : List ℕ) (k : Counters) (r : Begun) (addresses' blocks' : List ℕ) (cs : List Made) where
+module _ (b : BoxRecord) (disk flash addresses blocks : List ℕ) (k : Counters) (r : Outcome (Unit {0}) BoxRecord) (addresses' blocks' : List ℕ) (cs : List Made) where
   abbrev pub given : Lent
   given = lent b disk flash addresses blocks k
 
-  pub policy-demand-3 : begun r disk flash addresses' blocks' ≡ opens b disk flash addresses blocks k → opening_number r.answer ≡ 0
+  pub policy-demand-3 : begun r disk flash addresses' blocks' ≡ opens b disk flash addresses blocks k → number_of r.answer ≡ 0
       → InTurn (first r disk flash addresses' blocks') cs
       → Follows (numbers_of b) (opened (numbers_of b) given) cs × Demand3 (numbers_of b) (opened (numbers_of b) given) (map asked_by cs)
   policy-demand-3 e z m =

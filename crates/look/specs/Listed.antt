@@ -1,6 +1,6 @@
 -- Demand 3 of the calls on lent bytes: from an opened box, for every list of calls of which each meets its contract, what each answers and leaves is the
 -- paper's, and `Demand3` holds of the list. Assumes nothing.
-use Rattle.std.specs.Prelude.{◌≡◌, refl, ℕ, eqb}
+use Rattle.std.specs.Prelude.{◌≡◌, refl, ℕ, eqb, Result}
 use Rattle.std.proofs.Common.{sym, ap, ◌∙◌, subst, subst₂, eqb-true}
 use mathlib.Core.List.{List, [], ◌∷◌, map}
 use Rattle.std.proofs.Math.Option.{Option, none}
@@ -18,10 +18,12 @@ use Rattle.paper.proofs.Demand3Laws.{demand-3, opened-written, next-written, loo
 use Rattle.parts.specs.declared.BoxRecord.{BoxRecord}
 use Rattle.parts.specs.Rep.{numbers_of}
 use Rattle.refusals.specs.Given.{counters_of, lent}
-use Rattle.open.specs.declared.Begun.{Begun}
-use Rattle.open.specs.Contract.{Opened, begun, opens, opening_number}
-use Rattle.policy.specs.declared.Answer as CodeAnswer
-use Rattle.policy.specs.declared.many.Answer as ManyAnswer
+use Rattle.outcome.specs.declared.Outcome.{Outcome}
+use Rattle.open.specs.Contract.{Opened, begun, opens}
+use Rattle.refusal.specs.declared.Refusal.{Refusal}
+use Rattle.refusal.specs.Numbers.{number_of}
+use Rattle.policy.specs.declared.Answered.{Answered}
+use Rattle.policy.specs.declared.Batch.{Batch}
 use Rattle.policy.specs.Contract.{answer_of, Told, told, called, many_answer_of, ToldMany, told_many, called_many}
 
 -- what passes from call to call
@@ -39,7 +41,7 @@ lent_in y = lent y.box y.disk y.flash y.addresses y.blocks (counters_of y.counte
 -- a single call that was made: what was asked, what it answered, what it left of what passes on and of the one block lent to it, and the part it returned
 pub record Single : Type 0 where
   pub ask : Ask
-  pub answer : CodeAnswer.Answer
+  pub answer : Result Answered Refusal
   pub left : Kept
   pub block : Option (List ℕ)
   pub part : List ℕ
@@ -75,7 +77,7 @@ Meets y c (Ask.flush k) = Calls y c
 pub record Folder : Type 0 where
   pub asked : List ℕ
   pub lent_buffer : List ℕ
-  pub answer : ManyAnswer.Answer
+  pub answer : Result Batch Refusal
   pub left : Kept
   pub buffer : List ℕ
 
@@ -221,6 +223,6 @@ module _ (N : Numbers) where
       )
 
 -- what an opening left
-abbrev pub first : Begun → (disk flash addresses blocks : List ℕ) → Kept
+abbrev pub first : Outcome (Unit {0}) BoxRecord → (disk flash addresses blocks : List ℕ) → Kept
 first r disk flash addresses blocks =
     record { box = r.box_record; disk = disk; flash = flash; addresses = addresses; blocks = blocks; counters = r.counters }

@@ -1,5 +1,5 @@
 -- A look, from where its block is found. Assumes nothing.
-use Rattle.std.specs.Prelude.{◌≡◌, cond, List, ℕ, ◌≤◌, ◌<◌, ◌+◌, ◌*◌, eqb, ltb, length, get_or}
+use Rattle.std.specs.Prelude.{◌≡◌, cond, List, ℕ, ◌≤◌, ◌<◌, ◌+◌, ◌*◌, eqb, ltb, length, get_or, Result, Ok, Err}
 use Rattle.std.proofs.Math.Path.{refl}
 use Rattle.std.proofs.Common.{sym, ap, ◌∙◌}
 use borrow.Author.Tests.{eqb-true, eqb-false, ne_eqb}
@@ -15,7 +15,9 @@ use Rattle.paper.proofs.RefusalLaws.{served-is, keeps}
 use Rattle.paper.proofs.CallLaws.{served-finds}
 use Rattle.parts.specs.declared.BoxRecord.{BoxRecord}
 use Rattle.look.specs.declared.Place.{Place}
-use Rattle.look.specs.declared.Place.TheVariants.{Refused, Flash, Disk}
+use Rattle.look.specs.declared.Place.TheVariants.{Flash, Disk}
+use Rattle.refusal.specs.declared.Refusal.{Refusal}
+use Rattle.refusal.specs.Numbers.{code, refused}
 use Rattle.parts.specs.Rep.{numbers_of, Rep, no_row, engine}
 use Rattle.refusals.specs.Given.{lent}
 use Rattle.look.specs.Look.{row_place, where_is, answer_at, part_at}
@@ -37,23 +39,23 @@ module _ (b : BoxRecord) (disk flash addrs blocks : List ℕ) (k : Counters) (a 
       (ej : j ≡ cond (ltb i b.held) (length box.free + index_where (λ u. comparing.same (get_or box.rows i no_row).fingerprint u.fingerprint)
       box.used) b.slots) where
     pub found-flash : j < b.slots → (r : ℕ) → r ≡ (read_block (row_at blocks j)).slot
-        → Flash (record { 0 = r }) ≡ where_is (numbers_of b) (lent b disk flash addrs blocks k) a
+        → Ok (Flash (record { 0 = r })) ≡ where_is (numbers_of b) (lent b disk flash addrs blocks k) a
     unfolding where_is row_place
     found-flash l r er =
         let q = found-hit b disk flash addrs blocks box is a i j ei ej l in
         let f = (get_or box.rows i no_row).fingerprint in
         let s : r ≡ slot_of (engine b) f box.used
         = slot-some (numbers_of b) b.slots blocks box.free box.used f is.blocks-are j q.place q.is-cached r er in
-        rw (e, hit-row b disk flash addrs blocks box is a i j q) (ap (λ (x : ℕ). Flash (record { 0 = x })) s)
+        rw (e, hit-row b disk flash addrs blocks box is a i j q) (ap (λ (x : ℕ). Ok (Flash (record { 0 = x }))) s)
 
-    pub found-disk : b.slots ≤ j → Disk ≡ where_is (numbers_of b) (lent b disk flash addrs blocks k) a
+    pub found-disk : b.slots ≤ j → Ok Disk ≡ where_is (numbers_of b) (lent b disk flash addrs blocks k) a
     unfolding where_is row_place
     found-disk l = rw (e, found-miss b disk flash addrs blocks box is a i j ei ej l) refl
 
 -- a look that is refused
-pub where-refused : (N : Numbers) (t : Lent) (a number : ℕ) → number ≡ refusal N t (calling (Ask.look a)) → (number ≡ 0 → ⊥) → Refused number ≡ where_is N t a
+pub where-refused : (N : Numbers) (t : Lent) (a : ℕ) (r : Refusal) → code r ≡ refusal N t (calling (Ask.look a)) → Err (code r) ≡ where_is N t a
 unfolding where_is
-where-refused N t a number e n = rw (ne_eqb (refusal N t (calling (Ask.look a))) 0 (λ z. n (e ∙ z))) (ap (λ (x : ℕ). Refused x) e)
+where-refused N t a r e = rw (ne_eqb (refusal N t (calling (Ask.look a))) 0 (λ z. refused r (e ∙ z))) (ap (λ (x : ℕ). Err x) e)
 
 -- what a look answers, by the place
 pub look-answers : (N : Numbers) (t : Lent) (a : ℕ) → answer_at (where_is N t a) ≡ (call N t (Ask.look a)).answer
@@ -66,10 +68,10 @@ look-answers N t a =
     (λ y. rw y (sym (keeps N t q (eqb-false (refusal N t (calling q)) 0 y)).answer))
 
 -- the bytes of a place are there
-abbrev pub PartIn : (b : BoxRecord) (flash disk : List ℕ) (a : ℕ) → Place → Type 0
-PartIn b flash disk a (Refused k) = Unit {0}
-PartIn b flash disk a (Flash s) = s.0 * b.size + b.size ≤ length flash
-PartIn b flash disk a Disk = a * b.size + b.size ≤ length disk
+abbrev pub PartIn : (b : BoxRecord) (flash disk : List ℕ) (a : ℕ) → Result Place ℕ → Type 0
+PartIn b flash disk a (Err k) = Unit {0}
+PartIn b flash disk a (Ok (Flash s)) = s.0 * b.size + b.size ≤ length flash
+PartIn b flash disk a (Ok Disk) = a * b.size + b.size ≤ length disk
 
 module _ (b : BoxRecord) (disk flash addrs blocks : List ℕ) (k : Counters) (a : ℕ) (ba : Bytes addrs) (bb : Bytes blocks) where
   -- the slot of a row's block, and the address

@@ -1,22 +1,22 @@
 // Look: the answer, and the block itself as a part of the flash or of the disk. Nothing is moved or counted.
 #![tactic(auto)]
 
-ghost use Rattle.std.specs.Prelude.{◌≡◌};
+ghost use Rattle.std.specs.Prelude.{◌≡◌, Ok};
 ghost use Rattle.paper.specs.Cache.{Counters};
 ghost use Rattle.paper.specs.Lent.{Ask, calling, refusal, call};
 ghost use Rattle.parts.specs.Rep.{numbers_of};
 ghost use Rattle.refusals.specs.Given.{lent};
 ghost use Rattle.policy.specs.Contract.{answer_of};
-ghost use Rattle.look.specs.Look.{where_is, part_at};
+ghost use Rattle.look.specs.Look.{numbered, where_is, part_at};
 
 use parts::{BoxRecord, rows};
-use policy::{Answer, Word};
+use policy::{Answered, Word};
+use refusal::Refusal;
 use tables::{FlashSlot, SourceAddress};
 
-// Where the block of an address is, or the number of the refusal.
+// Where the block of an address is.
 #[derive(Clone, Copy)]
 pub enum Place {
-    Refused(u32),
     Flash(FlashSlot),
     Disk,
 }
@@ -31,7 +31,7 @@ pub fn found(
     blocks: &[u8],
 ) -> Place
     requires { (k : Counters) → refusal (numbers_of b) (lent b disk.now flash.now addresses.now blocks.now k) (calling (Ask.look a.0)) ≡ 0 }
-    ensures { (k : Counters) → result ≡ where_is (numbers_of b) (lent b disk.now flash.now addresses.now
+    ensures { (k : Counters) → Ok result ≡ where_is (numbers_of b) (lent b disk.now flash.now addresses.now
         blocks.now k) a.0 }
 {
     let i = rows::row_of(addresses, b.held, a);
@@ -42,7 +42,7 @@ pub fn found(
     Place::Disk
 }
 
-// Where the block of `a` is, or the number of the refusal.
+// Where the block of `a` is, or the refusal.
 pub fn place_of(
     b: BoxRecord,
     a: SourceAddress,
@@ -50,18 +50,15 @@ pub fn place_of(
     flash: &[u8],
     addresses: &[u8],
     blocks: &[u8],
-) -> Place
-    ensures { (k : Counters) → result ≡ where_is (numbers_of b) (lent b disk.now flash.now addresses.now
+) -> Result<Place, Refusal>
+    ensures { (k : Counters) → numbered result ≡ where_is (numbers_of b) (lent b disk.now flash.now addresses.now
         blocks.now k) a.0 }
 {
-    let no = refusals::of_look(b, a, disk, flash, addresses, blocks);
-    if no != 0 {
-        return Place::Refused(no);
-    }
-    found(b, a, disk, flash, addresses, blocks)
+    refusals::of_look(b, a, disk, flash, addresses, blocks)?;
+    Ok(found(b, a, disk, flash, addresses, blocks))
 }
 
-// Look's answer: the number of the refusal, or whether the block comes from the cache or from the disk.
+// Look's answer: the refusal, or whether the block comes from the cache or from the disk.
 pub fn look(
     b: BoxRecord,
     a: SourceAddress,
@@ -69,15 +66,19 @@ pub fn look(
     flash: &[u8],
     addresses: &[u8],
     blocks: &[u8],
-) -> Answer
+) -> Result<Answered, Refusal>
     ensures { (k : Counters) → answer_of result ≡ (call (numbers_of b)
         (lent b disk.now flash.now addresses.now blocks.now k) (Ask.look a.0)).answer }
 {
-    match place_of(b, a, disk, flash, addresses, blocks) {
-        Place::Refused(no) => Answer::Refused(no),
-        Place::Flash(_) => Answer::Answered(Word::Cache, 0, 0),
-        Place::Disk => Answer::Answered(Word::Disk, 0, 0),
-    }
+    let word = match place_of(b, a, disk, flash, addresses, blocks)? {
+        Place::Flash(_) => Word::Cache,
+        Place::Disk => Word::Disk,
+    };
+    Ok(Answered {
+        word,
+        flashed: 0,
+        primary: 0,
+    })
 }
 
 // Look's part: the block of `a`, empty where the look is refused. It is the part of the flash at its slot, or of the disk at its address.
@@ -95,8 +96,8 @@ pub fn look_part<'a>(
         (where_is (numbers_of b) (lent b disk.now flash.now addresses.now blocks.now k) a.0) }
 {
     match place_of(b, a, disk, flash, addresses, blocks) {
-        Place::Refused(_) => &disk[0..0],
-        Place::Flash(s) => block::in_slot(flash, s, b.size),
-        Place::Disk => block::at_address(disk, a, b.size),
+        Err(_) => &disk[0..0],
+        Ok(Place::Flash(s)) => block::in_slot(flash, s, b.size),
+        Ok(Place::Disk) => block::at_address(disk, a, b.size),
     }
 }

@@ -13,8 +13,11 @@ use Rattle.paper.specs.Cache.{Numbers, no_counts}
 use Rattle.paper.specs.Lent.{Lent, opening, test, first, unfit, limit_outside, other_length, wrong_buffers, refusal, fresh, unopened, opened}
 use Rattle.paper.specs.Lent.{label_after}
 use Rattle.paper.proofs.RefusalLaws.{refused-opening, opened-is, label-carried, label-zeros}
-use Rattle.open.specs.declared.Begun.{Begun}
-use Rattle.open.specs.declared.Opening.TheVariants.{Refused, Open}
+use Rattle.std.specs.Prelude.{Ok, Err}
+use Rattle.outcome.specs.declared.Outcome.{Outcome}
+use Rattle.refusal.specs.declared.Refusal.{Refusal}
+use Rattle.refusal.specs.Numbers.{code}
+use Rattle.refusal.specs.Numbers as Refusals
 use Rattle.parts.specs.declared.BoxRecord.{BoxRecord}
 use Rattle.parts.specs.Rep.{numbers_of, empty_box}
 use Rattle.refusals.specs.Given.{counters_of, lent}
@@ -60,19 +63,19 @@ module _ (size blocks rows slots limit : ℕ) (label disk flash addresses table 
     pub number-none : no ≡ 0 → length label ≡ 64 → refusal N t opening ≡ 0
     number-none z l = by-label ∙ rw (sym e ∙ z, eq-eqb (length label) 64 l) refl
 
-  pub opening-refused : (b : BoxRecord) → b ≡ zeroed → (r : Begun) (number : ℕ) → r ≡ record { answer = Refused number; box_record = b; counters = c }
-      → number ≡ refusal N t opening → (number ≡ 0 → ⊥) → begun r disk flash addresses table ≡ opens given disk flash addresses table (counters_of c)
+  pub opening-refused : (b : BoxRecord) → b ≡ zeroed → (r : Outcome (Unit {0}) BoxRecord) (q : Refusal) → r ≡ record { answer = Err q; box_record = b; counters = c }
+      → code q ≡ refusal N t opening → begun r disk flash addresses table ≡ opens given disk flash addresses table (counters_of c)
   unfolding unopened zeros
-  opening-refused b m r number er e n =
-      let z : refusal N t opening ≡ 0 → ⊥ = λ y. n (e ∙ y) in
+  opening-refused b m r q er e =
+      let z : refusal N t opening ≡ 0 → ⊥ = λ y. Refusals.refused q (e ∙ y) in
       let l : t ≡ opened N t = sym (refused-opening N t z) in
       let s : replicate 64 0 ≡ label_after N t = sym (label-zeros N t z) in
-      ap (λ (x : Begun). begun x disk flash addresses table) (er ∙ ap (λ (x : BoxRecord). record { answer = Refused number; box_record = x; counters = c }) m)
+      ap (λ (x : Outcome (Unit {0}) BoxRecord). begun x disk flash addresses table) (er ∙ ap (λ (x : BoxRecord). record { answer = Err q; box_record = x; counters = c }) m)
       ∙ (λ i. record { number = e i; numbers = record { B = size; P = blocks; m = rows; d = slots; label = s i; t = limit }; lent = l i })
 
   pub opening-done : refusal N t opening ≡ 0 → (b : BoxRecord) → b ≡ given → (addresses' table' : List ℕ) (c' : Code.Counters)
       → addresses' ≡ fresh_addresses rows → table' ≡ fresh_blocks slots → c' ≡ record { reads = 0; hits = 0; flash = 0; primary = 0 }
-      → begun (record { answer = Open; box_record = b; counters = c' }) disk flash addresses' table' ≡ opens given disk flash addresses table (counters_of c)
+      → begun (record { answer = Ok tt; box_record = b; counters = c' }) disk flash addresses' table' ≡ opens given disk flash addresses table (counters_of c)
   unfolding fresh
   opening-done z b eb addresses' table' c' ea et ec =
       let k : counters_of c' ≡ no_counts = ap counters_of ec in
@@ -80,5 +83,5 @@ module _ (size blocks rows slots limit : ℕ) (label disk flash addresses table 
       = λ i. record { n = 0; disk = disk; flash = flash; addresses = ea i; blocks = et i; counters = k i } in
       let l : lent given disk flash addresses' table' (counters_of c') ≡ opened N t = f ∙ sym (opened-is N t z) in
       let s : label ≡ label_after N t = sym (label-carried N t z) in
-      ap (λ (x : BoxRecord). begun (record { answer = Open; box_record = x; counters = c' }) disk flash addresses' table') eb
+      ap (λ (x : BoxRecord). begun (record { answer = Ok tt; box_record = x; counters = c' }) disk flash addresses' table') eb
       ∙ (λ i. record { number = sym z i; numbers = record { B = size; P = blocks; m = rows; d = slots; label = s i; t = limit }; lent = l i })

@@ -6,14 +6,8 @@ use Rattle.paper.specs.Lent.{Lent, opening, refusal, opened, label_after, with_l
 use Rattle.parts.specs.declared.BoxRecord.{BoxRecord}
 use Rattle.parts.specs.Rep.{numbers_of}
 use Rattle.refusals.specs.Given.{counters_of, lent}
-use Rattle.open.specs.declared.Opening.{Opening}
-use Rattle.open.specs.declared.Opening.TheVariants.{Refused, Open}
-use Rattle.open.specs.declared.Begun.{Begun}
-
--- "Where an answer is an enum, the promises use a definition. That definition gives this paper's number and values for each of the enum's cases."
-abbrev pub opening_number : Opening → ℕ
-opening_number (Refused k) = k
-opening_number Open = 0
+use Rattle.outcome.specs.declared.Outcome.{Outcome}
+use Rattle.refusal.specs.Numbers.{number_of}
 
 -- what an opening tells and leaves: its number, 0 where the box is open, the numbers and the label of the box record, and what is lent
 pub record Opened : Type 0 where
@@ -21,9 +15,9 @@ pub record Opened : Type 0 where
   pub numbers : Numbers
   pub lent : Lent
 
-abbrev pub begun : Begun → (disk flash addresses blocks : List ℕ) → Opened
+abbrev pub begun : Outcome (Unit {0}) BoxRecord → (disk flash addresses blocks : List ℕ) → Opened
 begun r disk flash addresses blocks = record {
-  number = opening_number r.answer;
+  number = number_of r.answer;
   numbers = numbers_of r.box_record;
   lent = lent r.box_record disk flash addresses blocks (counters_of r.counters);
 }

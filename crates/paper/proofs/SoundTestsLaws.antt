@@ -1,5 +1,5 @@
 -- The tests for 6, 7 and 8 in their positive parts, and what these say of the box in the bytes.
-use Rattle.std.specs.Prelude.{◌≡◌, Bool, false, ◌&&◌, ◌||◌, ℕ, suc, ◌<◌, eqb, length}
+use Rattle.std.specs.Prelude.{◌≡◌, Bool, false, ◌&&◌, ◌||◌, ℕ, suc, ◌<◌, eqb, length, is_none}
 use Rattle.std.proofs.Math.Path.{refl, ap}
 use Rattle.std.proofs.Common.{sym, ◌∙◌, take_at}
 use Rattle.std.proofs.Math.Bool.{true, not, cond}
@@ -10,7 +10,7 @@ use borrow.Author.Tests.{ltb-true, not-true, not-false}
 use Rattle.tables.specs.Rows.{rows, zeros, row_bytes}
 use Rattle.tables.specs.Records as Table
 use Rattle.tables.specs.Records.{read_address, read_block, slots_from}
-use Rattle.tables.specs.Find.{all, every, find_from, absent, same, caches, is_used}
+use Rattle.tables.specs.Find.{all, every, find_from, same, caches, is_used}
 use Rattle.tables.specs.Unsound.{elem, addresses_unsound, blocks_unsound}
 use Rattle.tables.specs.Sound.{distinct, tail_ok, seated_tail, address_ok, is_zero, sound_addresses, row_address, row_slot}
 use Rattle.tables.specs.Index.{unique, row_ok, dirty_ok}
@@ -89,7 +89,7 @@ held-print-is r l = fit_is 32 (read_address r).fingerprint (address-print-length
 
 -- "cached" as the tables search for it
 pub cached-is : (N : Numbers) (g : Fixed 32) (k : ℕ) (rs : List (List ℕ)) → Wide rs
-    → absent (find_from (caches g.0) k rs) ≡ not (cached (labelled N) g (used_rows (map read_block rs)))
+    → is_none (find_from (caches g.0) k rs) ≡ not (cached (labelled N) g (used_rows (map read_block rs)))
 unfolding used_rows find_from
 cached-is N g k [] w = refl
 cached-is N g k (r ∷ rs) w =
@@ -100,8 +100,8 @@ cached-is N g k (r ∷ rs) w =
 
 -- a fingerprint used once
 row-cached : (N : Numbers) (r : List ℕ) (rs : List (List ℕ)) → length r ≡ row_bytes → Wide rs
-    → absent (find_from (caches (read_block r).fingerprint) 0 rs) ≡ not (cached (labelled N) (fit 32 (read_block r).fingerprint) (used_rows (map read_block rs)))
-row-cached N r rs l w = ap (λ g. absent (find_from (caches g) 0 rs)) (sym (print-is r l)) ∙ cached-is N (fit 32 (read_block r).fingerprint) 0 rs w
+    → is_none (find_from (caches (read_block r).fingerprint) 0 rs) ≡ not (cached (labelled N) (fit 32 (read_block r).fingerprint) (used_rows (map read_block rs)))
+row-cached N r rs l w = ap (λ g. is_none (find_from (caches g) 0 rs)) (sym (print-is r l)) ∙ cached-is N (fit 32 (read_block r).fingerprint) 0 rs w
 
 pub used-apart : (N : Numbers) (rs : List (List ℕ)) → Wide rs → every unique rs ≡ true
     → Distinct (labelled N).same (λ u. u.fingerprint) (used_rows (map read_block rs))
@@ -110,7 +110,7 @@ used-apart N [] w = λ h. tt
 used-apart N (r ∷ rs) w =
     by-test (is_used r)
     (λ u. rw u (λ h.
-    let a = absent (find_from (caches (read_block r).fingerprint) 0 rs) in
+    let a = is_none (find_from (caches (read_block r).fingerprint) 0 rs) in
     let c = cached (labelled N) (fit 32 (read_block r).fingerprint) (used_rows (map read_block rs)) in
     (not-true c (sym (row-cached N r rs w.0 w.1) ∙ and_left a (every unique rs) h), used-apart N rs w.1 (and_right a (every unique rs) h))))
     (λ u. rw u (λ h. used-apart N rs w.1 h))
@@ -121,7 +121,7 @@ unfolding every used_rows
 used-once N [] w = λ h. refl
 used-once N (r ∷ rs) w =
     by-test (is_used r)
-    (λ u. rw u (λ h. both (absent (find_from (caches (read_block r).fingerprint) 0 rs)) (every unique rs) (row-cached N r rs w.0 w.1 ∙ ap not h.0)
+    (λ u. rw u (λ h. both (is_none (find_from (caches (read_block r).fingerprint) 0 rs)) (every unique rs) (row-cached N r rs w.0 w.1 ∙ ap not h.0)
     (used-once N rs w.1 h.1)))
     (λ u. rw u (λ h. used-once N rs w.1 h))
 
@@ -159,9 +159,9 @@ module _ (d : ℕ) where
 
 -- dirty rows
 module _ (N : Numbers) (bs : List (List ℕ)) (wide : Wide bs) where
-  held-cached : (r : List ℕ) → length r ≡ row_bytes → absent (find_from (caches (read_address r).fingerprint) 0 bs)
+  held-cached : (r : List ℕ) → length r ≡ row_bytes → is_none (find_from (caches (read_address r).fingerprint) 0 bs)
       ≡ not (cached (labelled N) (as_held (read_address r)).fingerprint (used_rows (map read_block bs)))
-  held-cached r l = ap (λ g. absent (find_from (caches g) 0 bs)) (sym (held-print-is r l)) ∙ cached-is N (fit 32 (read_address r).fingerprint) 0 bs wide
+  held-cached r l = ap (λ g. is_none (find_from (caches g) 0 bs)) (sym (held-print-is r l)) ∙ cached-is N (fit 32 (read_address r).fingerprint) 0 bs wide
 
   pub dirty-cached : (rs : List (List ℕ)) → Wide rs → all (dirty_ok bs) rs ≡ true
       → All (DirtyCached (labelled N) (used_rows (map read_block bs))) (map as_held (map read_address rs))

@@ -10,7 +10,7 @@ use borrow.Author.Tests.{ltb-true, not-true, not-false}
 use Rattle.tables.specs.Rows.{rows, zeros, row_bytes}
 use Rattle.tables.specs.Records as Table
 use Rattle.tables.specs.Records.{read_address, read_block, slots_from}
-use Rattle.tables.specs.Find.{all, every, find_from, absent, same, caches, is_used}
+use Rattle.tables.specs.Find.{all, every, find_from, same, caches, is_used}
 use Rattle.tables.specs.Unsound.{elem, addresses_unsound, blocks_unsound}
 use Rattle.tables.specs.Sound.{distinct, tail_ok, seated_tail, address_ok, is_zero, sound_addresses, row_address, row_slot}
 use Rattle.tables.specs.Index.{unique, row_ok, dirty_ok}

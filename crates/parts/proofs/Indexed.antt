@@ -1,4 +1,5 @@
 -- The questions that the index answers, in the paper's rows: by induction over the rows, each asked by its bytes. Assumes nothing.
+use Rattle.std.specs.Prelude.{Option, unwrap_or, is_some}
 use mathlib.Core.Path.{◌≡◌, refl, sym, ap, ◌∙◌}
 use mathlib.Core.Bool.{Bool, true, false, not, ◌&&◌}
 use mathlib.Core.List.{List, [], ◌∷◌, map}
@@ -7,15 +8,14 @@ use lib.Dec.{eqb}
 use lib.ListN.{take}
 use Rattle.tables.specs.Rows.{rows}
 use Rattle.tables.specs.RowLaws.{take-rows}
-use Rattle.tables.specs.Find.{all, find_from, absent, caches, has_fingerprint}
+use Rattle.tables.specs.Find.{all, find_from, caches, has_fingerprint}
 use Rattle.tables.specs.Index.{cached_in, unknown_in}
-use Rattle.tables.specs.declared.Found.{Found}
 use Rattle.paper.specs.KeyedLaws.{by-test}
 use Rattle.paper.specs.Cache.{Numbers, AddressRow, BlockRow, known, cached, some_uncached}
 use Rattle.paper.specs.Engine.{Fixed, labelled, comparing}
 use Rattle.paper.specs.Index.{index_where}
 use Rattle.paper.specs.Layout.{Addrs, Blocks}
-use Rattle.parts.specs.TableLaws.{addr_bytes, used_bytes, rows-addrs, fp-of, placed, is_at, absent-is, fp-cached, unknown-first}
+use Rattle.parts.specs.TableLaws.{addr_bytes, used_bytes, rows-addrs, fp-of, absent-is, fp-cached, unknown-first}
 use Rattle.tables.specs.Records.{read_address, read_block}
 
 map-take : {A B : Type 0} (f : A → B) (k : ℕ) (xs : List A) → take k (map f xs) ≡ map f (take k xs)
@@ -31,7 +31,7 @@ module _ (d : ℕ) (bt : List ℕ) (free : List ℕ) (used : List (BlockRow (Fix
   -- an address row's fingerprint is cached
   row-cached : (r : AddressRow (Fixed 32)) → cached_in (rows d bt) (addr_bytes r) ≡ cached (comparing) r.fingerprint used
   row-cached r =
-      ap not (absent-is (find_from (caches (read_address (addr_bytes r)).fingerprint) 0 (rows d bt))) ∙ not-not (is_at (find_from (caches (read_address (addr_bytes r)).fingerprint) 0 (rows d bt)))
+      ap not (absent-is (find_from (caches (read_address (addr_bytes r)).fingerprint) 0 (rows d bt))) ∙ not-not (is_some (find_from (caches (read_address (addr_bytes r)).fingerprint) 0 (rows d bt)))
       ∙ fp-cached d bt free used hb (read_address (addr_bytes r)).fingerprint r.fingerprint (sym (fp-of r))
 
   all-cached : (N : Numbers) (l : List (AddressRow (Fixed 32))) → not (all (cached_in (rows d bt)) (map addr_bytes l)) ≡ some_uncached (labelled N) l used
@@ -47,8 +47,8 @@ module _ (d : ℕ) (bt : List ℕ) (free : List ℕ) (used : List (BlockRow (Fix
       ∙ all-cached N (take k l)
 
 -- the first block row whose fingerprint is that of no held row
-pub unknown-is : (P m n d : ℕ) (t bt : List ℕ) (l : List (AddressRow (Fixed 32))) (used : List (BlockRow (Fixed 32))) → Addrs P m n t l → Blocks d bt [] used → (f : Found) → find_from (unknown_in (rows n t)) 0 (rows d bt) ≡ f
-    → placed f d ≡ index_where (λ u. not (known comparing u.fingerprint l)) used
+pub unknown-is : (P m n d : ℕ) (t bt : List ℕ) (l : List (AddressRow (Fixed 32))) (used : List (BlockRow (Fixed 32))) → Addrs P m n t l → Blocks d bt [] used → (f : Option ℕ) → find_from (unknown_in (rows n t)) 0 (rows d bt) ≡ f
+    → unwrap_or f d ≡ index_where (λ u. not (known comparing u.fingerprint l)) used
 unknown-is P m n d t bt l used h hb f e =
-    ap (λ (y : Found). placed y d) (sym e ∙ ap (λ (r : List (List ℕ)). find_from (unknown_in r) 0 (rows d bt)) (rows-addrs P m n t l h))
+    ap (λ (y : Option ℕ). unwrap_or y d) (sym e ∙ ap (λ (r : List (List ℕ)). find_from (unknown_in r) 0 (rows d bt)) (rows-addrs P m n t l h))
     ∙ unknown-first l d bt used hb

@@ -1,5 +1,5 @@
 -- A block copied to the disk, and what a row's copy leaves. Assumes nothing.
-use Rattle.std.specs.Prelude.{◌≡◌, refl, Bool, ◌&&◌, ℕ, suc, zero, ◌≤◌, ◌<◌, ◌+◌, ◌*◌, ltb, length, get_or, set, take, drop}
+use Rattle.std.specs.Prelude.{◌≡◌, refl, Bool, ◌&&◌, ℕ, suc, zero, ◌≤◌, ◌<◌, ◌+◌, ◌*◌, ltb, length, get_or, set, take, drop, None, Option, Some}
 use Rattle.std.proofs.Common.{sym, ◌∙◌, arith, take_at, ltb-true, ltb-false, le-ltb}
 use Rattle.std.proofs.Math.Path.{ap, ap₂}
 use Rattle.std.proofs.Math.Bool.{true, false}
@@ -10,8 +10,6 @@ use Rattle.block.specs.Blocks.{part, splice}
 use Rattle.parts.specs.declared.BoxRecord.{BoxRecord}
 use Rattle.tables.specs.Rows.{rows, row_at}
 use Rattle.tables.specs.Index.{code, place_in}
-use Rattle.tables.specs.declared.Found.{Found}
-use Rattle.tables.specs.declared.Found.TheVariants.{At, Nothing}
 use Rattle.paper.specs.KeyedLaws.{All, by-test}
 use Rattle.paper.specs.Cache.{Numbers, AddressRow, BlockRow, Box, slot_of, block_of, block_row}
 use Rattle.paper.specs.Engine.{Fixed, labelled, comparing}
@@ -119,10 +117,10 @@ module _ (N : Numbers) (d : ℕ) (t : List ℕ) (free : List ℕ) (used : List (
 
 -- the same by the place of a row's block row, or 256
 slot-coded : (N : Numbers) (d : ℕ) (t free : List ℕ) (used : List (BlockRow (Fixed 32))) (g : List ℕ) (q : Fixed 32) → Blocks d t free used → d ≤ 256 → q.0 ≡ g
-    → (f : Found) → find_from (caches g) 0 (rows d t) ≡ f
+    → (f : Option ℕ) → find_from (caches g) 0 (rows d t) ≡ f
     → slot_in t d (code f) ≡ slot_of (labelled N) q used
-slot-coded N d t free used g q h b e (At i) x = slot_placed N d t free used q h i (block-index d t free used h g q e (At i) x)
-slot-coded N d t free used g q h b e Nothing x = rw (le-ltb 256 d b) (slot-none N d t free used q h d (block-index d t free used h g q e Nothing x)
+slot-coded N d t free used g q h b e (Some i) x = slot_placed N d t free used q h i (block-index d t free used h g q e (Some i) x)
+slot-coded N d t free used g q h b e None x = rw (le-ltb 256 d b) (slot-none N d t free used q h d (block-index d t free used h g q e None x)
     (omega arith))
 
 pub slot_of_row : (N : Numbers) (P m n d : ℕ) (addrs blocks : List ℕ) (l : List (AddressRow (Fixed 32))) (free : List ℕ) (used : List (BlockRow (Fixed 32)))

@@ -1,5 +1,5 @@
 -- The rows that U8's limit asks for, in the paper's words. Assumes nothing.
-use Rattle.std.specs.Prelude.{◌≡◌, true, false, cond, eqb, ltb, length, drop}
+use Rattle.std.specs.Prelude.{◌≡◌, true, false, cond, eqb, ltb, length, drop, unwrap_or}
 use Rattle.std.proofs.Math.Path.{refl, ap}
 use Rattle.std.proofs.Common.{sym, ◌∙◌, arith, drop-cons, ltb-true, lt-ltb, le-ltb}
 use mathlib.Core.List.{List, [], ◌∷◌, map}
@@ -18,7 +18,7 @@ use Rattle.paper.specs.Layout.{Addrs, addresses_of}
 use Rattle.paper.specs.Index.{index_where}
 use Rattle.paper.proofs.PartlyLaws.{dirty-few}
 use Rattle.parts.specs.declared.BoxRecord.{BoxRecord}
-use Rattle.parts.specs.TableLaws.{placed, placed_first}
+use Rattle.parts.specs.TableLaws.{placed_first}
 use Rattle.parts.specs.Limit.{dirty_in, excess_row}
 
 -- where some row is dirty, one is found
@@ -30,8 +30,8 @@ first_found (r ∷ rs) =
     (λ e. rw e (λ h. omega arith))
     (λ e. rw e (λ h. let ih = first_found rs (omega (arith, h)) in omega (arith, ih)))
 
-first-is : (n : ℕ) (t : List ℕ) → placed (find_from is_dirty 0 (rows n t)) n ≡ index_where is_dirty (rows n t)
-first-is n t = ap (placed (find_from is_dirty 0 (rows n t))) (sym (rows-length n t)) ∙ placed_first is_dirty (rows n t)
+first-is : (n : ℕ) (t : List ℕ) → unwrap_or (find_from is_dirty 0 (rows n t)) n ≡ index_where is_dirty (rows n t)
+first-is n t = ap (unwrap_or (find_from is_dirty 0 (rows n t))) (sym (rows-length n t)) ∙ placed_first is_dirty (rows n t)
 
 -- there is one exactly where more rows are dirty than the limit
 pub excess-is : (b : BoxRecord) (t : List ℕ) → ltb (excess_row b t) b.held ≡ ltb b.limit (dirty_in (rows b.held t))
@@ -42,7 +42,7 @@ excess-is b t =
     let over = ltb-true b.limit (dirty_in rs) e in
     let f = first-is b.held t in
     let g = first_found rs (omega (arith, over)) in
-    lt-ltb (placed (find_from is_dirty 0 rs) b.held) b.held (omega (arith, f, g, rows-length b.held t))))
+    lt-ltb (unwrap_or (find_from is_dirty 0 rs) b.held) b.held (omega (arith, f, g, rows-length b.held t))))
     (λ e. rw e (le-ltb b.held b.held (omega arith)))
 
 -- the held rows in the paper's words
@@ -62,7 +62,7 @@ module _ (P m n : ℕ) (t : List ℕ) (l : List (AddressRow (Fixed 32))) (h : Ad
   first-held [] = refl
   first-held (r ∷ rs) = by-test (eqb (read_address r).dirty 1) (λ e. rw e refl) (λ e. rw e (ap suc (first-held rs)))
 
-  pub first-dirty : placed (find_from is_dirty 0 (rows n t)) n ≡ index_where (λ r. r.dirty) l
+  pub first-dirty : unwrap_or (find_from is_dirty 0 (rows n t)) n ≡ index_where (λ r. r.dirty) l
   first-dirty = first-is n t ∙ first-held (rows n t) ∙ ap (index_where (λ r. r.dirty)) rows-held
 
 -- ---- a pass from the newest row to the oldest

@@ -1,12 +1,10 @@
 -- What the functions of `tables` find and leave, in the paper's rows. Assumes nothing.
-use Rattle.std.specs.Prelude.{◌≡◌, refl, Bool, true, false, not, ◌&&◌, List, [], ◌∷◌, ◌++◌, map, ℕ, suc, ◌≤◌, ◌<◌, ◌+◌, eqb, length}
+use Rattle.std.specs.Prelude.{◌≡◌, refl, Bool, true, false, not, ◌&&◌, List, [], ◌∷◌, ◌++◌, map, ℕ, suc, ◌≤◌, ◌<◌, ◌+◌, eqb, length, None, Option, Some, is_none, unwrap_or, is_some}
 use Rattle.std.proofs.Common.{sym, ap, ap₂, ◌∙◌, zero-add, arith, length-append}
 use Rattle.std.proofs.lemmas.List.{length-map}
 use Rattle.tables.specs.Rows.{rows}
-use Rattle.tables.specs.Find.{absent, find_from, has_address, has_fingerprint, caches, same}
+use Rattle.tables.specs.Find.{find_from, has_address, has_fingerprint, caches, same}
 use Rattle.tables.specs.Index.{unknown_in}
-use Rattle.tables.specs.declared.Found.{Found}
-use Rattle.tables.specs.declared.Found.TheVariants.{At, Nothing}
 use Rattle.tables.specs.Records.{address_bytes, block_bytes, free_row, read_address, read_block}
 use Rattle.tables.specs.Records as R
 use Rattle.tables.proofs.OperationLaws.{map-++}
@@ -54,20 +52,16 @@ rows-blocks d t free used h =
 
 -- ---- searches
 
-abbrev pub placed : Found → ℕ → ℕ
-placed (At i) n = i
-placed Nothing n = n
-
-pub placed-index : {A : Type 0} (p : A → Bool) (k : ℕ) (l : List A) → placed (find_from p k l) (k + length l) ≡ k + index_where p l
+pub placed-index : {A : Type 0} (p : A → Bool) (k : ℕ) (l : List A) → unwrap_or (find_from p k l) (k + length l) ≡ k + index_where p l
 unfolding find_from index_where
 placed-index p k [] = refl
 placed-index p k (x ∷ xs) =
     by-test (p x) (λ e. rw e (omega arith))
-    (λ e. rw e ((let z : k + suc (length xs) ≡ suc k + length xs = omega arith in ap (placed (find_from p (suc k) xs)) z) ∙ placed-index p (suc k) xs
+    (λ e. rw e ((let z : k + suc (length xs) ≡ suc k + length xs = omega arith in ap (unwrap_or (find_from p (suc k) xs)) z) ∙ placed-index p (suc k) xs
     ∙ omega arith))
 
-pub placed_first : {A : Type 0} (p : A → Bool) (l : List A) → placed (find_from p 0 l) (length l) ≡ index_where p l
-placed_first p l = ap (placed (find_from p 0 l)) (sym (zero-add (length l))) ∙ placed-index p 0 l ∙ zero-add (index_where p l)
+pub placed_first : {A : Type 0} (p : A → Bool) (l : List A) → unwrap_or (find_from p 0 l) (length l) ≡ index_where p l
+placed_first p l = ap (unwrap_or (find_from p 0 l)) (sym (zero-add (length l))) ∙ placed-index p 0 l ∙ zero-add (index_where p l)
 
 eqb_comm : (m n : ℕ) → eqb m n ≡ eqb n m
 eqb_comm m n = by-test (eqb m n) (λ e. e ∙ sym (ap (λ (k : ℕ). eqb n k) (eqb→≡ m n e) ∙ eqb-self n)) (λ e. e ∙ sym (eqb_swap m n e))
@@ -102,22 +96,18 @@ has-used g f e u =
     ap (λ (k : ℕ). eqb k 1 && same (read_block (used_bytes u)).fingerprint g) (flag-used u)
     ∙ ap (λ (x : List ℕ). same x g) (fp-used u) ∙ same-is u.fingerprint.0 g ∙ ap (λ (x : List ℕ). same x u.fingerprint.0) (sym e)
 
-abbrev pub is_at : Found → Bool
-is_at (At i) = true
-is_at Nothing = false
-
-pub absent-is : (f : Found) → absent f ≡ not (is_at f)
-absent-is (At i) = refl
-absent-is Nothing = refl
+pub absent-is : (f : Option ℕ) → is_none f ≡ not (is_some f)
+absent-is (Some i) = refl
+absent-is None = refl
 
 found-has : {K A : Type 0} (same : K → K → Bool) (key : A → K) (k : K) (p : List ℕ → Bool) (f : A → List ℕ) → ((x : A) → p (f x) ≡ same k (key x))
-    → (j : ℕ) (l : List A) → is_at (find_from p j (map f l)) ≡ has same key k l
+    → (j : ℕ) (l : List A) → is_some (find_from p j (map f l)) ≡ has same key k l
 unfolding find_from
 found-has same key k p f e j [] = refl
 found-has same key k p f e j (x ∷ xs) = rw (e x) (by-test (same k (key x)) (λ y. rw y refl) (λ y. rw y (found-has same key k p f e (suc j) xs)))
 
 pub used-has : (g : List ℕ) (q : Fixed 32) → q.0 ≡ g → (j : ℕ) (l : List (BlockRow (Fixed 32)))
-    → is_at (find_from (caches g) j (map used_bytes l)) ≡ cached (comparing) q l
+    → is_some (find_from (caches g) j (map used_bytes l)) ≡ cached (comparing) q l
 used-has g q eq j l = found-has comparing.same (λ u. u.fingerprint) q (caches g) used_bytes (has-used g q eq) j l
 
 none_free : (g : List ℕ) (l : List ℕ) → All (λ x. caches g x ≡ false) (map free_bytes l)
@@ -129,29 +119,29 @@ all_any [] = tt
 all_any (x ∷ xs) = (tt, all_any xs)
 
 -- find_address, find_fingerprint, find_cached
-pub addr-index : (P m n : ℕ) (t : List ℕ) (l : List (AddressRow (Fixed 32))) → Addrs P m n t l → (a : ℕ) (f : Found)
-    → find_from (has_address a) 0 (rows n t) ≡ f → placed f n ≡ index_where (λ x. eqb a x.address) l
+pub addr-index : (P m n : ℕ) (t : List ℕ) (l : List (AddressRow (Fixed 32))) → Addrs P m n t l → (a : ℕ) (f : Option ℕ)
+    → find_from (has_address a) 0 (rows n t) ≡ f → unwrap_or f n ≡ index_where (λ x. eqb a x.address) l
 addr-index P m n t l h a f e =
-    ap (λ (y : Found). placed y n) (sym e ∙ ap (find_from (has_address a) 0) (rows-addrs P m n t l h))
-    ∙ ap (placed (find_from (has_address a) 0 (map addr_bytes l))) (sym (length-map l addr_bytes ∙ h.count))
+    ap (λ (y : Option ℕ). unwrap_or y n) (sym e ∙ ap (find_from (has_address a) 0) (rows-addrs P m n t l h))
+    ∙ ap (unwrap_or (find_from (has_address a) 0 (map addr_bytes l))) (sym (length-map l addr_bytes ∙ h.count))
     ∙ placed_first (has_address a) (map addr_bytes l)
     ∙ index-map addr_bytes (has_address a) (λ x. eqb a x.address) (λ r. r.address < P) (has-addr a P h.small) l h.below
 
 pub block-index : (d : ℕ) (t : List ℕ) (free : List ℕ) (used : List (BlockRow (Fixed 32))) → Blocks d t free used → (g : List ℕ) (q : Fixed 32) → q.0 ≡ g
-    → (f : Found) → find_from (caches g) 0 (rows d t) ≡ f
-    → placed f d ≡ length free + index_where (λ u. comparing.same q u.fingerprint) used
+    → (f : Option ℕ) → find_from (caches g) 0 (rows d t) ≡ f
+    → unwrap_or f d ≡ length free + index_where (λ u. comparing.same q u.fingerprint) used
 block-index d t free used h g q eq f e =
-    ap (λ (y : Found). placed y d) (sym e ∙ ap (find_from (caches g) 0) (rows-blocks d t free used h))
-    ∙ ap (placed (find_from (caches g) 0 (map free_bytes free ++ map used_bytes used))) (sym (length-blocks free used ∙ h.count))
+    ap (λ (y : Option ℕ). unwrap_or y d) (sym e ∙ ap (find_from (caches g) 0) (rows-blocks d t free used h))
+    ∙ ap (unwrap_or (find_from (caches g) 0 (map free_bytes free ++ map used_bytes used))) (sym (length-blocks free used ∙ h.count))
     ∙ placed_first (caches g) (map free_bytes free ++ map used_bytes used)
     ∙ index-none (caches g) (map free_bytes free) (map used_bytes used) (none_free g free)
     ∙ ap₂ ◌+◌ (length-map free free_bytes) (index-map used_bytes (caches g) (λ u. comparing.same q u.fingerprint) (λ r. Unit {0})
     (λ r u. has-used g q eq r) used (all_any used))
 
-pub fp-known : (P m n : ℕ) (t : List ℕ) (l : List (AddressRow (Fixed 32))) → Addrs P m n t l → (g : List ℕ) (q : Fixed 32) → q.0 ≡ g → (f : Found)
-    → find_from (has_fingerprint g) 0 (rows n t) ≡ f → is_at f ≡ known (comparing) q l
+pub fp-known : (P m n : ℕ) (t : List ℕ) (l : List (AddressRow (Fixed 32))) → Addrs P m n t l → (g : List ℕ) (q : Fixed 32) → q.0 ≡ g → (f : Option ℕ)
+    → find_from (has_fingerprint g) 0 (rows n t) ≡ f → is_some f ≡ known (comparing) q l
 fp-known P m n t l h g q eq f e =
-    ap is_at (sym e ∙ ap (find_from (has_fingerprint g) 0) (rows-addrs P m n t l h))
+    ap is_some (sym e ∙ ap (find_from (has_fingerprint g) 0) (rows-addrs P m n t l h))
     ∙ found-has comparing.same (λ r. r.fingerprint) q (has_fingerprint g) addr_bytes (has-fp g q eq) 0 l
 
 -- a used block row's fingerprint is that of none of the rows l
@@ -159,29 +149,29 @@ row-unknown : (l : List (AddressRow (Fixed 32))) (u : BlockRow (Fixed 32))
     → unknown_in (map addr_bytes l) (used_bytes u) ≡ not (known comparing u.fingerprint l)
 row-unknown l u =
     let g = (read_block (used_bytes u)).fingerprint in
-    ap (λ (k : ℕ). eqb k 1 && absent (find_from (has_fingerprint g) 0 (map addr_bytes l))) (flag-used u)
+    ap (λ (k : ℕ). eqb k 1 && is_none (find_from (has_fingerprint g) 0 (map addr_bytes l))) (flag-used u)
     ∙ absent-is (find_from (has_fingerprint g) 0 (map addr_bytes l))
     ∙ ap not (found-has comparing.same (λ r. r.fingerprint) u.fingerprint (has_fingerprint g) addr_bytes (has-fp g u.fingerprint (sym (fp-used u))) 0 l)
 
 -- the first such row
 pub unknown-first : (l : List (AddressRow (Fixed 32))) (d : ℕ) (bt : List ℕ) (used : List (BlockRow (Fixed 32))) → Blocks d bt [] used
-    → placed (find_from (unknown_in (map addr_bytes l)) 0 (rows d bt)) d ≡ index_where (λ u. not (known comparing u.fingerprint l)) used
+    → unwrap_or (find_from (unknown_in (map addr_bytes l)) 0 (rows d bt)) d ≡ index_where (λ u. not (known comparing u.fingerprint l)) used
 unknown-first l d bt used hb =
     let p = unknown_in (map addr_bytes l) in
-    ap (λ (r : List (List ℕ)). placed (find_from p 0 r) d) (rows-blocks d bt [] used hb)
-    ∙ ap (placed (find_from p 0 (map used_bytes used))) (sym (length-blocks [] used ∙ hb.count))
+    ap (λ (r : List (List ℕ)). unwrap_or (find_from p 0 r) d) (rows-blocks d bt [] used hb)
+    ∙ ap (unwrap_or (find_from p 0 (map used_bytes used))) (sym (length-blocks [] used ∙ hb.count))
     ∙ placed_first p (map used_bytes used)
     ∙ index-map used_bytes p (λ u. not (known comparing u.fingerprint l)) (λ u. Unit {0}) (λ u y. row-unknown l u) used (all_any used)
 
 -- the rows xs in front do not pass
-found-past : {A : Type 0} (p : A → Bool) (xs ys : List A) (b : Bool) → All (λ x. p x ≡ false) xs → ((i : ℕ) → is_at (find_from p i ys) ≡ b) → (j : ℕ)
-    → is_at (find_from p j (xs ++ ys)) ≡ b
+found-past : {A : Type 0} (p : A → Bool) (xs ys : List A) (b : Bool) → All (λ x. p x ≡ false) xs → ((i : ℕ) → is_some (find_from p i ys) ≡ b) → (j : ℕ)
+    → is_some (find_from p j (xs ++ ys)) ≡ b
 unfolding find_from
 found-past p [] ys b q f j = f j
 found-past p (x ∷ xs) ys b q f j = rw q.0 (found-past p xs ys b q.1 f (suc j))
 
 pub fp-cached : (d : ℕ) (t : List ℕ) (free : List ℕ) (used : List (BlockRow (Fixed 32))) → Blocks d t free used → (g : List ℕ) (q : Fixed 32) → q.0 ≡ g
-    → is_at (find_from (caches g) 0 (rows d t)) ≡ cached (comparing) q used
+    → is_some (find_from (caches g) 0 (rows d t)) ≡ cached (comparing) q used
 fp-cached d t free used h g q eq =
-    ap (λ (l : List (List ℕ)). is_at (find_from (caches g) 0 l)) (rows-blocks d t free used h)
+    ap (λ (l : List (List ℕ)). is_some (find_from (caches g) 0 l)) (rows-blocks d t free used h)
     ∙ found-past (caches g) (map free_bytes free) (map used_bytes used) (cached (comparing) q used) (none_free g free) (λ i. used-has g q eq i used) 0

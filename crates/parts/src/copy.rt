@@ -121,13 +121,11 @@ pub fn flush_rows(
         → record { count = result; disk = disk.new; addrs = addrs.new } ≡ copied_rows b (λ f. true) s (reach (engine b) k s.rows) }
 {
     let mut count = 0;
-    let mut i = 0;
-    while i < b.held {
+    for i in 0..b.held {
         if k <= count {
             return count;
         }
         count += flush_row(b, i, disk, flash, addrs, blocks, heads);
-        i += 1;
     }
     count
 }
@@ -191,10 +189,8 @@ pub fn clean_rows(
         → record { count = result; disk = disk.new; addrs = addrs.new } ≡ copied_rows b ((engine b).same v) s b.held }
 {
     let mut count = 0;
-    let mut i = 0;
-    while i < b.held {
+    for i in 0..b.held {
         count += clean_row(b, i, disk, flash, addrs, blocks, g, slot);
-        i += 1;
     }
     count
 }

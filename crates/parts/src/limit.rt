@@ -16,9 +16,7 @@ pub fn excess_row(b: BoxRecord, addrs: &[u8]) -> usize
     }
     let mut oldest = b.held;
     let mut count = 0;
-    let mut i = b.held;
-    while 0 < i {
-        i -= 1;
+    for i in (0..b.held).rev() {
         if row::is_dirty(addrs, i) {
             oldest = i;
             count += 1;

@@ -1,5 +1,5 @@
 // What the steps ask of the two tables, in the paper's words: an index is that of the first row that passes, or the count of rows.
-ghost use Rattle.std.specs.Prelude.{◌≡◌, true, not, cond, List, [], ℕ, ◌+◌, ◌<◌, ◌≤◌, length, take, get_or, eqb, ltb};
+ghost use Rattle.std.specs.Prelude.{◌≡◌, true, not, cond, List, [], ℕ, ◌+◌, ◌<◌, ◌≤◌, length, take, get_or, eqb, ltb, unwrap_or, is_some};
 ghost use Rattle.tables.specs.Rows.{row_at, rows, table_bytes};
 ghost use Rattle.tables.specs.Find.{find_from, every, all, has_address, has_fingerprint, caches, is_dirty, is_used};
 ghost use Rattle.tables.specs.Index.{Indexed, unique, cached_in, unknown_in};
@@ -10,49 +10,39 @@ ghost use Rattle.parts.specs.Rep.{Sized, no_row};
 ghost use Rattle.paper.specs.Index.{index_where};
 ghost use Rattle.paper.specs.Layout.{Addrs, Blocks};
 ghost use Rattle.parts.specs.Asked.{or_first, victim_place, full};
-ghost use Rattle.parts.specs.TableLaws.{placed, is_at};
 ghost use Rattle.tables.specs.Records.{read_address};
 
 use crate::BoxRecord;
-use tables::{Found, SourceAddress, find, row};
+use tables::{SourceAddress, find, row};
 
 // The index of the row of `a` among `n` held rows.
 pub fn row_of(t: &[u8], n: usize, a: SourceAddress) -> usize
     requires { table_bytes n ≤ length t.now }
-    ensures value { result ≡ placed (find_from (has_address a.0) 0 (rows n t.now)) n }
+    ensures value { result ≡ unwrap_or (find_from (has_address a.0) 0 (rows n t.now)) n }
     ensures by_index { (P m : ℕ) (rows : List (AddressRow (Fixed 32))) → Addrs P m n t.now rows → result
         ≡ index_where (λ x. eqb a.0 x.address) rows }
 {
-    match find::find_address(t, n, a) {
-        Found::At(i) => i,
-        Found::Nothing => n,
-    }
+    find::find_address(t, n, a).unwrap_or(n)
 }
 
 // Whether one of `n` held rows has the fingerprint `g`.
 pub fn knows(t: &[u8], n: usize, g: &[u8]) -> bool
     requires { (table_bytes n ≤ length t.now) × (length g.now ≡ 32) }
-    ensures value { result ≡ is_at (find_from (has_fingerprint g.now) 0 (rows n t.now)) }
+    ensures value { result ≡ is_some (find_from (has_fingerprint g.now) 0 (rows n t.now)) }
     ensures by_index { (P m : ℕ) (rows : List (AddressRow (Fixed 32))) (f : Fixed 32) → Addrs P m n t.now rows → f.0 ≡ g.now → result
         ≡ known (comparing) f rows }
 {
-    match find::find_fingerprint(t, n, g) {
-        Found::At(_) => true,
-        Found::Nothing => false,
-    }
+    find::find_fingerprint(t, n, g).is_some()
 }
 
 // The place of the used row of `g` among `d` block rows.
 pub fn place_of(t: &[u8], d: usize, g: &[u8]) -> usize
     requires { (table_bytes d ≤ length t.now) × (length g.now ≡ 32) }
-    ensures value { result ≡ placed (find_from (caches g.now) 0 (rows d t.now)) d }
+    ensures value { result ≡ unwrap_or (find_from (caches g.now) 0 (rows d t.now)) d }
     ensures by_index { (free : List ℕ) (used : List (BlockRow (Fixed 32))) (f : Fixed 32) → Blocks d t.now free used → f.0 ≡ g.now → result
         ≡ length free + index_where (λ u. comparing.same f u.fingerprint) used }
 {
-    match find::find_cached(t, d, g) {
-        Found::At(i) => i,
-        Found::Nothing => d,
-    }
+    find::find_cached(t, d, g).unwrap_or(d)
 }
 
 // Whether one of the first `k` held rows has a fingerprint that is not cached.
@@ -71,14 +61,11 @@ pub(crate) fn unknown_place(addrs: &[u8], n: usize, blocks: &[u8], d: usize, hea
     requires blocks_len { (length blocks.now ≡ table_bytes d) × (d ≤ 256) × (table_bytes n ≤ length addrs.now) }
     requires blocks_value { every unique (rows d blocks.now) ≡ true }
     requires indexed { Indexed d blocks.now heads.now }
-    ensures value { result ≡ placed (find_from (unknown_in (rows n addrs.now)) 0 (rows d blocks.now)) d }
+    ensures value { result ≡ unwrap_or (find_from (unknown_in (rows n addrs.now)) 0 (rows d blocks.now)) d }
     ensures by_index { (P m : ℕ) (rows : List (AddressRow (Fixed 32))) (used : List (BlockRow (Fixed 32))) → Addrs P m n addrs.now rows
         → Blocks d blocks.now [] used → result ≡ index_where (λ u. not (known comparing u.fingerprint rows)) used }
 {
-    match checks::known::oldest_unknown(addrs, n, blocks, d, heads) {
-        Found::At(j) => j,
-        Found::Nothing => d,
-    }
+    checks::known::oldest_unknown(addrs, n, blocks, d, heads).unwrap_or(d)
 }
 
 // The place of the block row that step 4 takes.
@@ -87,7 +74,7 @@ pub fn victim(addrs: &[u8], n: usize, blocks: &[u8], d: usize, heads: &[u16]) ->
     requires blocks_value { every unique (rows d blocks.now) ≡ true }
     requires indexed { full blocks.now ≡ true → Indexed d blocks.now heads.now }
     ensures upper_bound { result < d }
-    ensures value { result ≡ cond (is_used (row_at blocks.now 0)) (or_first (placed (find_from (unknown_in (rows n addrs.now)) 0
+    ensures value { result ≡ cond (is_used (row_at blocks.now 0)) (or_first (unwrap_or (find_from (unknown_in (rows n addrs.now)) 0
         (rows d blocks.now)) d) d) 0 }
     ensures by_index { (P m : ℕ) (rows : List (AddressRow (Fixed 32))) (free : List ℕ) (used : List (BlockRow (Fixed 32)))
         → Addrs P m n addrs.now rows → Blocks d blocks.now free used → result ≡ victim_place rows free used }
@@ -108,7 +95,7 @@ pub fn fp_at(t: &[u8], i: usize) -> [u8; 32]
     ensures { (length result ≡ 32) × (result ≡ (read_address (row_at t.now i)).fingerprint) }
 {
     let mut g = [0u8; 32];
-    block::copy_all(row::address_fingerprint(t, i), &mut g);
+    g.copy_from_slice(row::address_fingerprint(t, i));
     g
 }
 
@@ -117,16 +104,13 @@ pub fn dirty_at(t: &[u8], i: usize) -> u8
     requires { table_bytes (i + 1) ≤ length t.now }
     ensures { result ≡ bit (is_dirty (row_at t.now i)) }
 {
-    if row::is_dirty(t, i) {
-        return 1;
-    }
-    0
+    u8::from(row::is_dirty(t, i))
 }
 
 // The place of the block row of row `i`'s fingerprint, the count of block rows where there is no row `i` or it is not cached.
 pub fn place_of_row(b: BoxRecord, i: usize, addrs: &[u8], blocks: &[u8]) -> usize
     requires { Sized b addrs.now blocks.now }
-    ensures value { result ≡ cond (ltb i b.held) (placed (find_from (caches (read_address (row_at addrs.now i)).fingerprint) 0
+    ensures value { result ≡ cond (ltb i b.held) (unwrap_or (find_from (caches (read_address (row_at addrs.now i)).fingerprint) 0
         (rows b.slots blocks.now)) b.slots) b.slots }
     ensures by_index { (P m : ℕ) (rows : List (AddressRow (Fixed 32))) (free : List ℕ) (used : List (BlockRow (Fixed 32)))
         → Addrs P m b.held addrs.now rows → Blocks b.slots blocks.now free used

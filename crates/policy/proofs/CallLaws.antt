@@ -1,4 +1,5 @@
 -- A call that is not refused, from what its refusal says and what its steps leave. Assumes nothing.
+use Rattle.std.specs.Prelude.{Ok}
 use Rattle.std.specs.Prelude.{◌≡◌, Bool, true, false, ◌&&◌, List, [], ◌∷◌, ℕ, suc, ◌≤◌, ◌<◌, ◌+◌, ◌*◌, ◌^◌, eqb, length, get_or}
 use Rattle.std.proofs.Math.Path.{refl, sym, ap, ◌∙◌}
 use Rattle.std.proofs.Common.{subst, arith, leb-false, eqb-true}
@@ -24,7 +25,6 @@ use Rattle.paper.specs.Layout.{addresses_of, blocks_of}
 use Rattle.paper.proofs.LayoutLaws.{passes-addrs, passes-blocks, passes-flash, passes-disk}
 use Rattle.parts.specs.declared.BoxRecord.{BoxRecord}
 use Rattle.policy.specs.declared.Word as CodeWord
-use Rattle.policy.specs.declared.Answer.TheVariants.{Refused, Answered}
 use Rattle.parts.specs.Rep.{numbers_of, Sized, Rep, with_held, engine}
 use Rattle.step.specs.Steps.{Out4, out4, Sure}
 use Rattle.serve.specs.declared.Served as CodeServed
@@ -43,7 +43,7 @@ module _ (b : BoxRecord) (disk flash addrs blocks : List ℕ) (c : Code.Counters
       (box_in (numbers_of b) (lent b disk flash addrs blocks (counters_of c))) (writing kind a (fit b.size l) (bytes2 z)))
       → word_of w ≡ cond r.yes same_block new_block
       → told (record {
-        answer = Answered w r.flashed r.primary;
+        answer = Ok (record { word = w; flashed = r.flashed; primary = r.primary });
         box_record = with_held b r.held;
         counters = added c 0 0 r.flashed r.primary;
       }) disk' flash' addrs' blocks' (some l)

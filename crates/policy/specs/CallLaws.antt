@@ -1,5 +1,5 @@
 -- A call that is not refused, from what its refusal says and what its steps leave. Assumes nothing.
-use Rattle.std.specs.Prelude.{◌≡◌, Bool, true, false, ◌&&◌, List, [], ◌∷◌, ℕ, suc, ◌≤◌, ◌<◌, ◌+◌, ◌*◌, ◌^◌, eqb, length, get_or}
+use Rattle.std.specs.Prelude.{◌≡◌, Bool, true, false, ◌&&◌, List, [], ◌∷◌, ℕ, suc, ◌≤◌, ◌<◌, ◌+◌, ◌*◌, ◌^◌, eqb, length, get_or, Ok, Err}
 use Rattle.std.proofs.Math.Path.{refl, sym, ap, ◌∙◌}
 use Rattle.std.proofs.Common.{subst, arith, leb-false, eqb-true}
 use Rattle.std.proofs.Math.Bool.{cond}
@@ -24,7 +24,9 @@ use Rattle.paper.specs.Layout.{addresses_of, blocks_of}
 use Rattle.paper.proofs.LayoutLaws.{passes-addrs, passes-blocks, passes-flash, passes-disk}
 use Rattle.parts.specs.declared.BoxRecord.{BoxRecord}
 use Rattle.policy.specs.declared.Word as CodeWord
-use Rattle.policy.specs.declared.Answer.TheVariants.{Refused, Answered}
+use Rattle.refusal.specs.declared.Refusal.{Refusal}
+use Rattle.refusal.specs.Numbers.{code}
+use Rattle.refusal.specs.Numbers as Refusals
 use Rattle.parts.specs.Rep.{numbers_of, Sized, Rep, with_held, engine}
 use Rattle.step.specs.Steps.{Out4, out4, Sure}
 use Rattle.serve.specs.declared.Served as CodeServed
@@ -108,7 +110,7 @@ module _ (b : BoxRecord) (disk flash addrs blocks : List ℕ) (k : Counters) (q 
       → h ≡ one_if (is_hit (outcome (numbers_of b) (lent b disk flash addrs blocks k) q).word)
       → one ≡ block_after q (outcome (numbers_of b) (lent b disk flash addrs blocks k) q).block
       → part_after q (outcome (numbers_of b) (lent b disk flash addrs blocks k) q).block ≡ []
-      → told (record { answer = Answered w f p; box_record = with_held b held; counters = added c r h f p }) disk' flash' addrs' blocks' one
+      → told (record { answer = Ok (record { word = w; flashed = f; primary = p }); box_record = with_held b held; counters = added c r h f p }) disk' flash' addrs' blocks' one
       ≡ called b (lent b disk flash addrs blocks k) q
   unfolding leaves out4 addresses_of blocks_of lent_of served counted
   finish w said held f p r h c own disk' flash' addrs' blocks' block' one ek x ew er eh eo ep =
@@ -140,16 +142,16 @@ module _ (b : BoxRecord) (disk flash addrs blocks : List ℕ) (k : Counters) (q 
       (λ i. record { numbers = N; after = last i })
 
 -- a refused call
-pub keep : (b : BoxRecord) (disk flash addrs blocks : List ℕ) (c : Code.Counters) (q : Ask) (number : ℕ)
-    → number ≡ refusal (numbers_of b) (lent b disk flash addrs blocks (counters_of c)) (calling q) → (number ≡ 0 → ⊥)
+pub keep : (b : BoxRecord) (disk flash addrs blocks : List ℕ) (c : Code.Counters) (q : Ask) (r : Refusal)
+    → code r ≡ refusal (numbers_of b) (lent b disk flash addrs blocks (counters_of c)) (calling q)
     → (one : Option (List ℕ)) → one ≡ lent_block q
-    → told (record { answer = Refused number; box_record = b; counters = c }) disk flash addrs blocks one
+    → told (record { answer = Err r; box_record = b; counters = c }) disk flash addrs blocks one
     ≡ called b (lent b disk flash addrs blocks (counters_of c)) q
 unfolding Rattle.paper.specs.Lent.kept
-keep b disk flash addrs blocks c q number e n one eo =
+keep b disk flash addrs blocks c q r e one eo =
     let N = numbers_of b in
     let t = lent b disk flash addrs blocks (counters_of c) in
-    let last = sym (refused-keeps N t q (λ z. n (e ∙ z))) in
+    let last = sym (refused-keeps N t q (λ z. Refusals.refused r (e ∙ z))) in
     ◌∙◌ {A = Told}
     (λ i. record { numbers = N; after = record { answer = Rattle.paper.specs.Lent.refused (e i); lent = t; block = eo i; part = [] } })
     (λ i. record { numbers = N; after = last i })

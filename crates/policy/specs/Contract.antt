@@ -1,18 +1,17 @@
 -- What the calls promise: the code's types in the paper's words.
 -- Assumes nothing.
-use Rattle.std.specs.Prelude.{List, [], ℕ}
+use Rattle.std.specs.Prelude.{List, [], ℕ, Result, Ok, Err}
 use Rattle.std.proofs.Math.Option.{Option}
 use Rattle.parts.specs.declared.BoxRecord.{BoxRecord}
 use Rattle.parts.specs.Rep.{numbers_of}
 use Rattle.refusals.specs.Given.{counters_of, lent}
 use Rattle.policy.specs.declared.Word as CodeWord
 use Rattle.policy.specs.declared.Word.TheVariants.{Hit, Miss, Same, New, Cache, Disk, Done}
-use Rattle.policy.specs.declared.Answer as CodeAnswer
-use Rattle.policy.specs.declared.Answer.TheVariants.{Refused, Answered}
-use Rattle.policy.specs.declared.calls.Outcome.{Outcome}
-use Rattle.policy.specs.declared.many.Answer as ManyAnswer
-use Rattle.policy.specs.declared.many.Answer.TheVariants as Many
-use Rattle.policy.specs.declared.many.Outcome as ManyOutcome
+use Rattle.policy.specs.declared.Answered.{Answered}
+use Rattle.policy.specs.declared.Batch.{Batch}
+use Rattle.refusal.specs.declared.Refusal.{Refusal}
+use Rattle.refusal.specs.Numbers.{code}
+use Rattle.outcome.specs.declared.Outcome.{Outcome}
 use Rattle.serve.specs.declared.Write.{Write}
 use Rattle.serve.specs.declared.Write.TheVariants.{Through, Back, Invalidate}
 use Rattle.paper.specs.Cache.{Numbers, Word, hit, miss, same_block, new_block, from_cache, from_disk, done}
@@ -29,16 +28,16 @@ word_of Cache = from_cache
 word_of Disk = from_disk
 word_of Done = done
 
-abbrev pub answer_of : CodeAnswer.Answer → Answer
-answer_of (Refused k) = refused k
-answer_of (Answered w f p) = answered (word_of w) f p
+abbrev pub answer_of : Result Answered Refusal → Answer
+answer_of (Err r) = refused (code r)
+answer_of (Ok a) = answered (word_of a.word) a.flashed a.primary
 
 -- what a call tells and leaves: the numbers of its box record, its answer, what is lent, the one block and a look's part
 pub record Told : Type 0 where
   pub numbers : Numbers
   pub after : After
 
-abbrev pub told : Outcome → (disk flash addresses blocks : List ℕ) → Option (List ℕ) → Told
+abbrev pub told : Outcome Answered BoxRecord → (disk flash addresses blocks : List ℕ) → Option (List ℕ) → Told
 told r disk flash addresses blocks block =
     record {
       numbers = numbers_of r.box_record;
@@ -62,16 +61,16 @@ ask_of Invalidate a l z = Ask.invalidate a l z
 
 -- ---- a folder read
 
-abbrev pub many_answer_of : ManyAnswer.Answer → BatchAnswer
-many_answer_of (Many.Refused k) = BatchAnswer.refused k
-many_answer_of (Many.Batched h f p n) = batched h f p n
+abbrev pub many_answer_of : Result Batch Refusal → BatchAnswer
+many_answer_of (Err r) = BatchAnswer.refused (code r)
+many_answer_of (Ok a) = batched a.hits a.flashed a.primary a.fetches
 
 -- what it tells and leaves: the numbers of its box record, its answer, what is lent and the buffer
 pub record ToldMany : Type 0 where
   pub numbers : Numbers
   pub after : BatchAfter
 
-abbrev pub told_many : ManyOutcome.Outcome → (disk flash addresses blocks buffer : List ℕ) → ToldMany
+abbrev pub told_many : Outcome Batch BoxRecord → (disk flash addresses blocks buffer : List ℕ) → ToldMany
 told_many r disk flash addresses blocks buffer =
     record {
       numbers = numbers_of r.box_record;

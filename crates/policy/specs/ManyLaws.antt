@@ -1,5 +1,5 @@
 -- A folder read that is not refused, from what its refusal says and what its turns leave. Assumes nothing.
-use Rattle.std.specs.Prelude.{◌≡◌, refl, false, List, [], ◌∷◌, ℕ, zero, suc, ◌+◌, ◌*◌, ◌<◌, ◌≤◌, ◌^◌, eqb, length, get_or}
+use Rattle.std.specs.Prelude.{◌≡◌, refl, false, List, [], ◌∷◌, ℕ, zero, suc, ◌+◌, ◌*◌, ◌<◌, ◌≤◌, ◌^◌, eqb, length, get_or, Ok, Err}
 use Rattle.std.proofs.Common.{sym, ◌∙◌, le_of_suc-le-suc, arith, take_all, ne_eqb}
 use Rattle.counters.specs.declared.Counters as Code
 use Rattle.counters.specs.Added.{added}
@@ -21,7 +21,8 @@ use Rattle.serve.specs.Calls.{LentSound}
 use Rattle.refusals.specs.Given.{counters_of, lent}
 use Rattle.turns.specs.declared.Sums.{Sums}
 use Rattle.turns.specs.Turns.{Turned}
-use Rattle.policy.specs.declared.many.Answer.TheVariants.{Refused, Batched}
+use Rattle.refusal.specs.declared.Refusal.{Refusal}
+use Rattle.refusal.specs.Numbers.{code, refused}
 use Rattle.policy.specs.Contract.{ToldMany, told_many, called_many}
 use Rattle.policy.specs.CallLaws.{passes-rep}
 
@@ -46,14 +47,14 @@ module _ (b : BoxRecord) (disk flash addresses blocks : List ℕ) (k : Counters)
       go (x ∷ xs) w (suc j) h = go xs w.1 j (le_of_suc-le-suc h)
 
 -- a refused one
-pub keep : (b : BoxRecord) (disk flash addresses blocks : List ℕ) (c : Code.Counters) (l buffer : List ℕ) (n : ℕ)
-    → n ≡ batch_refusal (numbers_of b) (lent b disk flash addresses blocks (counters_of c)) l buffer → (n ≡ 0 → ⊥)
-    → told_many (record { answer = Refused n; box_record = b; counters = c }) disk flash addresses blocks buffer
+pub keep : (b : BoxRecord) (disk flash addresses blocks : List ℕ) (c : Code.Counters) (l buffer : List ℕ) (n : Refusal)
+    → code n ≡ batch_refusal (numbers_of b) (lent b disk flash addresses blocks (counters_of c)) l buffer
+    → told_many (record { answer = Err n; box_record = b; counters = c }) disk flash addresses blocks buffer
     ≡ called_many b (lent b disk flash addresses blocks (counters_of c)) l buffer
 unfolding call_batch
-keep b disk flash addresses blocks c l buffer n e q =
+keep b disk flash addresses blocks c l buffer n e =
     let r = batch_refusal (numbers_of b) (lent b disk flash addresses blocks (counters_of c)) l buffer in
-    let w : eqb r 0 ≡ false = ne_eqb r 0 (λ y. q (e ∙ y)) in
+    let w : eqb r 0 ≡ false = ne_eqb r 0 (λ y. refused n (e ∙ y)) in
     rw (w, e) refl
 
 -- the sums of 64 reads fit
@@ -75,7 +76,7 @@ pub finish : (b : BoxRecord) (disk flash addresses blocks : List ℕ) (c : Code.
     (batch (engine b) (numbers_of b) (start (box_in (numbers_of b) (lent b disk flash addresses blocks (counters_of c))) (counters_of c)) l)
     s disk' flash' addresses' blocks' buffer'
     → told_many (record {
-      answer = Batched s.hits s.flashed s.primary s.fetches;
+      answer = Ok (record { hits = s.hits; flashed = s.flashed; primary = s.primary; fetches = s.fetches });
       box_record = with_held b s.held;
       counters = added c (length l) s.hits s.flashed s.primary;
     }) disk' flash' addresses' blocks' buffer'

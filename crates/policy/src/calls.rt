@@ -1,5 +1,5 @@
 // The calls: each takes any numbers, any slices and any counters.
-ghost use Rattle.std.specs.Prelude.{◌≡◌, cond, ◌+◌, ◌<◌, ◌^◌};
+ghost use Rattle.std.specs.Prelude.{◌≡◌, cond, ◌+◌, ◌<◌, ◌^◌, Ok};
 ghost use Rattle.std.proofs.Math.Option.{Option};
 ghost use Rattle.tables.specs.Index.{Indexed};
 ghost use Rattle.parts.specs.Rep.{numbers_of, with_held};
@@ -8,48 +8,40 @@ ghost use Rattle.paper.specs.Lent.{Ask, calling, refusal};
 ghost use Rattle.counters.specs.Added.{added};
 ghost use Rattle.refusals.specs.Given.{lent, counters_of};
 ghost use Rattle.policy.specs.Contract.{told, called, word_of, ask_of};
-ghost use Rattle.policy.specs.declared.Answer.TheVariants.{Refused, Answered};
 
-use crate::{Answer, Word};
+use crate::{Answered, Word};
 use checks::index;
 use counters::Counters;
+use outcome::{Outcome, refused};
 use parts::BoxRecord;
 use serve::{Served, Write};
 use tables::SourceAddress;
 
-// What a call gives back: its answer, the box record and the counters.
-#[derive(Clone, Copy)]
-pub struct Outcome {
-    pub answer: Answer,
-    pub box_record: BoxRecord,
-    pub counters: Counters,
-}
-
-// A refusal: the number, and the rest as given.
-fn refused(number: u32, b: BoxRecord, c: Counters) -> Outcome
-    ensures { result ≡ record { answer = Refused number; box_record = b; counters = c } }
-{
-    Outcome {
-        answer: Answer::Refused(number),
-        box_record: b,
-        counters: c,
-    }
-}
-
 // What a served call gives back: its word, what it told, and the counters with its own counts.
-fn answered(b: BoxRecord, w: Word, s: Served, c: Counters, reads: u64, hits: u64) -> Outcome
+fn answered(
+    b: BoxRecord,
+    w: Word,
+    s: Served,
+    c: Counters,
+    reads: u64,
+    hits: u64,
+) -> Outcome<Answered, BoxRecord>
     requires { (c.reads + reads < 2 ^ 64) × (c.hits + hits < 2 ^ 64) × (c.flash + s.flashed < 2 ^ 64) × (c.primary + s.primary < 2 ^ 64) }
     ensures { result ≡ record {
-      answer = Answered w s.flashed s.primary;
+      answer = Ok (record { word = w; flashed = s.flashed; primary = s.primary });
       box_record = with_held b s.held;
       counters = added c reads hits s.flashed s.primary;
     } }
 {
     let k = counters::counted(c, reads, hits, s.flashed as u64, s.primary as u64);
-    let next = parts::with_held(b, s.held);
+    let answer = Answered {
+        word: w,
+        flashed: s.flashed,
+        primary: s.primary,
+    };
     Outcome {
-        answer: Answer::Answered(w, s.flashed, s.primary),
-        box_record: next,
+        answer: Ok(answer),
+        box_record: parts::with_held(b, s.held),
         counters: k,
     }
 }
@@ -58,30 +50,21 @@ fn answered(b: BoxRecord, w: Word, s: Served, c: Counters, reads: u64, hits: u64
 pub fn read_word(yes: bool) -> Word
     ensures { word_of result ≡ cond yes hit miss }
 {
-    if yes {
-        return Word::Hit;
-    }
-    Word::Miss
+    if yes { Word::Hit } else { Word::Miss }
 }
 
 // The word of a write.
 pub fn write_word(yes: bool) -> Word
     ensures { word_of result ≡ cond yes same_block new_block }
 {
-    if yes {
-        return Word::Same;
-    }
-    Word::New
+    if yes { Word::Same } else { Word::New }
 }
 
 // 1 for a hit.
 pub fn one_if(yes: bool) -> u64
     ensures { result ≡ cond yes 1 0 }
 {
-    if yes {
-        return 1;
-    }
-    0
+    u64::from(yes)
 }
 
 // Read `a` into the lent block.
@@ -94,15 +77,16 @@ pub fn read(
     blocks: &mut [u8],
     c: Counters,
     block: &mut [u8],
-) -> Outcome
+) -> Outcome<Answered, BoxRecord>
     ensures { told result disk.new flash.new addresses.new blocks.new (Option.some block.new)
         ≡ called b (lent b disk.old flash.old addresses.old blocks.old (counters_of c))
         (Ask.read a.0 block.old) }
 {
     let mut heads = [0u16; index::ENTRIES];
-    let number = refusals::of_access(b, a, disk, flash, addresses, blocks, c, block, &mut heads);
-    if number != 0 {
-        return refused(number, b, c);
+    if let Err(r) = refusals::of_access(
+        b, a, disk, flash, addresses, blocks, c, block, &mut heads,
+    ) {
+        return refused(r, b, c);
     }
     let s = serve::serve_read(b, a, disk, flash, addresses, blocks, block, &heads);
     answered(b, read_word(s.yes), s, c, 1, one_if(s.yes))
@@ -121,15 +105,16 @@ pub fn write(
     blocks: &mut [u8],
     c: Counters,
     block: &[u8],
-) -> Outcome
+) -> Outcome<Answered, BoxRecord>
     ensures { told result disk.new flash.new addresses.new blocks.new (Option.some block.now)
         ≡ called b (lent b disk.old flash.old addresses.old blocks.old (counters_of c))
         (ask_of kind a.0 block.now seat) }
 {
     let mut heads = [0u16; index::ENTRIES];
-    let number = refusals::of_access(b, a, disk, flash, addresses, blocks, c, block, &mut heads);
-    if number != 0 {
-        return refused(number, b, c);
+    if let Err(r) = refusals::of_access(
+        b, a, disk, flash, addresses, blocks, c, block, &mut heads,
+    ) {
+        return refused(r, b, c);
     }
     let s = serve::serve_write(
         kind, b, a, seat, disk, flash, addresses, blocks, block, &heads,
@@ -147,7 +132,7 @@ pub fn flush_served(
     blocks: &[u8],
     c: Counters,
     heads: &[u16],
-) -> Outcome
+) -> Outcome<Answered, BoxRecord>
     requires k_value { refusal (numbers_of b) (lent b disk.old flash.now addresses.old blocks.now (counters_of c)) (calling (Ask.flush k)) ≡ 0 }
     requires indexed { Indexed b.slots blocks.now heads.now }
     ensures { told result disk.new flash.now addresses.new blocks.now Option.none
@@ -166,14 +151,13 @@ pub fn flush_some(
     addresses: &mut [u8],
     blocks: &[u8],
     c: Counters,
-) -> Outcome
+) -> Outcome<Answered, BoxRecord>
     ensures { told result disk.new flash.now addresses.new blocks.now Option.none
         ≡ called b (lent b disk.old flash.now addresses.old blocks.now (counters_of c)) (Ask.flush k) }
 {
     let mut heads = [0u16; index::ENTRIES];
-    let number = refusals::of_flush(b, disk, flash, addresses, blocks, c, &mut heads);
-    if number != 0 {
-        return refused(number, b, c);
+    if let Err(r) = refusals::of_flush(b, disk, flash, addresses, blocks, c, &mut heads) {
+        return refused(r, b, c);
     }
     flush_served(b, k, disk, flash, addresses, blocks, c, &heads)
 }
@@ -186,7 +170,7 @@ pub fn flush(
     addresses: &mut [u8],
     blocks: &[u8],
     c: Counters,
-) -> Outcome
+) -> Outcome<Answered, BoxRecord>
     ensures { told result disk.new flash.now addresses.new blocks.now Option.none
         ≡ called b (lent b disk.old flash.now addresses.old blocks.now (counters_of c)) (Ask.flush b.rows) }
 {

@@ -16,9 +16,19 @@ pub enum Word {
     Done,
 }
 
-// An answer: the number of a refusal, or the word with the flash writes and the primary writes.
+// The answer of a served call: its word, the flash writes and the primary writes.
 #[derive(Clone, Copy)]
-pub enum Answer {
-    Refused(u32),
-    Answered(Word, usize, usize),
+pub struct Answered {
+    pub word: Word,
+    pub flashed: usize,
+    pub primary: usize,
+}
+
+// The answer of a served folder read: the hits, the flash writes, the primary writes and the fetches.
+#[derive(Clone, Copy)]
+pub struct Batch {
+    pub hits: usize,
+    pub flashed: usize,
+    pub primary: usize,
+    pub fetches: usize,
 }

@@ -1,17 +1,19 @@
 // What a line prints, put into the output. Each function gives the index after its text.
+// The output and the index stay two parameters: fixed memory, lent by the caller.
 #![tactic(auto)]
 
 ghost use Rattle.std.specs.Prelude.{◌++◌, ◌+◌, ◌≤◌, length};
 ghost use Rattle.lines.specs.Text.{ascii, decimal as decimal_of};
 ghost use Rattle.refusals.specs.Given.{counters_of};
 ghost use Rattle.policy.specs.Contract.{answer_of, word_of};
-ghost use Rattle.policy.specs.declared.Answer.TheVariants.{Refused, Answered};
+ghost use Rattle.refusal.specs.Numbers.{code};
 ghost use Rattle.print.specs.Put.{Put};
 ghost use Rattle.print.specs.Texts.{ask_text, word_text, counts_text, answer_text, counters_text};
 
 use counters::Counters;
 use lines::Command;
-use policy::{Answer, Word};
+use policy::{Answered, Word};
+use refusal::Refusal;
 
 // A text.
 pub fn text(out: &mut [u8], at: usize, s: &[u8]) -> usize
@@ -44,24 +46,26 @@ fn named(out: &mut [u8], at: usize, s: &[u8], n: u64) -> usize
 }
 
 // The letter and the address of a call.
-fn ask(out: &mut [u8], at: usize, c: Command) -> usize
+#[tactic(auto, unfolding(crate::specs::Texts::ask_text))]
+fn ask(out: &mut [u8], at: usize, c: Option<Command>) -> usize
     requires { at + 23 ≤ length out.old }
     ensures upper_bound { result ≤ at + 23 }
     ensures put { Put at (ask_text c) out.old result out.new }
 {
     match c {
-        Command::Read(a) => named(out, at, b" R ", a as u64),
-        Command::Look(a) => named(out, at, b" L ", a as u64),
-        Command::Flush => text(out, at, b" F -"),
-        Command::Through(a, _) => named(out, at, b" T ", a as u64),
-        Command::Back(a, _) => named(out, at, b" B ", a as u64),
-        Command::Invalidate(a, _) => named(out, at, b" I ", a as u64),
-        Command::Box(_, _, _, _) => text(out, at, b""),
-        Command::Unformed => text(out, at, b""),
+        Some(Command::Read(a)) => named(out, at, b" R ", a as u64),
+        Some(Command::Look(a)) => named(out, at, b" L ", a as u64),
+        Some(Command::Flush) => text(out, at, b" F -"),
+        Some(Command::Through(a, _)) => named(out, at, b" T ", a as u64),
+        Some(Command::Back(a, _)) => named(out, at, b" B ", a as u64),
+        Some(Command::Invalidate(a, _)) => named(out, at, b" I ", a as u64),
+        Some(Command::Box(_, _, _, _)) => text(out, at, b""),
+        None => text(out, at, b""),
     }
 }
 
 // The word of an answer.
+#[tactic(auto, unfolding(crate::specs::Texts::word_text))]
 fn word(out: &mut [u8], at: usize, w: Word) -> usize
     requires { at + 7 ≤ length out.old }
     ensures upper_bound { result ≤ at + 7 }
@@ -90,45 +94,44 @@ fn counts(out: &mut [u8], at: usize, flashed: u64, primary: u64) -> usize
 }
 
 // A refused line.
-fn refused(out: &mut [u8], at: usize, number: u64, r: u64) -> usize
+fn refused(out: &mut [u8], at: usize, number: u64, r: Refusal) -> usize
     requires { at + 50 ≤ length out.old }
     ensures upper_bound { result ≤ at + 50 }
-    ensures put { Put at (decimal_of number ++ (ascii " refused " ++ decimal_of r) ++ ascii "\n") out.old result out.new }
+    ensures put { Put at (decimal_of number ++ (ascii " refused " ++ decimal_of (code r)) ++ ascii "\n") out.old result out.new }
 {
     let a = decimal(out, at, number);
-    let b = named(out, a, b" refused ", r);
+    let b = named(out, a, b" refused ", u32::from(r) as u64);
     text(out, b, b"\n")
 }
 
 // An answered line.
-fn answered(
-    out: &mut [u8],
-    at: usize,
-    number: u64,
-    c: Command,
-    w: Word,
-    flashed: u64,
-    primary: u64,
-) -> usize
+fn answered(out: &mut [u8], at: usize, number: u64, c: Option<Command>, a: Answered) -> usize
     requires { at + 92 ≤ length out.old }
     ensures upper_bound { result ≤ at + 92 }
-    ensures put { Put at (decimal_of number ++ ask_text c ++ word_text (word_of w) ++ counts_text flashed primary) out.old result out.new }
+    ensures put { Put at (decimal_of number ++ ask_text c ++ word_text (word_of a.word) ++ counts_text a.flashed a.primary) out.old result out.new }
 {
     let i = decimal(out, at, number);
     let j = ask(out, i, c);
-    let k = word(out, j, w);
-    counts(out, k, flashed, primary)
+    let k = word(out, j, a.word);
+    counts(out, k, a.flashed as u64, a.primary as u64)
 }
 
 // The line of an answer.
-pub fn answer(out: &mut [u8], at: usize, number: u64, c: Command, a: Answer) -> usize
+#[tactic(auto, unfolding(crate::specs::Texts::answer_text))]
+pub fn answer(
+    out: &mut [u8],
+    at: usize,
+    number: u64,
+    c: Option<Command>,
+    a: Result<Answered, Refusal>,
+) -> usize
     requires { at + 92 ≤ length out.old }
     ensures upper_bound { result ≤ at + 92 }
     ensures put { Put at (answer_text number c (answer_of a)) out.old result out.new }
 {
     match a {
-        Answer::Refused(r) => refused(out, at, number, r as u64),
-        Answer::Answered(w, f, p) => answered(out, at, number, c, w, f as u64, p as u64),
+        Err(r) => refused(out, at, number, r),
+        Ok(x) => answered(out, at, number, c, x),
     }
 }
 

@@ -1,15 +1,14 @@
 -- Addresses gone through from the front, and products by quotient and rest. Assumes nothing.
-use mathlib.Core.Path.{◌≡◌, sym, ap, ◌∙◌}
-use mathlib.Core.Bool.{true, false, ◌||◌}
-use mathlib.Core.List.{List}
-use Prim.Native.Nat.{ℕ, suc, ◌+◌, ◌*◌, ◌/◌, ◌%◌, ◌<◌, ◌≤◌}
+use mathlib.Core.Path.{◌≡◌, refl, sym, ap, ◌∙◌}
+use mathlib.Core.Bool.{false, ◌||◌}
+use mathlib.Core.List.{List, [], ◌∷◌}
+use Rattle.std.specs.List.{list_any}
+use Prim.Native.Nat.{ℕ, ◌+◌, ◌*◌, ◌/◌, ◌%◌, ◌<◌}
 use native.Mathlib.Omega.{arith}
 use native.Mathlib.Nat.{div-add-mod', mul-zero}
 use lib.Arith.{digits_div, digits_mod}
-use lib.Dec.{eqb}
-use lib.ListN.{length, get_or, drop, drop_of_length-le}
-use lib.Seq.{drop-cons}
-use borrow.Author.Tests.{eq-eqb, ne_eqb, eqb-true, eqb-false, le-leb, lt-leb}
+use lib.Dec.{eqb, leb}
+use borrow.Author.Tests.{eq-eqb, ne_eqb, eqb-true, eqb-false}
 use Rattle.paper.specs.KeyedLaws.{by-test}
 use Rattle.paper.specs.BatchLent.{any_outside}
 
@@ -29,13 +28,7 @@ product-quotient n s len p e =
     (λ y. y ∙ sym (eq-eqb len (n * s) (whole ∙ ap (λ x. x * s) (eqb-true (len / s) n y))))
     (λ y. y ∙ sym (ne_eqb len (n * s) (λ q. eqb-false (len / s) n y (ap (λ x. x / s) (q ∙ sym (plus_none (n * s))) ∙ digits_div n p))))
 
--- the addresses before k are inside
-module _ (p : ℕ) (l : List ℕ) (k : ℕ) (h : k < length l) (e : any_outside p l ≡ any_outside p (drop k l)) where
-  pub outside-here : p ≤ get_or l k 0 → true ≡ any_outside p l
-  outside-here q = sym (e ∙ ap (any_outside p) (drop-cons l k 0 h) ∙ ap (λ x. x || any_outside p (drop (suc k) l)) (le-leb p (get_or l k 0) q))
-
-  pub outside-next : get_or l k 0 < p → any_outside p l ≡ any_outside p (drop (suc k) l)
-  outside-next q = e ∙ ap (any_outside p) (drop-cons l k 0 h) ∙ ap (λ x. x || any_outside p (drop (suc k) l)) (lt-leb p (get_or l k 0) q)
-
-pub outside-none : (p : ℕ) (l : List ℕ) (k : ℕ) → length l ≤ k → any_outside p l ≡ any_outside p (drop k l) → false ≡ any_outside p l
-outside-none p l k h e = sym (e ∙ ap (any_outside p) (drop_of_length-le l {i = k} h))
+-- an address is outside
+pub any-outside : (p : ℕ) (l : List ℕ) → list_any (leb p) l ≡ any_outside p l
+any-outside p [] = refl
+any-outside p (a ∷ l) = ap (λ x. leb p a || x) (any-outside p l)

@@ -4,7 +4,8 @@
 pub mod many;
 pub mod report;
 
-ghost use Rattle.std.specs.Prelude.{◌≡◌, ℕ, ◌*◌, ◌≤◌, leb, length};
+ghost use Rattle.std.specs.Prelude.{◌≡◌, ℕ, ◌*◌, ◌≤◌, leb, length, OnOk};
+ghost use Rattle.refusal.specs.Numbers.{number_of};
 ghost use Rattle.tables.specs.Unsound.{elem};
 ghost use Rattle.paper.specs.Cache.{Counters};
 ghost use Rattle.paper.specs.Lent.{Ask, opening, calling, between, unfit, limit_outside, over, refusal};
@@ -16,41 +17,21 @@ ghost use Rattle.tables.specs.Rows.{table_bytes};
 
 use checks::index;
 use parts::{BoxRecord, limit};
+use refusal::Refusal;
 use tables::{SourceAddress, row};
 
 // Whether `s` is a power of two from 64 to 4,096.
 pub(crate) fn block_size(s: usize) -> bool
     ensures { result ≡ elem s sizes }
 {
-    if s == 64 {
-        return true;
-    }
-    if s == 128 {
-        return true;
-    }
-    if s == 256 {
-        return true;
-    }
-    if s == 512 {
-        return true;
-    }
-    if s == 1024 {
-        return true;
-    }
-    if s == 2048 {
-        return true;
-    }
-    s == 4096
+    [64, 128, 256, 512, 1024, 2048, 4096].contains(&s)
 }
 
 // Whether `x` is from 1 to `most`.
 pub(crate) fn within(x: usize, most: usize) -> bool
     ensures { result ≡ between 1 most x }
 {
-    if x < 1 {
-        return false;
-    }
-    x <= most
+    1 <= x && x <= most
 }
 
 // Refusal 1: a number of the box outside its set.
@@ -100,41 +81,47 @@ pub fn limit_unfit(b: BoxRecord) -> bool
 }
 
 // Refusals 1, 12 and 2: what an opening is refused with.
-pub fn of_opening(b: BoxRecord, disk: &[u8], flash: &[u8], addresses: &[u8], blocks: &[u8]) -> u32
-    ensures { (k : Counters) → result ≡ refusal (numbers_of b) (lent b disk.now flash.now addresses.now
+pub fn of_opening(
+    b: BoxRecord,
+    disk: &[u8],
+    flash: &[u8],
+    addresses: &[u8],
+    blocks: &[u8],
+) -> Result<(), Refusal>
+    ensures { (k : Counters) → number_of result ≡ refusal (numbers_of b) (lent b disk.now flash.now addresses.now
         blocks.now k) opening }
 {
     if numbers_unfit(b) {
-        return 1;
+        return Err(Refusal::Outside);
     }
     if limit_unfit(b) {
-        return 12;
+        return Err(Refusal::BadLimit);
     }
     if lengths_wrong(b, disk.len(), flash.len(), addresses.len(), blocks.len()) {
-        return 2;
+        return Err(Refusal::WrongLength);
     }
-    0
+    Ok(())
 }
 
 // Refusals 6, 7, 8 and 13, of tables with the box's lengths. Where none applies, `heads`, 0 everywhere at first, is the index of the block rows.
-pub fn of_tables(b: BoxRecord, addresses: &[u8], blocks: &[u8], heads: &mut [u16]) -> u32
+pub fn of_tables(
+    b: BoxRecord,
+    addresses: &[u8],
+    blocks: &[u8],
+    heads: &mut [u16],
+) -> Result<(), Refusal>
     requires blocks_bound { (b.blocks ≤ 65536) × (b.rows ≤ 1024) × (b.slots ≤ 256) × (length addresses.now ≡ table_bytes b.rows)
         × (length blocks.now ≡ table_bytes b.slots) }
     requires blank { Blank heads.old }
-    ensures value { result ≡ tables_refusal b addresses.now blocks.now }
-    ensures indexed { result ≡ 0 → Indexed b.slots blocks.now heads.new }
+    ensures value { number_of result ≡ tables_refusal b addresses.now blocks.now }
+    ensures indexed { OnOk result (Indexed b.slots blocks.now heads.new) }
     ensures heads_len { length heads.new ≡ heads_length }
 {
-    let sound = checks::sound::tables_refused(
-        addresses, b.rows, b.held, b.blocks, blocks, b.slots, heads,
-    );
-    if sound != 0 {
-        return sound;
-    }
+    checks::sound::tables_refused(addresses, b.rows, b.held, b.blocks, blocks, b.slots, heads)?;
     if limit::excess_row(b, addresses) < b.held {
-        return 13;
+        return Err(Refusal::TooDirty);
     }
-    0
+    Ok(())
 }
 
 // Refusal 9: a counter above 2 to the power 63.
@@ -168,25 +155,22 @@ pub(crate) fn of_state(
     blocks: &[u8],
     c: counters::Counters,
     heads: &mut [u16],
-) -> u32
+) -> Result<(), Refusal>
     requires blocks_bound { (b.blocks ≤ 65536) × (b.rows ≤ 1024) × (b.slots ≤ 256) × (length addresses.now ≡ table_bytes b.rows)
         × (length blocks.now ≡ table_bytes b.slots) }
     requires blank { Blank heads.old }
-    ensures value { result ≡ state_refusal b addresses.now blocks.now (counters_of c) }
-    ensures indexed { result ≡ 0 → Indexed b.slots blocks.now heads.new }
+    ensures value { number_of result ≡ state_refusal b addresses.now blocks.now (counters_of c) }
+    ensures indexed { OnOk result (Indexed b.slots blocks.now heads.new) }
     ensures heads_len { length heads.new ≡ heads_length }
 {
-    let state = of_tables(b, addresses, blocks, heads);
-    if state != 0 {
-        return state;
-    }
+    of_tables(b, addresses, blocks, heads)?;
     if counters_over(c) {
-        return 9;
+        return Err(Refusal::CounterFull);
     }
-    0
+    Ok(())
 }
 
-// The refusal of a read or a write. Where it is 0, `heads` is the index of the block rows.
+// The refusal of a read or a write. Where there is none, `heads` is the index of the block rows.
 pub fn of_access(
     b: BoxRecord,
     a: SourceAddress,
@@ -197,21 +181,18 @@ pub fn of_access(
     c: counters::Counters,
     block: &[u8],
     heads: &mut [u16],
-) -> u32
+) -> Result<(), Refusal>
     requires { Blank heads.old }
-    ensures value { result ≡ refusal (numbers_of b) (lent b disk.now flash.now addresses.now blocks.now (counters_of c))
+    ensures value { number_of result ≡ refusal (numbers_of b) (lent b disk.now flash.now addresses.now blocks.now (counters_of c))
         (calling (Ask.read a.0 block.now)) }
-    ensures indexed { result ≡ 0 → Indexed b.slots blocks.now heads.new }
+    ensures indexed { OnOk result (Indexed b.slots blocks.now heads.new) }
 {
-    let first = of_opening(b, disk, flash, addresses, blocks);
-    if first != 0 {
-        return first;
-    }
+    of_opening(b, disk, flash, addresses, blocks)?;
     if block.len() != b.size {
-        return 2;
+        return Err(Refusal::WrongLength);
     }
     if address_outside(b, a) {
-        return 3;
+        return Err(Refusal::NoAddress);
     }
     of_state(b, addresses, blocks, c, heads)
 }
@@ -224,23 +205,20 @@ pub fn of_look(
     flash: &[u8],
     addresses: &[u8],
     blocks: &[u8],
-) -> u32
-    ensures { (k : Counters) → result ≡ refusal (numbers_of b) (lent b disk.now flash.now addresses.now
+) -> Result<(), Refusal>
+    ensures { (k : Counters) → number_of result ≡ refusal (numbers_of b) (lent b disk.now flash.now addresses.now
         blocks.now k)
         (calling (Ask.look a.0)) }
 {
-    let first = of_opening(b, disk, flash, addresses, blocks);
-    if first != 0 {
-        return first;
-    }
+    of_opening(b, disk, flash, addresses, blocks)?;
     if address_outside(b, a) {
-        return 3;
+        return Err(Refusal::NoAddress);
     }
     let mut heads = [0u16; index::ENTRIES];
     of_tables(b, addresses, blocks, &mut heads)
 }
 
-// The refusal of a flush, of however many rows. Where it is 0, `heads` is the index of the block rows.
+// The refusal of a flush, of however many rows. Where there is none, `heads` is the index of the block rows.
 pub fn of_flush(
     b: BoxRecord,
     disk: &[u8],
@@ -249,16 +227,13 @@ pub fn of_flush(
     blocks: &[u8],
     c: counters::Counters,
     heads: &mut [u16],
-) -> u32
+) -> Result<(), Refusal>
     requires { Blank heads.old }
     ensures by_index { (k : ℕ)
-        → result ≡ refusal (numbers_of b) (lent b disk.now flash.now addresses.now blocks.now (counters_of c))
+        → number_of result ≡ refusal (numbers_of b) (lent b disk.now flash.now addresses.now blocks.now (counters_of c))
         (calling (Ask.flush k)) }
-    ensures indexed { result ≡ 0 → Indexed b.slots blocks.now heads.new }
+    ensures indexed { OnOk result (Indexed b.slots blocks.now heads.new) }
 {
-    let first = of_opening(b, disk, flash, addresses, blocks);
-    if first != 0 {
-        return first;
-    }
+    of_opening(b, disk, flash, addresses, blocks)?;
     of_state(b, addresses, blocks, c, heads)
 }

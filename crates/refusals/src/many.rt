@@ -1,5 +1,6 @@
 // The refusals of a folder read: 1, 12, 2, 10, 3, 6, 7, 8, 13, 9.
 ghost use Rattle.std.specs.Prelude.{◌≡◌, ◌*◌, eqb};
+ghost use Rattle.refusal.specs.Numbers.{number_of};
 ghost use Rattle.paper.specs.BatchLent.{any_outside, batch_refusal};
 ghost use Rattle.parts.specs.Rep.{numbers_of};
 ghost use Rattle.refusals.specs.Given.{counters_of, lent};
@@ -9,6 +10,7 @@ use crate::{of_opening, of_state};
 use checks::index;
 use counters::Counters;
 use parts::BoxRecord;
+use refusal::Refusal;
 
 // Whether `n` times `s` is `len`, of any numbers.
 pub fn product_is(n: usize, s: usize, len: usize) -> bool
@@ -27,33 +29,26 @@ pub fn product_is(n: usize, s: usize, len: usize) -> bool
 pub(crate) fn any_outside(asked: &[u32], p: usize) -> bool
     ensures { result ≡ any_outside p asked.now }
 {
-    let mut k = 0;
-    while k < asked.len() {
-        if p <= asked[k] as usize {
-            return true;
-        }
-        k += 1;
-    }
-    false
+    asked.iter().any(|&a| p <= a as usize)
 }
 
 // What the list and a buffer of `len` bytes are refused with.
-pub fn of_list(b: BoxRecord, asked: &[u32], len: usize) -> u32
-    ensures { result ≡ list_refusal b asked.now len }
+pub fn of_list(b: BoxRecord, asked: &[u32], len: usize) -> Result<(), Refusal>
+    ensures { number_of result ≡ list_refusal b asked.now len }
 {
     if !product_is(asked.len(), b.size, len) {
-        return 2;
+        return Err(Refusal::WrongLength);
     }
-    if asked.len() == 0 {
-        return 10;
+    if asked.is_empty() {
+        return Err(Refusal::BadCount);
     }
     if 64 < asked.len() {
-        return 10;
+        return Err(Refusal::BadCount);
     }
     if any_outside(asked, b.blocks) {
-        return 3;
+        return Err(Refusal::NoAddress);
     }
-    0
+    Ok(())
 }
 
 // The refusal of a folder read.
@@ -66,18 +61,12 @@ pub fn of_many(
     blocks: &[u8],
     c: Counters,
     buffer: &[u8],
-) -> u32
-    ensures { result ≡ batch_refusal (numbers_of b) (lent b disk.now flash.now addresses.now blocks.now
+) -> Result<(), Refusal>
+    ensures { number_of result ≡ batch_refusal (numbers_of b) (lent b disk.now flash.now addresses.now blocks.now
         (counters_of c)) asked.now buffer.now }
 {
-    let first = of_opening(b, disk, flash, addresses, blocks);
-    if first != 0 {
-        return first;
-    }
-    let second = of_list(b, asked, buffer.len());
-    if second != 0 {
-        return second;
-    }
+    of_opening(b, disk, flash, addresses, blocks)?;
+    of_list(b, asked, buffer.len())?;
     let mut heads = [0u16; index::ENTRIES];
     of_state(b, addresses, blocks, c, &mut heads)
 }

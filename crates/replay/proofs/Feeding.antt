@@ -1,6 +1,6 @@
 -- What a byte, and the end of the input, leave in the memory. By the parts of equal records, and the laws of `splice`.
 use mathlib.Core.Path.{◌≡◌, refl, sym, ap, ap₂, ◌∙◌, subst}
-use mathlib.Core.Bool.{cond}
+use mathlib.Core.Bool.{true, false, cond}
 use mathlib.Core.List.{List, [], ◌∷◌, ◌++◌, append_assoc}
 use Prim.Native.Nat.{ℕ, suc, ◌+◌, ◌≤◌, ◌<◌}
 use native.Mathlib.Nat.{zero-add}
@@ -14,7 +14,11 @@ use Rattle.lines.specs.Lines.{parsed}
 use Rattle.refusals.specs.Given.{counters_of}
 use Rattle.print.specs.Put.{Put}
 use Rattle.print.specs.Texts.{counters_text}
-use Rattle.session.specs.Bytewise.{State, quiet, keep, first_line, later_line, end_line, last_line, at_end}
+use Rattle.session.specs.Bytewise.{stage_number, State, quiet, keep, first_line, later_line, end_line, last_line, at_end}
+use Rattle.session.specs.contracts.Stage.{the_type}
+use denote.Enum.Bare.{sameb}
+use Rattle.session.specs.declared.Stage.{Stage}
+use Rattle.session.specs.declared.Stage.TheVariants.{Before, Open, Over}
 use Rattle.session.specs.Memory.{Buffers, Held, Memory, FedMemory, state_in, stored}
 use Rattle.session.specs.declared.Session.{Session}
 use Rattle.block.specs.Laws.{splice-next}
@@ -58,34 +62,45 @@ unfolding state_in keep
 kept_full M x l h g = rw (length-take-le M.session.kept M.line (omega arith), le-ltb M.session.kept 33 h) (quiet_same M (omega arith))
 
 -- the end of a line, by the stage
-pub end-first : (s : State) → s.stage ≡ 0 → first_line s (parsed s.kept) ≡ end_line s
+pub end-first : (s : State) → s.stage ≡ Before → first_line s (parsed s.kept) ≡ end_line s
 unfolding end_line
-end-first s e = rw (eq-eqb s.stage 0 e) refl
+end-first s e = rw e refl
 
-pub end_later : (s : State) → (s.stage ≡ 0 → ⊥) → s.stage ≡ 1 → later_line s (parsed s.kept) ≡ end_line s
+pub end_later : (s : State) → s.stage ≡ Open → later_line s (parsed s.kept) ≡ end_line s
 unfolding end_line
-end_later s n e = rw (ne_eqb s.stage 0 n, eq-eqb s.stage 1 e) refl
+end_later s e = rw e refl
 
-pub end-over : (s : State) → (s.stage ≡ 0 → ⊥) → (s.stage ≡ 1 → ⊥) → quiet s ≡ end_line s
+pub end-over : (s : State) → s.stage ≡ Over → quiet s ≡ end_line s
 unfolding end_line
-end-over s n m = rw (ne_eqb s.stage 0 n, ne_eqb s.stage 1 m) refl
+end-over s e = rw e refl
 
 -- the last line, by what is kept
-pub last-first : (s : State) → s.stage ≡ 0 → end_line s ≡ last_line s
+pub last-first : (s : State) → eqb (stage_number s.stage) 0 ≡ true → end_line s ≡ last_line s
 unfolding last_line
-last-first s e = rw (eq-eqb s.stage 0 e) refl
+last-first s e = rw e refl
 
-pub last_none : (s : State) → (s.stage ≡ 0 → ⊥) → length s.kept ≡ 0 → quiet s ≡ last_line s
-unfolding last_line
-last_none s n e = rw (ne_eqb s.stage 0 n, eq-eqb (length s.kept) 0 e) refl
+-- what the code's `==` says of a stage, by its number
+pub is-before : (g : Stage) → eqb (stage_number g) 0 ≡ sameb the_type g Before
+is-before Before = refl
+is-before Open = refl
+is-before Over = refl
 
-pub last_some : (s : State) → (s.stage ≡ 0 → ⊥) → (length s.kept ≡ 0 → ⊥) → end_line s ≡ last_line s
+pub is-open : (g : Stage) → eqb (stage_number g) 1 ≡ sameb the_type g Open
+is-open Before = refl
+is-open Open = refl
+is-open Over = refl
+
+pub last_none : (s : State) → eqb (stage_number s.stage) 0 ≡ false → length s.kept ≡ 0 → quiet s ≡ last_line s
 unfolding last_line
-last_some s n m = rw (ne_eqb s.stage 0 n, ne_eqb (length s.kept) 0 m) refl
+last_none s n e = rw (n, eq-eqb (length s.kept) 0 e) refl
+
+pub last_some : (s : State) → eqb (stage_number s.stage) 0 ≡ false → (length s.kept ≡ 0 → ⊥) → end_line s ≡ last_line s
+unfolding last_line
+last_some s n m = rw (n, ne_eqb (length s.kept) 0 m) refl
 
 -- the counters after it
 abbrev pub tail_of : Session → List ℕ
-tail_of s = cond (eqb s.stage 1) (counters_text (counters_of s.counters)) []
+tail_of s = cond (eqb (stage_number s.stage) 1) (counters_text (counters_of s.counters)) []
 
 pub end_is : (M : Memory) (f : FedMemory) (s : Session) (n : ℕ) (out : List ℕ) → f ≡ stored M (last_line (state_in M)) → s ≡ f.memory.session → Put f.filled (tail_of f.memory.session) f.memory.out n out
     → record { memory = record { session = s; line = f.memory.line; buffers = f.memory.buffers; out = out }; filled = n } ≡ stored M (at_end (state_in M))
@@ -93,7 +108,7 @@ unfolding stored at_end
 end_is M f s n out e i p =
     let o = last_line (state_in M) in
     let g = stored M o in
-    let tail = cond (eqb o.state.stage 1) (counters_text o.state.lent.counters) [] in
+    let tail = cond (eqb (stage_number o.state.stage) 1) (counters_text o.state.lent.counters) [] in
     let q : Put (length o.text) tail (splice 0 o.text M.out) n out = subst (λ (h : FedMemory). Put h.filled (tail_of h.memory.session) h.memory.out n out) e p in
     ap {B = FedMemory} (λ x. record { memory = record { session = x; line = f.memory.line; buffers = f.memory.buffers; out = out }; filled = n }) i
     ∙ ap {B = FedMemory} (λ (h : FedMemory). record { memory = record { session = h.memory.session; line = h.memory.line; buffers = h.memory.buffers; out = out }; filled = n }) e

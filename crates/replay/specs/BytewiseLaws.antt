@@ -10,6 +10,8 @@ use Rattle.paper.specs.Lent.{Lent, refused}
 use Rattle.lines.specs.Lines.{onto, lines_in, lines, parsed}
 use Rattle.print.specs.Texts.{answer_text}
 use Rattle.answers.specs.Replay.{box_refusal, box_numbers, started, asked, doing, next, later_lines, all_lines, replay}
+use Rattle.session.specs.declared.Stage.{Stage}
+use Rattle.session.specs.declared.Stage.TheVariants.{Before, Open, Over}
 use Rattle.session.specs.Bytewise.{State, first_line, later_line, end_line, keep, byte_in, last_line, at_end, rest}
 
 -- ---- the bytes kept of a line
@@ -65,23 +67,23 @@ onto-lines c (d ∷ l) = refl
 
 -- ---- byte by byte
 
-abbrev state : ℕ → List ℕ → ℕ → Numbers → Lent → State
+abbrev state : Stage → List ℕ → ℕ → Numbers → Lent → State
 state stage kept number N t = record { stage = stage; kept = kept; number = number; numbers = N; lent = t }
 
 -- nothing more is printed
-silent : (p : List ℕ) (k : ℕ) (N : Numbers) (t : Lent) (l : List ℕ) → rest (state 2 p k N t) l ≡ []
+silent : (p : List ℕ) (k : ℕ) (N : Numbers) (t : Lent) (l : List ℕ) → rest (state Over p k N t) l ≡ []
 unfolding rest at_end last_line end_line byte_in keep
 silent p k N t [] = by-test (eqb (length p) 0) (λ e. rw e) (λ e. rw e)
 silent p k N t (x ∷ l) = by-test (eqb x 10) (λ e. rw e (silent p k N t l)) (λ e. rw e (silent (cond (ltb (length p) 33) (p ++ (x ∷ [])) p) k N t l))
 
 -- the last line
-last : (p : List ℕ) (k : ℕ) (N : Numbers) (t : Lent) → (at_end (state 1 (take 33 p) k N t)).text ≡ later_lines k N t (before p [])
+last : (p : List ℕ) (k : ℕ) (N : Numbers) (t : Lent) → (at_end (state Open (take 33 p) k N t)).text ≡ later_lines k N t (before p [])
 unfolding at_end last_line end_line later_line later_lines
 last [] k N t = refl
 last (c ∷ p) k N t = rw (eqb-suc-zero (length (take 32 p)), parsed-kept (c ∷ p), before-none c p)
 
 -- a later line
-later : (p : List ℕ) (k : ℕ) (N : Numbers) (t : Lent) (l : List ℕ) → rest (state 1 (take 33 p) k N t) l ≡ later_lines k N t (before p (lines_in l))
+later : (p : List ℕ) (k : ℕ) (N : Numbers) (t : Lent) (l : List ℕ) → rest (state Open (take 33 p) k N t) l ≡ later_lines k N t (before p (lines_in l))
 unfolding rest byte_in end_line later_line keep later_lines lines_in
 later p k N t [] = last p k N t
 later p k N t (x ∷ l) =
@@ -92,7 +94,7 @@ later p k N t (x ∷ l) =
     (λ e. rw (e, kept_more p x, ← before_more p x (lines_in l)) (later (p ++ (x ∷ [])) k N t l))
 
 -- line 1
-first : (p : List ℕ) (k : ℕ) (N : Numbers) (t : Lent) (l : List ℕ) → rest (state 0 (take 33 p) k N t) l ≡ all_lines (before p (lines l))
+first : (p : List ℕ) (k : ℕ) (N : Numbers) (t : Lent) (l : List ℕ) → rest (state Before (take 33 p) k N t) l ≡ all_lines (before p (lines l))
 unfolding rest byte_in at_end last_line end_line first_line keep all_lines later_lines lines lines_in
 first p k N t [] =
     let c = parsed p in
@@ -109,7 +111,7 @@ first p k N t (x ∷ l) =
     (λ f. rw (f, silent [] k N t l) (append-nil (answer_text 0 c (refused (box_refusal c)))))))
     (λ e. rw (e, kept_more p x, ← onto-lines x l, ← before_more p x (lines l)) (first (p ++ (x ∷ [])) k N t l))
 
-pub rest-replays : (s : State) (input : List ℕ) → s.stage ≡ 0 → s.kept ≡ [] → rest s input ≡ replay input
+pub rest-replays : (s : State) (input : List ℕ) → s.stage ≡ Before → s.kept ≡ [] → rest s input ≡ replay input
 unfolding replay
 rest-replays s input e f =
     ap₂ (λ g p. rest (state g p s.number s.numbers s.lent) input) e f ∙ first [] s.number s.numbers s.lent input

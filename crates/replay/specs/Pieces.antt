@@ -4,6 +4,7 @@ use Rattle.std.proofs.Common.{ap, ap₂, ◌∙◌}
 use Rattle.answers.specs.Replay.{replay}
 use Rattle.session.specs.Bytewise.{rest}
 use Rattle.replay.specs.BytewiseLaws.{rest-replays}
+use Rattle.session.specs.declared.Stage.TheVariants.{Before}
 use Rattle.session.specs.Memory.{Memory, FedMemory, fits, state_in, fed, ended}
 use Rattle.session.specs.MemoryLaws.{fed-state, fed-fits, fed-text, ended-text}
 
@@ -19,7 +20,7 @@ printed M (x ∷ xs) = text_of (fed x M) ++ printed (fed x M).memory xs
 -- a session before the first byte, in buffers that hold any bytes
 pub record Ready (M : Memory) : Type 0 where
   pub fitting : fits M ≡ true
-  pub stage : M.session.stage ≡ 0
+  pub stage : M.session.stage ≡ Before
   pub kept : M.session.kept ≡ 0
 
 -- the state in memory prints the same

@@ -4,17 +4,18 @@ ghost use Rattle.parts.specs.Rep.{empty_box};
 ghost use Rattle.refusals.specs.Given.{counters_of};
 ghost use Rattle.print.specs.Put.{Put};
 ghost use Rattle.print.specs.Texts.{counters_text};
-ghost use Rattle.session.specs.Bytewise.{end_line, keep, quiet, last_line};
+ghost use Rattle.session.specs.Bytewise.{stage_number, end_line, keep, quiet, last_line};
+ghost use Rattle.session.specs.declared.Stage.TheVariants.{Before};
 ghost use Rattle.session.specs.Memory.{memory, Sized, Holds, fits, state_in, stored, fed, ended, after_of};
 
 use crate::fitting;
 use counters::Counters;
-use session::{Fed, Session, line};
+use session::{Fed, Session, Stage, line};
 
 // A session before the first byte.
 pub fn begin() -> Session
     ensures { result ≡ record {
-      stage = 0;
+      stage = Before;
       kept = 0;
       number = 0;
       box_record = empty_box 0 0 0 0 0 (replicate 64 0);
@@ -23,7 +24,7 @@ pub fn begin() -> Session
 {
     let b = parts::empty_box(0, 0, 0, 0, 0, [0u8; 64]);
     Session {
-        stage: 0,
+        stage: Stage::Before,
         kept: 0,
         number: 0,
         box_record: b,
@@ -87,15 +88,13 @@ fn end_line(
 {
     let kept = s.kept;
     let c = lines::parse::parse(&line[0..kept]);
-    if s.stage == 0 {
-        return line::first(s, c, disk, flash, addresses, blocks, out);
-    }
-    if s.stage == 1 {
-        return line::later(s, c, disk, flash, addresses, blocks, out);
-    }
-    Fed {
-        session: s,
-        filled: 0,
+    match s.stage {
+        Stage::Before => line::first(s, c, disk, flash, addresses, blocks, out),
+        Stage::Open => line::later(s, c, disk, flash, addresses, blocks, out),
+        Stage::Over => Fed {
+            session: s,
+            filled: 0,
+        },
     }
 }
 
@@ -165,10 +164,7 @@ fn last_line(
         (last_line (state_in (memory s line.now disk.old flash.old addresses.old blocks.old
         out.old))) }
 {
-    if s.stage == 0 {
-        return end_line(s, line, disk, flash, addresses, blocks, out);
-    }
-    if s.kept == 0 {
+    if s.stage != Stage::Before && s.kept == 0 {
         return Fed {
             session: s,
             filled: 0,
@@ -181,11 +177,11 @@ fn last_line(
 fn last_counters(f: Fed, out: &mut [u8]) -> Fed
     requires { (f.filled ≤ 92) × (length out.old ≡ 256) }
     ensures session_value { result.session ≡ f.session }
-    ensures put { Put f.filled (cond (eqb f.session.stage 1) (counters_text (counters_of f.session.counters)) []) out.old result.filled
+    ensures put { Put f.filled (cond (eqb (stage_number f.session.stage) 1) (counters_text (counters_of f.session.counters)) []) out.old result.filled
         out.new }
 {
     let s = f.session;
-    if s.stage != 1 {
+    if s.stage != Stage::Open {
         return f;
     }
     let c = s.counters;

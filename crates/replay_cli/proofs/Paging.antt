@@ -1,7 +1,7 @@
 -- What waits in a page when a text is put into it. Assumes nothing.
 use mathlib.Core.Path.{◌≡◌, refl, sym, ap, ◌∙◌}
 use mathlib.Core.Bool.{true, false}
-use mathlib.Core.List.{List, [], ◌++◌, append_assoc}
+use mathlib.Core.List.{List, ◌++◌, append_assoc}
 use Prim.Native.Nat.{ℕ, ◌+◌, ◌-◌, ◌≤◌, ◌<◌}
 use native.Mathlib.Omega.{arith}
 use lib.Dec.{leb}
@@ -33,9 +33,3 @@ module _ (n : ℕ) (d t : List ℕ) (h : n ≤ length d) where
   alone_waits r k =
       let y : leb (length t) (length d) ≡ true = le-leb (length t) (length d) k in
       rw (no_room r, y) (take_at t (drop (0 + length t) d) (length t) refl)
-
-  -- it has none
-  pub none-waits : length d - n < length t → length d < length t → [] ≡ waiting (length d) (take n d) t
-  none-waits r k =
-      let y : leb (length t) (length d) ≡ false = lt-leb (length t) (length d) k in
-      rw (no_room r, y) refl

@@ -13,7 +13,7 @@ front l k zero M h = refl
 front l k (suc n) M h = ap₂ (λ x K. (fed x K).memory) (get_or-take k l n 0 h) (front l k n M (omega arith))
 
 -- a part `l[0..n]`
-pub from_zero : (l : List ℕ) (n : ℕ) → take (n - 0) l ≡ take n l
+from_zero : (l : List ℕ) (n : ℕ) → take (n - 0) l ≡ take n l
 from_zero l n = let e : n - 0 ≡ n = omega arith in ap (λ k. take k l) e
 
 pub started : (l : List ℕ) (n : ℕ) (M : Memory) → n ≤ length l → fed_first (take (n - 0) l) (length (take (n - 0) l)) M ≡ fed_first l n M

@@ -2,13 +2,14 @@
 use Rattle.std.specs.Prelude.{cond, List, [], ◌++◌, ℕ, zero, suc, ◌+◌, leb, length, get_or, replicate}
 use Rattle.parts.specs.Rep.{empty_box}
 use Rattle.session.specs.Memory.{Memory, fed}
+use Rattle.session.specs.declared.Stage.TheVariants.{Before}
 use Rattle.session.specs.declared.Session.{Session}
 
 -- the session before the first byte
 abbrev pub first : Session
 first =
     record {
-      stage = 0;
+      stage = Before;
       kept = 0;
       number = 0;
       box_record = empty_box 0 0 0 0 0 (replicate 64 0);

@@ -1,6 +1,7 @@
 -- A run of the program over what it read, the newest read first. Assumes nothing.
 use Rattle.std.specs.Prelude.{◌≡◌, Bool, true, ◌&&◌, List, [], ◌∷◌, ◌++◌, ℕ, zero, suc, ◌-◌, ◌^◌, ◌≤◌, ltb, leb, length, take, get_or}
 use Rattle.answers.specs.Replay.{replay}
+use Rattle.session.specs.Bytewise.{stage_number}
 use Rattle.session.specs.Memory.{Memory, FedMemory, fed, ended}
 use Rattle.replay.specs.Pieces.{text_of}
 use Rattle.replay_cli.specs.Chunks.{fed_first}
@@ -33,7 +34,7 @@ handed M (r ∷ rs) = handed M rs ++ texts r.buffer r.count (after M rs)
 -- whether another read is due: the last one counts some bytes, and the box line isn't refused
 abbrev pub due : Memory → List Reading → Bool
 due M [] = true
-due M (r ∷ rs) = ltb 0 r.count && leb (after M (r ∷ rs)).session.stage 1
+due M (r ∷ rs) = ltb 0 r.count && leb (stage_number (after M (r ∷ rs)).session.stage) 1
 
 -- each read was due, filled a buffer of so many bytes, and counts no more than these
 abbrev pub Made : ℕ → Memory → List Reading → Type 0

@@ -4,13 +4,14 @@
 
 ghost use Rattle.std.specs.Prelude.{◌≡◌, ◌&&◌, ◌≤◌, ltb, leb, length, take};
 ghost use Rattle.io.specs.Counts.{IsPrefixLen};
+ghost use Rattle.session.specs.Bytewise.{stage_number};
 ghost use Rattle.session.specs.Memory.{memory, fed, ended, after_of};
 ghost use Rattle.replay.specs.Pieces.{Ready};
 ghost use Rattle.replay_cli.specs.Chunks.{first, fed_first, waiting};
 ghost use Rattle.replay_cli.specs.Reads.{Ran, Replayed};
 
 use replay::feed;
-use session::{Fed, Session};
+use session::{Fed, Session, Stage};
 use std::io::{Error, Read, Write, writer};
 use tables::row;
 
@@ -100,11 +101,8 @@ fn run(
     let mut page = io::large_buffer();
     let mut n = 0;
     let mut t = s;
-    let mut i = 0;
-    while i < chunk.len() {
-        let x = chunk[i];
-        i += 1;
-        let f = feed::feed(x, t, line, disk, flash, addresses, blocks, out);
+    for x in chunk {
+        let f = feed::feed(*x, t, line, disk, flash, addresses, blocks, out);
         n = collect(rt, &mut page, n, text(out, f.filled));
         t = f.session;
     }
@@ -156,13 +154,10 @@ fn turn(
 }
 
 // Whether a turn that read `n` bytes and left this stage is not the last. A list whose box line is refused ends there.
-fn goes_on(n: usize, stage: u8) -> bool
-    ensures { result ≡ ltb 0 n && leb stage 1 }
+fn goes_on(n: usize, stage: Stage) -> bool
+    ensures { result ≡ ltb 0 n && leb (stage_number stage) 1 }
 {
-    if n == 0 {
-        return false;
-    }
-    stage <= 1
+    0 < n && stage != Stage::Over
 }
 
 // The end of the input. Its text is written.
@@ -185,8 +180,8 @@ fn last(
     f
 }
 
-// Replays the input to its end. A proved loop has to end, and nothing says that the input does, so the loop counts its turns down from a number
-// that no run uses up.
+// Replays the input to its end. A proved loop has to end, and nothing says that the input does, so the loop counts its turns up to a number
+// that no run comes to.
 fn all(
     rt: &(impl Input + Print + Eprint + AllocGlobal),
     chunk: &mut [u8],
@@ -202,13 +197,12 @@ fn all(
         (memory result line.new disk.new flash.new addresses.new blocks.new out.new) }
 {
     let mut s = feed::begin();
-    let mut more = true;
-    let mut turns = u64::MAX;
-    while 0 < turns && more {
-        turns -= 1;
+    for _turn in 0..u64::MAX {
         let t = turn(rt, s, chunk, line, disk, flash, addresses, blocks, out);
         s = t.session;
-        more = goes_on(t.count, s.stage);
+        if !goes_on(t.count, s.stage) {
+            return s;
+        }
     }
     s
 }

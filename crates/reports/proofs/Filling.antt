@@ -30,7 +30,5 @@ row_next bytes n t k d s h l e i =
     ∙ ap (rows_in bytes n t) (sym (one_more k))
 
 -- the whole report
-pub rows-done : (bytes n : ℕ) (t d : List ℕ) (k m : ℕ) → m ≤ k → k ≤ m → length d ≡ m * bytes → take (k * bytes) d ≡ rows_in bytes n t k → d ≡ rows_in bytes n t m
-rows-done bytes n t d k m h g l e =
-    let j : k ≡ m = omega arith in
-    sym (take_all (m * bytes) d (subst (λ x. x ≤ m * bytes) (sym l) (le_refl (m * bytes)))) ∙ ap (λ i. take (i * bytes) d) (sym j) ∙ e ∙ ap (rows_in bytes n t) j
+pub rows-done : (bytes n : ℕ) (t d : List ℕ) (m : ℕ) → length d ≡ m * bytes → take (m * bytes) d ≡ rows_in bytes n t m → d ≡ rows_in bytes n t m
+rows-done bytes n t d m l e = sym (take_all (m * bytes) d (subst (λ x. x ≤ m * bytes) (sym l) (le_refl (m * bytes)))) ∙ e

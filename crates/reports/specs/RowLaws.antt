@@ -1,5 +1,5 @@
 -- What is filled row by row is the report of the paper's rows. Assumes nothing.
-use Rattle.std.specs.Prelude.{◌≡◌, true, false}
+use Rattle.std.specs.Prelude.{◌≡◌}
 use Rattle.std.proofs.Math.Path.{refl, sym, ap, ap₂}
 use Rattle.std.proofs.Common.{◌∙◌, zero-mul, suc-mul, add-zero, take-suc, lt-ltb, le-ltb}
 use mathlib.Core.List.{List, [], ◌∷◌, ◌++◌, map, append_assoc, append-nil}
@@ -9,7 +9,7 @@ use Rattle.std.proofs.Math.ListN.{length, take, get_or}
 use Rattle.std.proofs.lemmas.List.{replicate-append-replicate}
 use Rattle.std.proofs.Math.Seq.{take_all}
 use Rattle.tables.specs.Rows.{row_at, flat, zeros}
-use Rattle.tables.specs.Records.{Seat, bytes4}
+use Rattle.tables.specs.Records.{bytes4}
 use Rattle.tables.specs.RowLaws.{flat_append}
 use Rattle.tables.proofs.OperationLaws.{map-++}
 use Rattle.paper.specs.Cache.{AddressRow}
@@ -19,7 +19,7 @@ use Rattle.paper.specs.Layout.{Addrs}
 use Rattle.paper.specs.Reports.{Reader, manager, desk, width, report_row, report_of}
 use Rattle.parts.specs.Rep.{no_row}
 use Rattle.parts.specs.MoveLaws.{address_is, dirty-is, seat-is}
-use Rattle.reports.specs.RowByRow.{row_report, row_in, rows_in}
+use Rattle.reports.specs.RowByRow.{row_report, rows_in}
 
 -- a desk's row is the first bytes of the manager's
 row_cut : (w : Reader) (r : AddressRow (Fixed 32)) → take (width w) (report_row manager r) ≡ report_row w r

@@ -2,6 +2,7 @@
 #![tactic(auto)]
 
 ghost use Rattle.std.specs.Prelude.{◌≡◌, ◌*◌, ◌≤◌, length};
+ghost use Rattle.refusal.specs.Numbers.{number_of};
 ghost use Rattle.tables.specs.Rows.{table_bytes, HasRow};
 ghost use Rattle.paper.specs.Cache.{Counters};
 ghost use Rattle.paper.specs.Reports.{width};
@@ -11,6 +12,7 @@ ghost use Rattle.reports.specs.Contract.{reader_of, reports};
 ghost use Rattle.reports.specs.RowByRow.{row_in, rows_in};
 
 use parts::{BoxRecord, rows};
+use refusal::Refusal;
 use tables::row;
 
 // Whose report it is.
@@ -37,21 +39,12 @@ pub(crate) fn row_bytes(addresses: &[u8], n: usize, k: usize) -> [u8; 7]
     ensures value { result ≡ row_in n addresses.now k }
     ensures result_len { length result ≡ 7 }
 {
-    let mut r = [0u8; 7];
     if n <= k {
-        return r;
+        return [0u8; 7];
     }
-    let a = row::address_at(addresses, k);
-    let x = a.0;
-    let z = row::seat_at(addresses, k);
-    r[0] = (x % 256) as u8;
-    r[1] = (x / 256 % 256) as u8;
-    r[2] = (x / 65536 % 256) as u8;
-    r[3] = (x / 16777216 % 256) as u8;
-    r[4] = rows::dirty_at(addresses, k);
-    r[5] = (z % 256) as u8;
-    r[6] = (z / 256 % 256) as u8;
-    r
+    let [a, b, c, d] = row::address_at(addresses, k).0.to_le_bytes();
+    let [low, high] = row::seat_at(addresses, k).to_le_bytes();
+    [a, b, c, d, rows::dirty_at(addresses, k), low, high]
 }
 
 // Fills the report of `m` rows, of which `n` are held, with the first `bytes` bytes of each.
@@ -59,11 +52,9 @@ pub fn fill(addresses: &[u8], m: usize, n: usize, bytes: usize, report: &mut [u8
     requires { (m ≤ 1024) × (bytes ≤ 7) × (length addresses.now ≡ table_bytes m) × (length report.old ≡ m * bytes) }
     ensures { report.new ≡ rows_in bytes n addresses.now m }
 {
-    let mut k = 0;
-    while k < m {
+    for k in 0..m {
         let r = row_bytes(addresses, n, k);
         block::put(&r[0..bytes], report, k * bytes);
-        k += 1;
     }
 }
 
@@ -76,24 +67,13 @@ pub fn report(
     addresses: &[u8],
     blocks: &[u8],
     report: &mut [u8],
-) -> u32
-    ensures { (k : Counters) → record { number = result; report = report.new }
+) -> Result<(), Refusal>
+    ensures { (k : Counters) → record { number = number_of result; report = report.new }
         ≡ reports (reader_of reader) (numbers_of b) (lent b disk.now flash.now addresses.now blocks.now k)
         report.old }
 {
     let bytes = width_of(reader);
-    let number = refusals::report::of_report(
-        b,
-        bytes,
-        report.len(),
-        disk,
-        flash,
-        addresses,
-        blocks,
-    );
-    if number != 0 {
-        return number;
-    }
+    refusals::report::of_report(b, bytes, report.len(), disk, flash, addresses, blocks)?;
     fill(addresses, b.rows, b.held, bytes, report);
-    0
+    Ok(())
 }

@@ -1,5 +1,7 @@
 -- The checks of an area, case by case. Assumes nothing.
 use Rattle.std.specs.Prelude.{◌≡◌, Bool, true, false, ◌&&◌, ◌||◌, cond, List, [], ◌∷◌, ℕ, ◌+◌, ◌-◌, ◌*◌, ◌/◌, ◌≤◌, ◌<◌, eqb, ltb, length, take, drop}
+use Rattle.std.specs.Prelude.{Result, Ok, Err, is_err}
+use Rattle.std.specs.List.{list_all}
 use Rattle.std.proofs.Math.Path.{refl, sym, ap, subst}
 use Rattle.std.proofs.Common.{ap₂, ◌∙◌, get_or-take, drop-cons, length-take-le}
 use Rattle.std.proofs.Math.Bool.{not}
@@ -18,6 +20,8 @@ use Rattle.arc.proofs.ArcLentLaws.{words-at}
 use Rattle.tables.specs.Records.{held_rows}
 use Rattle.parts.specs.declared.BoxRecord.{BoxRecord}
 use Rattle.parts.specs.Rep.{numbers_of}
+use Rattle.refusal.specs.declared.Refusal.{Refusal}
+use Rattle.refusal.specs.Numbers.{code, number_of, refused}
 use Rattle.refusals.specs.Sizes.{most}
 use Rattle.refusals.specs.Checks.{tables_refusal}
 use Rattle.image.specs.Body.{Fields, Form, pieces, total, body_length, numbers_in, fields_in, fails_as, fails_in, no_body}
@@ -37,6 +41,12 @@ or-true false = refl
 and-false : (b : Bool) → (b && false) ≡ false
 and-false true = refl
 and-false false = refl
+
+-- whether all pass a test
+pub each-passes : {A : Type 0} (p : A → Bool) (xs : List A) → list_all p xs ≡ all p xs
+unfolding all
+each-passes p [] = refl
+each-passes p (x ∷ xs) = ap (λ b. p x && b) (each-passes p xs)
 
 pub short-area : (area : List ℕ) → length area < 64 → true ≡ no_image area
 unfolding no_image
@@ -226,10 +236,15 @@ module _ (body : List ℕ) (b : BoxRecord) (e : b ≡ Given.box_in body) where
       unfolding fields_in numbers_in lru_form words
       lru-record = ap Given.as_arc e ∙ ap arc_of (sym (lru-fields body k))
 
+-- what is refused has another number than 0
+pub err-numbered : (r : Result Unit Refusal) → is_err r ≡ not (eqb (number_of r) 0)
+err-numbered (Ok x) = refl
+err-numbered (Err e) = ap not (sym (ne_eqb (code e) 0 (refused e)))
+
 -- 6, 7, 8 and 13 of tables
-pub tables-fail : (b : BoxRecord) (a t : List ℕ) (r : ℕ) → r ≡ tables_refusal b a t → not (eqb r 0) ≡ failing b a t
+pub tables-fail : (b : BoxRecord) (a t : List ℕ) (r : Result Unit Refusal) → number_of r ≡ tables_refusal b a t → is_err r ≡ failing b a t
 unfolding tables_refusal box_in held_rows
-tables-fail b a t r e = ap (λ n. not (eqb n 0)) e
+tables-fail b a t r e = err-numbered r ∙ ap (λ n. not (eqb n 0)) e
 
 -- ---- 15, 14 and 16 in turn
 

@@ -1,5 +1,5 @@
 -- What a restore finds and leaves, with the records in the code's types. Assumes nothing.
-use Rattle.std.specs.Prelude.{◌≡◌, Bool, not, ◌||◌, List, [], ℕ, ◌+◌, ◌*◌, eqb, length, take, drop}
+use Rattle.std.specs.Prelude.{◌≡◌, Bool, not, ◌||◌, List, [], ℕ, ◌+◌, ◌*◌, eqb, length, take, drop, Result, Ok, Err}
 use Rattle.tables.specs.Rows.{zeros, le4}
 use Rattle.paper.specs.Lent.{first, table_tests}
 use Rattle.paper.specs.Cache.{no_counts}
@@ -7,13 +7,16 @@ use Rattle.arc.specs.Arc.{m_of}
 use Rattle.arc.specs.ArcLent.{arc_table_tests}
 use Rattle.parts.specs.declared.BoxRecord.{BoxRecord}
 use Rattle.parts.specs.Rep.{numbers_of, empty_box}
+use Rattle.refusal.specs.declared.Refusal.{Refusal}
 use Rattle.refusals.specs.Given.{lent}
 use Rattle.arcrefusals.specs.declared.ArcRecord.{ArcRecord}
 use Rattle.arcrefusals.specs.Given.{sizes_of, arc_lent}
 use Rattle.image.specs.Body.{Fields, fields_in}
 use Rattle.image.specs.Kinds.{number_at, string_at, arc_sizes, list_sizes, lru_form, arc_form, kinds}
-use Rattle.image.specs.Saved.{fields_as, Restored}
+use Rattle.image.specs.Saved as Saved
+use Rattle.image.specs.Saved.{fields_as}
 use Rattle.restoring.specs.declared.Found.{Found}
+use Rattle.restoring.specs.declared.Restored.{Restored}
 
 -- "0, B, P, m, d, n, t .. then label": the record in fields, and in a body
 abbrev pub box_of : Fields → BoxRecord
@@ -105,7 +108,12 @@ pub record Laid (body : List ℕ) (x : Fields) (at₁ n₁ n₂ n₃ : ℕ) : Ty
 abbrev pub other_lengths : Found → (addresses blocks lists : ℕ) → Bool
 other_lengths f addresses blocks lists = not (eqb addresses f.addresses) || not (eqb blocks f.blocks) || not (eqb lists f.lists)
 
--- what a restore gives back and leaves: the record of a box of either kind
+-- the records that a restore gives back: of zeros where it is refused
+abbrev pub records_of : Result Restored Refusal → Restored
+records_of (Ok r) = r
+records_of (Err e) = record { box_record = as_box zero_arc; arc_record = zero_arc }
+
+-- what a restore gives back and leaves: the number of its refusal, 0 where it is served, and the record of a box of either kind
 pub record Left : Type 0 where
   pub number : ℕ
   pub given : BoxRecord
@@ -115,7 +123,7 @@ pub record Left : Type 0 where
   pub blocks : List ℕ
   pub lists : List ℕ
 
-abbrev pub left : Restored → Left
+abbrev pub left : Saved.Restored → Left
 left r =
     record {
       number = r.number;

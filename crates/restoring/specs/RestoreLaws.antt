@@ -1,5 +1,5 @@
 -- An area that has an image, and its restore. Assumes nothing.
-use Rattle.std.specs.Prelude.{◌≡◌, true, false, ◌||◌, cond, List, [], ℕ, ◌+◌, ◌*◌, ◌≤◌, eqb, length, drop}
+use Rattle.std.specs.Prelude.{◌≡◌, true, false, ◌||◌, cond, List, [], ℕ, ◌+◌, ◌*◌, ◌≤◌, eqb, length, drop, Result, Ok, Err}
 use Rattle.std.proofs.Math.Path.{refl, sym, ap}
 use Rattle.std.proofs.Common.{◌∙◌, length-drop, length-take-le}
 use Rattle.std.proofs.Math.Bool.{not}
@@ -11,6 +11,8 @@ use Rattle.paper.specs.Lent.{test}
 use Rattle.paper.specs.RefusalLaws.{Apart}
 use Rattle.paper.proofs.RefusalLaws.{gives_none}
 use Rattle.arc.specs.Arc.{m_of}
+use Rattle.refusal.specs.declared.Refusal.{Refusal}
+use Rattle.refusal.specs.Numbers.{code, number_of, refused}
 use Rattle.arcrefusals.specs.declared.ArcRecord.{ArcRecord}
 use Rattle.arcrefusals.specs.Given.{sizes_of}
 use Rattle.image.specs.Body.{Fields, no_body}
@@ -22,7 +24,7 @@ use Rattle.image.specs.Saved.{fields_found, wrong_tables, restore_refusal, resto
 use Rattle.image.proofs.SavedLaws.{first-behind, restore-keeps}
 use Rattle.restoring.specs.declared.Found.{Found}
 use Rattle.restoring.specs.declared.Restored.{Restored}
-use Rattle.restoring.specs.Given.{arc_of, arc_in, as_box, zero_arc, body_fields, Laid, other_lengths, Left, left}
+use Rattle.restoring.specs.Given.{arc_of, arc_in, as_box, zero_arc, body_fields, Laid, other_lengths, records_of, Left, left}
 use Rattle.restoring.specs.FoundLaws.{or-true, room_for, long-enough}
 use Rattle.restoring.specs.ArcBodyLaws.{arc-least, arc-laid}
 
@@ -123,20 +125,28 @@ image-refused area a t l n e h =
     let x = test (wrong_tables kinds (fields_found kinds area) a t l) 2 in
     e ∙ sym (first-behind (image_tests kinds area []) x refl ∙ rw (← e) (rw (ne_eqb n 0 h) refl))
 
--- the answer with both records
-abbrev pub answer : ℕ → ArcRecord → Restored
-answer n c = record { number = n; box_record = as_box c; arc_record = c }
+-- both records
+abbrev pub answer : ArcRecord → Restored
+answer c = record { box_record = as_box c; arc_record = c }
 
-abbrev pub told : Restored → (area addresses blocks lists : List ℕ) → Left
-told r area a t l = record { number = r.number; given = r.box_record; arc = r.arc_record; area = area; addresses = a; blocks = t; lists = l }
+abbrev pub told : Result Restored Refusal → (area addresses blocks lists : List ℕ) → Left
+told r area a t l =
+    record {
+      number = number_of r;
+      given = (records_of r).box_record;
+      arc = (records_of r).arc_record;
+      area = area;
+      addresses = a;
+      blocks = t;
+      lists = l;
+    }
 
 module _ (area a t l : List ℕ) where
-  pub restore-refused : (n : ℕ) (c : ArcRecord) (r : Restored) → r ≡ answer n c → n ≡ restore_refusal kinds area a t l → (n ≡ 0 → ⊥) → c ≡ zero_arc
-      → told r area a t l ≡ left (Saved.restore kinds area a t l)
+  pub restore-refused : (r : Refusal) → code r ≡ restore_refusal kinds area a t l → told (Err r) area a t l ≡ left (Saved.restore kinds area a t l)
   unfolding zeros
-  restore-refused n c r er e h f =
-      let k = restore-keeps kinds area a t l (λ z. h (e ∙ z)) in
-      ap (λ x. told x area a t l) er ∙ (λ i. told (answer (e i) (f i)) area a t l) ∙ sym (ap left k)
+  restore-refused r e =
+      let k = restore-keeps kinds area a t l (λ z. refused r (e ∙ z)) in
+      (λ i. record { number = e i; given = as_box zero_arc; arc = zero_arc; area = area; addresses = a; blocks = t; lists = l }) ∙ sym (ap left k)
 
   module _ (e : restore_refusal kinds area a t l ≡ 0) where
     -- what is known of it
@@ -152,9 +162,9 @@ module _ (area a t l : List ℕ) where
     unfolding Saved.restore
     is-restored = rw e refl
 
-    pub restore-served : (area' a' t' l' : List ℕ) (c : ArcRecord) (r : Restored) → let x = fields_found kinds area in r ≡ answer 0 c → c ≡ arc_of x
+    pub restore-served : (area' a' t' l' : List ℕ) (c : ArcRecord) (r : Restored) → let x = fields_found kinds area in r ≡ answer c → c ≡ arc_of x
         → a' ≡ string_at x 1 → t' ≡ string_at x 2 → l' ≡ string_at x 3 → area' ≡ put area clearing
-        → told r area' a' t' l' ≡ left (Saved.restore kinds area a t l)
+        → told (Ok r) area' a' t' l' ≡ left (Saved.restore kinds area a t l)
     unfolding restored
     restore-served area' a' t' l' c r er f ea et el ew =
-        ap (λ x. told x area' a' t' l') er ∙ (λ i. told (answer 0 (f i)) (ew i) (ea i) (et i) (el i)) ∙ sym (ap left is-restored)
+        ap (λ x. told (Ok x) area' a' t' l') er ∙ (λ i. told (Ok (answer (f i))) (ew i) (ea i) (et i) (el i)) ∙ sym (ap left is-restored)

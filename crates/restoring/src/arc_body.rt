@@ -37,15 +37,13 @@ pub(crate) fn arc_record_in(body: &[u8]) -> ArcRecord
     requires { 116 ≤ length body.now }
     ensures { result ≡ arc_in body.now }
 {
-    let label = label_in(&body[52..116]);
-    let sizes = sizes_in(body);
     ArcRecord {
         size: row::word_at(body, 4) as usize,
         blocks: row::word_at(body, 8) as usize,
         held: row::word_at(body, 20) as usize,
-        label: label,
+        label: label_in(&body[52..116]),
         limit: row::word_at(body, 24) as usize,
-        sizes: sizes,
+        sizes: sizes_in(body),
     }
 }
 
@@ -69,7 +67,8 @@ pub(crate) fn arc_sized_fails(a: ArcRecord, body: &[u8]) -> bool
         &body[second..third],
         &body[third..end],
         &mut heads,
-    ) != 0
+    )
+    .is_err()
 }
 
 // Whether a body that starts with 1 isn't as long as its record says, or fails 11, 12, 6, 7, 8 or 13.

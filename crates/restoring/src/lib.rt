@@ -3,37 +3,31 @@
 
 mod arc_body;
 
-ghost use Rattle.std.specs.Prelude.{◌≡◌, false, ◌+◌, ◌*◌, ◌≤◌, length, take, drop};
+ghost use Rattle.std.specs.Prelude.{◌≡◌, false, ◌+◌, ◌*◌, ◌≤◌, length, take, drop, IfOk};
 ghost use Rattle.tables.specs.Rows.{le4, table_bytes};
 ghost use Rattle.tables.specs.Find.{all};
 ghost use Rattle.tables.specs.Sound.{is_zero};
 ghost use Rattle.paper.specs.Lent.{unfit, limit_outside};
 ghost use Rattle.parts.specs.Rep.{numbers_of};
+ghost use Rattle.refusal.specs.Numbers.{number_of};
 ghost use Rattle.image.specs.Body.{no_body};
 ghost use Rattle.image.specs.Image.{no_image, too_short, body_in, image_refusal};
-ghost use Rattle.image.specs.Kinds.{string_at, kinds};
+ghost use Rattle.image.specs.Kinds.{kinds};
 ghost use Rattle.image.specs.Saved as Saved;
-ghost use Rattle.image.specs.Saved.{fields_found, restore_refusal};
-ghost use Rattle.restoring.specs.Given.{arc_of, box_in, as_arc, as_box, zero_arc, body_fields, Laid, other_lengths, failing, left};
+ghost use Rattle.restoring.specs.Given.{arc_of, box_in, as_arc, as_box, body_fields, Laid, other_lengths, failing, records_of, left};
 
 use arclists::ListSizes;
 use arcrefusals::ArcRecord;
 use checks::index;
 use parts::BoxRecord;
+use refusal::Refusal;
 use tables::row;
 
 // Whether all bytes are zero.
 pub(crate) fn all_zero(t: &[u8]) -> bool
     ensures { result ≡ all is_zero t.now }
 {
-    let mut k = 0;
-    while k < t.len() {
-        if t[k] != 0 {
-            return false;
-        }
-        k += 1;
-    }
-    true
+    t.iter().all(|&x| x == 0)
 }
 
 // 15: whether the area's header is no image of version 1.
@@ -59,7 +53,7 @@ pub(crate) fn no_image(area: &[u8]) -> bool
 pub fn too_short(area: &[u8], n: u32) -> bool
     ensures { result ≡ too_short area.now n }
 {
-    let writes = (n as usize + 63) / 64;
+    let writes = (n as usize).div_ceil(64);
     area.len() < 64 + writes * 64
 }
 
@@ -69,7 +63,7 @@ pub(crate) fn label_in(part: &[u8]) -> [u8; 64]
     ensures { result ≡ part.now }
 {
     let mut label = [0u8; 64];
-    block::copy_all(part, &mut label);
+    label.copy_from_slice(part);
     label
 }
 
@@ -78,14 +72,13 @@ pub(crate) fn record_in(body: &[u8]) -> BoxRecord
     requires { 92 ≤ length body.now }
     ensures { result ≡ box_in body.now }
 {
-    let label = label_in(&body[28..92]);
     BoxRecord {
         size: row::word_at(body, 4) as usize,
         blocks: row::word_at(body, 8) as usize,
         rows: row::word_at(body, 12) as usize,
         slots: row::word_at(body, 16) as usize,
         held: row::word_at(body, 20) as usize,
-        label: label,
+        label: label_in(&body[28..92]),
         limit: row::word_at(body, 24) as usize,
     }
 }
@@ -98,7 +91,7 @@ pub(crate) fn tables_fail(b: BoxRecord, addresses: &[u8], blocks: &[u8]) -> bool
         → result ≡ failing b addresses.now blocks.now }
 {
     let mut heads = [0u16; index::ENTRIES];
-    refusals::of_tables(b, addresses, blocks, &mut heads) != 0
+    refusals::of_tables(b, addresses, blocks, &mut heads).is_err()
 }
 
 // Whether a D-LRU body whose record `b` has fit numbers isn't as long as that says, or fails 6, 7, 8 or 13.
@@ -135,42 +128,31 @@ pub(crate) fn no_body(body: &[u8]) -> bool
     if body.len() < 92 {
         return true;
     }
-    let kind = row::word_at(body, 0);
-    if kind == 0 {
-        let b = record_in(body);
-        return box_fails(b, body);
+    match row::word_at(body, 0) {
+        0 => box_fails(record_in(body), body),
+        1 => arc_body::arc_fails(body),
+        _ => true,
     }
-    if kind != 1 {
-        return true;
-    }
-    arc_body::arc_fails(body)
 }
 
-// 15, 14 or 16, the first that applies; 0 for none.
-pub(crate) fn image_refusal(area: &[u8]) -> u32
-    ensures { result ≡ image_refusal kinds area.now }
+// The body in an area that has an image, else refusal 15, 14 or 16.
+pub(crate) fn body_in<'a>(area: &'a [u8]) -> Result<&'a [u8], Refusal>
+    ensures value { number_of result ≡ image_refusal kinds area.now }
+    ensures body { IfOk result (λ body. body.now ≡ body_in area.now) }
 {
     if no_image(area) {
-        return 15;
+        return Err(Refusal::NoImage);
     }
     let n = row::word_at(area, 5);
     if too_short(area, n) {
-        return 14;
+        return Err(Refusal::NoRoom);
     }
     let end = 64 + n as usize;
-    if no_body(&area[64..end]) {
-        return 16;
+    let body = &area[64..end];
+    if no_body(body) {
+        return Err(Refusal::BadImage);
     }
-    0
-}
-
-// The body in an area that has an image.
-pub(crate) fn body_in<'a>(area: &'a [u8]) -> &'a [u8]
-    requires { image_refusal kinds area.now ≡ 0 }
-    ensures { result.now ≡ body_in area.now }
-{
-    let end = 64 + row::word_at(area, 5) as usize;
-    &area[64..end]
+    Ok(body)
 }
 
 // What a restore finds in a body: the record, and where the tables and the lists lie, from `start` on, as long as these numbers say.
@@ -188,23 +170,22 @@ pub(crate) fn as_arc(b: BoxRecord) -> ArcRecord
     ensures { result ≡ as_arc b }
 {
     let label = b.label;
-    let sizes = ListSizes {
-        t1: 0,
-        t2: 0,
-        b1: 0,
-        b2: 0,
-        b3: 0,
-        p: 0,
-        cached: b.rows,
-        extra: b.slots,
-    };
     ArcRecord {
         size: b.size,
         blocks: b.blocks,
         held: b.held,
-        label: label,
+        label,
         limit: b.limit,
-        sizes: sizes,
+        sizes: ListSizes {
+            t1: 0,
+            t2: 0,
+            b1: 0,
+            b2: 0,
+            b3: 0,
+            p: 0,
+            cached: b.rows,
+            extra: b.slots,
+        },
     }
 }
 
@@ -215,9 +196,8 @@ pub(crate) fn lru_found(body: &[u8]) -> Found
     ensures laid { Laid body.now (body_fields body.now) result.start result.addresses result.blocks result.lists }
 {
     let b = record_in(body);
-    let a = as_arc(b);
     Found {
-        arc_record: a,
+        arc_record: as_arc(b),
         start: 92,
         addresses: b.rows * row::BYTES,
         blocks: b.slots * row::BYTES,
@@ -250,21 +230,6 @@ pub(crate) fn wrong_tables(f: Found, addresses: usize, blocks: usize, lists: usi
     lists != f.lists
 }
 
-// 15, 14, 16 or 2, the first that applies; 0 for none.
-pub(crate) fn restore_refusal(area: &[u8], addresses: &[u8], blocks: &[u8], lists: &[u8]) -> u32
-    ensures { result ≡ restore_refusal kinds area.now addresses.now blocks.now lists.now }
-{
-    let number = image_refusal(area);
-    if number != 0 {
-        return number;
-    }
-    let f = found_in(body_in(area));
-    if wrong_tables(f, addresses.len(), blocks.len(), lists.len()) {
-        return 2;
-    }
-    0
-}
-
 // Copies the tables and the lists that were found in a body into those lent.
 pub(crate) fn take_tables(
     f: Found,
@@ -283,64 +248,35 @@ pub(crate) fn take_tables(
     let second = first + f.addresses;
     let third = second + f.blocks;
     let end = third + f.lists;
-    block::copy_all(&body[first..second], addresses);
-    block::copy_all(&body[second..third], blocks);
-    block::copy_all(&body[third..end], lists);
+    addresses.copy_from_slice(&body[first..second]);
+    blocks.copy_from_slice(&body[second..third]);
+    lists.copy_from_slice(&body[third..end]);
 }
 
-// The box whose image is in an area that isn't refused: its record, and its tables and lists in those lent.
-pub(crate) fn take_box(
-    area: &[u8],
-    addresses: &mut [u8],
-    blocks: &mut [u8],
-    lists: &mut [u8],
-) -> ArcRecord
-    requires { restore_refusal kinds area.now addresses.old blocks.old lists.old ≡ 0 }
-    ensures value { result ≡ arc_of (fields_found kinds area.now) }
-    ensures addresses_after { addresses.new ≡ string_at (fields_found kinds area.now) 1 }
-    ensures blocks_after { blocks.new ≡ string_at (fields_found kinds area.now) 2 }
-    ensures lists_after { lists.new ≡ string_at (fields_found kinds area.now) 3 }
-{
-    let body = body_in(area);
-    let f = found_in(body);
-    take_tables(f, body, addresses, blocks, lists);
-    f.arc_record
-}
-
-// What a restore gives back: the number of its refusal, 0 where it is served, and the record of a box of either kind, by the first number of the body.
+// What a restore gives back: the record of a box of either kind, by the first number of the body.
 #[derive(Clone, Copy)]
 pub struct Restored {
-    pub number: u32,
     pub box_record: BoxRecord,
     pub arc_record: ArcRecord,
 }
 
-// The answer with both records; a D-LRU box's m and d lie where a D-ARC box's C and X do.
-pub(crate) fn given_back(number: u32, a: ArcRecord) -> Restored
-    ensures { result ≡ record { number = number; box_record = as_box a; arc_record = a } }
+// Both records; a D-LRU box's m and d lie where a D-ARC box's C and X do.
+pub(crate) fn given_back(a: ArcRecord) -> Restored
+    ensures { result ≡ record { box_record = as_box a; arc_record = a } }
 {
     let label = a.label;
-    let b = BoxRecord {
-        size: a.size,
-        blocks: a.blocks,
-        rows: a.sizes.cached,
-        slots: a.sizes.extra,
-        held: a.held,
-        label: label,
-        limit: a.limit,
-    };
     Restored {
-        number: number,
-        box_record: b,
+        box_record: BoxRecord {
+            size: a.size,
+            blocks: a.blocks,
+            rows: a.sizes.cached,
+            slots: a.sizes.extra,
+            held: a.held,
+            label,
+            limit: a.limit,
+        },
         arc_record: a,
     }
-}
-
-// The record of a refused restore.
-pub(crate) fn no_record() -> ArcRecord
-    ensures { result ≡ zero_arc }
-{
-    as_arc(parts::empty_box(0, 0, 0, 0, 0, [0u8; 64]))
 }
 
 // Restores the box whose image is in the area: the tables and the lists are filled, the header is cleared, and the record is given back.
@@ -349,11 +285,11 @@ pub fn restore(
     addresses: &mut [u8],
     blocks: &mut [u8],
     lists: &mut [u8],
-) -> Restored
+) -> Result<Restored, Refusal>
     ensures { record {
-      number = result.number;
-      given = result.box_record;
-      arc = result.arc_record;
+      number = number_of result;
+      given = (records_of result).box_record;
+      arc = (records_of result).arc_record;
       area = area.new;
       addresses = addresses.new;
       blocks = blocks.new;
@@ -361,11 +297,12 @@ pub fn restore(
     }
         ≡ left (Saved.restore kinds area.old addresses.old blocks.old lists.old) }
 {
-    let number = restore_refusal(area, addresses, blocks, lists);
-    if number != 0 {
-        return given_back(number, no_record());
+    let body = body_in(area)?;
+    let f = found_in(body);
+    if wrong_tables(f, addresses.len(), blocks.len(), lists.len()) {
+        return Err(Refusal::WrongLength);
     }
-    let a = take_box(area, addresses, blocks, lists);
+    take_tables(f, body, addresses, blocks, lists);
     area::clear_header(area);
-    given_back(0, a)
+    Ok(given_back(f.arc_record))
 }

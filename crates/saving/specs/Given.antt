@@ -2,7 +2,8 @@
 use Rattle.std.specs.Prelude.{◌≡◌, List, [], ℕ, ◌+◌, ◌*◌, ◌≤◌, length}
 use Rattle.parts.specs.declared.BoxRecord.{BoxRecord}
 use Rattle.parts.specs.Rep.{numbers_of}
-use Rattle.policy.specs.declared.calls.Outcome.{Outcome}
+use Rattle.outcome.specs.declared.Outcome.{Outcome}
+use Rattle.policy.specs.declared.Answered.{Answered}
 use Rattle.policy.specs.Contract.{answer_of}
 use Rattle.refusals.specs.Given.{counters_of, lent}
 use Rattle.paper.specs.Cache.{Numbers, no_counts}
@@ -35,7 +36,7 @@ pub record Told : Type 0 where
   pub numbers : Numbers
   pub saved : Saved Lent
 
-abbrev pub told : Outcome → (disk flash addresses blocks area : List ℕ) → Told
+abbrev pub told : Outcome Answered BoxRecord → (disk flash addresses blocks area : List ℕ) → Told
 told r disk flash addresses blocks area =
     record {
       numbers = numbers_of r.box_record;

@@ -1,5 +1,5 @@
 -- A save in turn. Assumes nothing.
-use Rattle.std.specs.Prelude.{◌≡◌, true, false, cond, List, [], ◌∷◌, ◌++◌, ℕ, ◌+◌, ◌*◌, ◌≤◌, eqb}
+use Rattle.std.specs.Prelude.{◌≡◌, true, false, cond, List, [], ◌∷◌, ◌++◌, ℕ, ◌+◌, ◌*◌, ◌≤◌, eqb, Err}
 use Rattle.std.proofs.Math.Path.{refl, ap, ap₂, subst, subst₂}
 use Rattle.std.proofs.Common.{sym, ◌∙◌, arith, length-append, ne_eqb, ltb-false}
 use Rattle.std.proofs.Math.Option.{none}
@@ -14,8 +14,11 @@ use Rattle.arc.specs.ArcLent.{word_bytes}
 use Rattle.arc.proofs.ArcLentLaws.{length-words}
 use Rattle.parts.specs.declared.BoxRecord.{BoxRecord}
 use Rattle.parts.specs.Rep.{numbers_of}
-use Rattle.policy.specs.declared.calls.Outcome.{Outcome}
-use Rattle.policy.specs.declared.Answer.TheVariants.{Refused}
+use Rattle.outcome.specs.declared.Outcome.{Outcome}
+use Rattle.policy.specs.declared.Answered.{Answered}
+use Rattle.refusal.specs.declared.Refusal.{Refusal}
+use Rattle.refusal.specs.Numbers.{code}
+use Rattle.refusal.specs.Numbers as Refusals
 use Rattle.policy.specs.Contract as Policy
 use Rattle.counters.specs.declared.Counters as Code
 use Rattle.refusals.specs.Given.{counters_of, lent}
@@ -109,16 +112,16 @@ module _ (N : Numbers) (t : Lent) (area : List ℕ) (e : save_refusal (lru_saver
 
 -- ---- in turn
 
-pub save-refused : (b : BoxRecord) (c : Code.Counters) (disk flash a bs area : List ℕ) (k : ℕ)
-    → k ≡ save_refusal (lru_saver (numbers_of b)) (lent b disk flash a bs (counters_of c)) area → (k ≡ 0 → ⊥)
-    → told (record { answer = Refused k; box_record = b; counters = c }) disk flash a bs area ≡ saved_by b (lent b disk flash a bs (counters_of c)) area
-save-refused b c disk flash a bs area k e h =
+pub save-refused : (b : BoxRecord) (c : Code.Counters) (disk flash a bs area : List ℕ) (r : Refusal)
+    → code r ≡ save_refusal (lru_saver (numbers_of b)) (lent b disk flash a bs (counters_of c)) area
+    → told (record { answer = Err r; box_record = b; counters = c }) disk flash a bs area ≡ saved_by b (lent b disk flash a bs (counters_of c)) area
+save-refused b c disk flash a bs area r e =
     let t = lent b disk flash a bs (counters_of c) in
     (λ i. record { numbers = numbers_of b; saved = record { answer = refused (e i); lent = t; area = area } })
-    ∙ ap (λ s. record { numbers = numbers_of b; saved = s }) (sym (save-keeps (lru_saver (numbers_of b)) t area (λ z. h (e ∙ z))))
+    ∙ ap (λ s. record { numbers = numbers_of b; saved = s }) (sym (save-keeps (lru_saver (numbers_of b)) t area (λ z. Refusals.refused r (e ∙ z))))
 
 -- the flush's outcome r
-module _ (b : BoxRecord) (t : Lent) (area : List ℕ) (e : save_refusal (lru_saver (numbers_of b)) t area ≡ 0) (r : Outcome) (disk flash a bs : List ℕ)
+module _ (b : BoxRecord) (t : Lent) (area : List ℕ) (e : save_refusal (lru_saver (numbers_of b)) t area ≡ 0) (r : Outcome Answered BoxRecord) (disk flash a bs : List ℕ)
     (h : Policy.told r disk flash a bs none ≡ Policy.called b t (Ask.flush b.rows)) where
   n : numbers_of r.box_record ≡ numbers_of b
   n = ap (λ x. x.numbers) h

@@ -1,7 +1,8 @@
 // Save: a flush, then the image of the box in a lent area.
 #![tactic(auto)]
 
-ghost use Rattle.std.specs.Prelude.{◌≡◌, ◌≤◌};
+ghost use Rattle.std.specs.Prelude.{◌≡◌, ◌≤◌, OnOk};
+ghost use Rattle.refusal.specs.Numbers.{number_of};
 ghost use Rattle.tables.specs.Index.{Blank, Indexed};
 ghost use Rattle.parts.specs.Rep.{numbers_of};
 ghost use Rattle.refusals.specs.Given.{counters_of, lent};
@@ -12,9 +13,10 @@ ghost use Rattle.saving.specs.Given.{box_body, Writable, told, saved_by};
 
 use checks::index;
 use counters::Counters;
+use outcome::{Outcome, refused};
 use parts::BoxRecord;
-use policy::Answer;
-use policy::calls::Outcome;
+use policy::Answered;
+use refusal::Refusal;
 use tables::row;
 
 // The bytes of the body of a box.
@@ -25,7 +27,7 @@ pub(crate) fn body_length(b: BoxRecord) -> u32
     (92 + b.rows * row::BYTES + b.slots * row::BYTES) as u32
 }
 
-// What a save is refused with: as a full flush, then 14. Where it is 0, `heads`, 0 everywhere at first, is the index of the block rows.
+// What a save is refused with: as a full flush, then 14. Where there is none, `heads`, 0 everywhere at first, is the index of the block rows.
 pub(crate) fn save_refusal(
     b: BoxRecord,
     disk: &[u8],
@@ -35,21 +37,18 @@ pub(crate) fn save_refusal(
     area: &[u8],
     c: Counters,
     heads: &mut [u16],
-) -> u32
+) -> Result<(), Refusal>
     requires { Blank heads.old }
-    ensures value { result ≡ save_refusal (lru_saver (numbers_of b)) (lent b disk.now flash.now addresses.now blocks.now
+    ensures value { number_of result ≡ save_refusal (lru_saver (numbers_of b)) (lent b disk.now flash.now addresses.now blocks.now
         (counters_of c)) area.now }
-    ensures indexed { result ≡ 0 → Indexed b.slots blocks.now heads.new }
+    ensures indexed { OnOk result (Indexed b.slots blocks.now heads.new) }
 {
-    let number = refusals::of_flush(b, disk, flash, addresses, blocks, c, heads);
-    if number != 0 {
-        return number;
-    }
+    refusals::of_flush(b, disk, flash, addresses, blocks, c, heads)?;
     let n = body_length(b);
     if restoring::too_short(area, n) {
-        return 14;
+        return Err(Refusal::NoRoom);
     }
-    0
+    Ok(())
 }
 
 // Writes the image of a box into the area.
@@ -81,18 +80,13 @@ pub fn save(
     blocks: &[u8],
     area: &mut [u8],
     c: Counters,
-) -> Outcome
+) -> Outcome<Answered, BoxRecord>
     ensures { told result disk.new flash.now addresses.new blocks.now area.new
         ≡ saved_by b (lent b disk.old flash.now addresses.old blocks.now (counters_of c)) area.old }
 {
     let mut heads = [0u16; index::ENTRIES];
-    let number = save_refusal(b, disk, flash, addresses, blocks, area, c, &mut heads);
-    if number != 0 {
-        return Outcome {
-            answer: Answer::Refused(number),
-            box_record: b,
-            counters: c,
-        };
+    if let Err(r) = save_refusal(b, disk, flash, addresses, blocks, area, c, &mut heads) {
+        return refused(r, b, c);
     }
     let r = policy::calls::flush_served(b, b.rows, disk, flash, addresses, blocks, c, &heads);
     let next = r.box_record;

@@ -249,7 +249,7 @@ pub fn read_hit(
     let dirty = rows::dirty_at(addrs, i);
     let seat = row::seat_at(addrs, i);
     let slot = row::slot_at(blocks, j);
-    block::copy_all(block::in_slot(flash, slot, b.size), block);
+    block.copy_from_slice(block::in_slot(flash, slot, b.size));
     steps::renew(b, a, i, j, dirty, seat, addrs, blocks, &g);
     Served {
         yes: true,
@@ -310,7 +310,7 @@ pub fn read_miss(
         → left result disk.new flash.new addrs.new blocks.new block.new
         ≡ leaves b lent (read_as (engine b) b.rows s a.0 (get_or s.disk a.0 (engine b).blank) Option.none) }
 {
-    block::copy_all(block::at_address(disk, a, b.size), block);
+    block.copy_from_slice(block::at_address(disk, a, b.size));
     read_taken(b, a, disk, flash, addrs, blocks, block, heads)
 }
 

@@ -1,19 +1,18 @@
 -- Demand 3 of the running engine: from an opening in C that is not refused, for every list of C calls, each with an answer's buffer of its own, of any
 -- length, what each call returns and leaves is the paper's, and `Demand3` holds of the list. The calls are given by what their contracts say. Assumes nothing.
-use Rattle.std.specs.Prelude.{◌≡◌, Bool, true, false, ◌&&◌, cond, ℕ, ◌<◌, length, get_or}
+use Rattle.std.specs.Prelude.{◌≡◌, Bool, true, false, ◌&&◌, cond, ℕ, length}
 use Rattle.std.proofs.Math.Path.{refl, ap, subst}
 use Rattle.std.proofs.Common.{sym, ap₂, ◌∙◌, subst₂, eq-eqb, eqb-true}
-use mathlib.Core.List.{List, [], ◌∷◌, ◌++◌}
+use mathlib.Core.List.{List, [], ◌∷◌}
 use native.Mathlib.Omega.{arith}
 use Rattle.std.proofs.Math.Dec.{eqb}
 use Rattle.tables.specs.Rows.{table_bytes}
 use Rattle.paper.specs.KeyedLaws.{All, by-test, and_left, and_right}
 use Rattle.paper.specs.Cache.{Numbers}
-use Rattle.paper.specs.Lent.{Lent, Ask, opening, refusal, lent_block, call, opened, fresh, with_label, with_counters}
+use Rattle.paper.specs.Lent.{Lent, Ask, opening, refusal, call, opened, fresh, with_label, with_counters}
 use Rattle.paper.proofs.RefusalLaws.{opened-is, label-carried}
-use Rattle.paper.specs.BatchLent.{Asking, one, many, report, recount, call_batch}
+use Rattle.paper.specs.BatchLent.{Asking, one, many, call_batch}
 use Rattle.paper.specs.Reports.{Reader}
-use Rattle.reports.specs.Contract.{reports}
 use Rattle.paper.specs.CallLaws.{In64}
 use Rattle.paper.specs.Demand3.{next, Demand3}
 use Rattle.paper.specs.Demand3Laws.{Written, Brings64}
@@ -24,7 +23,7 @@ use Rattle.image.specs.Area.{put, clearing}
 use Rattle.image.specs.Kinds.{lru_fields, kinds}
 use Rattle.image.specs.Saved.{lru_saver, save_refusal, save}
 use Rattle.image.proofs.SavedLaws.{save-is, given_back}
-use Rattle.fields.specs.Fields.{record_in, counters_in, fitting, state_bytes}
+use Rattle.fields.specs.Fields.{counters_in, fitting, state_bytes}
 use Rattle.fields.specs.Noted.{LeftLook}
 use Rattle.service.specs.Left.{leaves, leaves_many, fresh_record, opened_in, leaves_open, leaves_look}
 use Rattle.service.specs.Left.{leaves_report}

@@ -1,37 +1,26 @@
 -- Demand 3 of the running engine: from an opening in C that is not refused, for every list of C calls, each with an answer's buffer of its own, of any
 -- length, what each call returns and leaves is the paper's, and `Demand3` holds of the list. The calls are given by what their contracts say. Assumes nothing.
 use Rattle.std.specs.Prelude.{◌≡◌, Bool, true, false, ◌&&◌, cond, ℕ, ◌<◌, length, get_or}
-use Rattle.std.proofs.Math.Path.{refl, ap, subst}
-use Rattle.std.proofs.Common.{sym, ap₂, ◌∙◌, subst₂, eq-eqb, eqb-true}
 use mathlib.Core.List.{List, [], ◌∷◌, ◌++◌}
-use native.Mathlib.Omega.{arith}
 use Rattle.std.proofs.Math.Dec.{eqb}
 use Rattle.tables.specs.Rows.{table_bytes}
-use Rattle.paper.specs.KeyedLaws.{All, by-test, and_left, and_right}
 use Rattle.paper.specs.Cache.{Numbers}
-use Rattle.paper.specs.Lent.{Lent, Ask, opening, refusal, lent_block, call, opened, fresh, with_label, with_counters}
-use Rattle.paper.proofs.RefusalLaws.{opened-is, label-carried}
+use Rattle.paper.specs.Lent.{Lent, Ask, lent_block, call}
 use Rattle.paper.specs.BatchLent.{Asking, one, many, report, recount, call_batch}
 use Rattle.paper.specs.Reports.{Reader}
 use Rattle.reports.specs.Contract.{reports}
-use Rattle.paper.specs.CallLaws.{In64}
-use Rattle.paper.specs.Demand3.{next, Demand3}
-use Rattle.paper.specs.Demand3Laws.{Written, Brings64}
-use Rattle.paper.proofs.Demand3Laws.{demand-3, opened-written, next-written, next_64, look-stays}
+use Rattle.paper.specs.Demand3.{next}
 use Rattle.parts.specs.Rep.{numbers_of}
-use Rattle.refusals.specs.Given.{counters_of, lent}
-use Rattle.image.specs.Area.{put, clearing}
+use Rattle.refusals.specs.Given.{counters_of}
 use Rattle.image.specs.Kinds.{lru_fields, kinds}
 use Rattle.image.specs.Saved.{lru_saver, save_refusal, save}
-use Rattle.image.proofs.SavedLaws.{save-is, given_back}
+use Rattle.image.proofs.SavedLaws.{given_back}
 use Rattle.fields.specs.Fields.{record_in, counters_in, fitting, state_bytes}
-use Rattle.fields.specs.Noted.{LeftLook}
-use Rattle.service.specs.Left.{lent_in, told_in, Left, leaves, LeftMany, told_many_in, leaves_many, fresh_record, opened_in, leaves_open, leaves_look}
+use Rattle.service.specs.Left.{lent_in, told_in, Left, leaves, LeftMany, told_many_in, leaves_many, leaves_look}
 use Rattle.service.specs.Left.{leaves_report}
 use Rattle.service.specs.Left.{Shows}
 use Rattle.service.specs.LeftWarm.{LeftSave, saved_in, leaves_save, LeftRestore, restored_in, leaves_restore}
-use Rattle.service.specs.Carried.{Carries, in64, carried-64, carried-many, carried-open}
-use Rattle.service.specs.CarriedWarm.{save-returns, carried-save, restore-leaves, carried-warm, second-restore}
+use Rattle.service.specs.Carried.{Carries}
 
 -- a C call: what is asked, and the answer's buffer; or the addresses and the buffer of a folder read, and the answer's buffer; or a report's bytes
 pub data Made : Type 0 where

@@ -19,6 +19,7 @@ use serve::Write;
 use tables::SourceAddress;
 
 // Reads the block at `address` into `block`.
+#[tactic(auto, unfolding(fields::specs::Fields::fitting, crate::specs::Left::leaves, crate::specs::Left::told_in))]
 #[unsafe(no_mangle)]
 pub extern "C" fn mindavehu_read(
     state: &mut [u8],
@@ -54,6 +55,7 @@ pub extern "C" fn mindavehu_read(
 }
 
 // Reads the block at each address of `asked`, in turn, into its place of `buffer`.
+#[tactic(auto, unfolding(fields::specs::Fields::fitting, crate::specs::Left::leaves_many, crate::specs::Left::told_many_in))]
 #[unsafe(no_mangle)]
 pub extern "C" fn mindavehu_read_many(
     state: &mut [u8],
@@ -88,6 +90,7 @@ pub extern "C" fn mindavehu_read_many(
 }
 
 // Writes `block` by a seat, by the kind of the write.
+#[tactic(auto, unfolding(fields::specs::Fields::fitting, crate::specs::Left::leaves, crate::specs::Left::told_in))]
 fn write(
     kind: Write,
     state: &mut [u8],
@@ -222,6 +225,7 @@ pub extern "C" fn mindavehu_write_invalidate(
 }
 
 // Copies the blocks of at most `most` dirty rows, oldest first, to the disk; the answer's primary writes say of how many.
+#[tactic(auto, unfolding(fields::specs::Fields::fitting, crate::specs::Left::leaves, crate::specs::Left::told_in))]
 #[unsafe(no_mangle)]
 pub extern "C" fn mindavehu_flush_some(
     state: &mut [u8],
@@ -247,6 +251,7 @@ pub extern "C" fn mindavehu_flush_some(
 }
 
 // Copies each block that is newer in the flash to the disk.
+#[tactic(auto, unfolding(fields::specs::Fields::fitting, crate::specs::Left::leaves))]
 #[unsafe(no_mangle)]
 pub extern "C" fn mindavehu_flush(
     state: &mut [u8],
@@ -269,6 +274,7 @@ pub extern "C" fn mindavehu_flush(
 }
 
 // Tells where the block at `address` is. Nothing is moved or counted.
+#[tactic(auto, unfolding(fields::specs::Fields::fitting, crate::specs::Left::leaves_look))]
 #[unsafe(no_mangle)]
 pub extern "C" fn mindavehu_look(
     state: &[u8],
@@ -297,6 +303,7 @@ pub extern "C" fn mindavehu_look(
 }
 
 // The report of the held rows, oldest first, in `report`; nothing else is written.
+#[tactic(auto, unfolding(crate::specs::Left::leaves_report))]
 fn held_report(
     reader: Reader,
     state: &[u8],
@@ -314,7 +321,8 @@ fn held_report(
         return 2;
     }
     let b = fields::record_in(state);
-    reports::report(reader, b, disk, flash, addresses, blocks, report)
+    let told = reports::report(reader, b, disk, flash, addresses, blocks, report);
+    refusal::number(&told)
 }
 
 // The manager's report: address, dirty byte and seat of each held row.
@@ -360,6 +368,7 @@ pub extern "C" fn mindavehu_desk_report(
 }
 
 // Opens a box of the numbers and the limit in `state` and the label `label`: the tables become fresh, n and the counters 0; disk and flash keep their bytes.
+#[tactic(auto, unfolding(crate::specs::Left::leaves_open, crate::specs::Left::opened_in))]
 #[unsafe(no_mangle)]
 pub extern "C" fn mindavehu_open(
     state: &mut [u8],
@@ -384,6 +393,7 @@ pub extern "C" fn mindavehu_open(
 }
 
 // Counts over all lists of `k` reads, from a fresh box of these numbers and this label over `disk`, how many have 0, 1, up to 8 hits, into `counts`.
+#[tactic(auto, unfolding(crate::specs::Left::leaves_scores))]
 #[unsafe(no_mangle)]
 pub extern "C" fn mindavehu_scores(
     size: usize,
@@ -400,7 +410,7 @@ pub extern "C" fn mindavehu_scores(
         ≡ leaves_scores (record { B = size; P = blocks; m = rows; d = slots; label = label.now; t = limit }) disk.now k
         counts.old }
 {
-    let t = exam::scores(
+    let told = exam::scores(
         size,
         blocks,
         rows,
@@ -411,7 +421,14 @@ pub extern "C" fn mindavehu_scores(
         k,
         counts.len(),
     );
-    let c = t.counts;
-    fields::put_counts(counts, c);
-    t.number
+    match told {
+        Ok(c) => {
+            fields::put_counts(counts, c);
+            0
+        }
+        Err(r) => {
+            fields::put_counts(counts, [0; 9]);
+            u32::from(r)
+        }
+    }
 }

@@ -3,6 +3,7 @@ ghost use Rattle.std.specs.Prelude.{◌≡◌};
 ghost use Rattle.service.specs.LeftWarm.{leaves_save, leaves_restore};
 
 // Flushes the box and writes its image into `area`.
+#[tactic(auto, unfolding(fields::specs::Fields::fitting, crate::specs::LeftWarm::leaves_save, crate::specs::LeftWarm::saved_in))]
 #[unsafe(no_mangle)]
 pub extern "C" fn mindavehu_save(
     state: &mut [u8],
@@ -36,6 +37,7 @@ pub extern "C" fn mindavehu_save(
 }
 
 // Gives back the box whose image is in `area`, and clears the image's header. The counters in `state` are kept.
+#[tactic(auto, unfolding(crate::specs::LeftWarm::leaves_restore, crate::specs::LeftWarm::restored_in, tables::specs::Rows::zeros))]
 #[unsafe(no_mangle)]
 pub extern "C" fn mindavehu_restore(
     state: &mut [u8],
@@ -57,8 +59,14 @@ pub extern "C" fn mindavehu_restore(
     if state.len() != fields::STATE {
         return 2;
     }
-    let r = restoring::restore(area, addresses, blocks, lists);
-    let b = r.box_record;
-    fields::put_record(state, b);
-    r.number
+    match restoring::restore(area, addresses, blocks, lists) {
+        Ok(r) => {
+            fields::put_record(state, r.box_record);
+            0
+        }
+        Err(r) => {
+            fields::put_record(state, parts::empty_box(0, 0, 0, 0, 0, [0; 64]));
+            u32::from(r)
+        }
+    }
 }

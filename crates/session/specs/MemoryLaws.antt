@@ -1,8 +1,7 @@
 -- A byte keeps a state that fits its buffers, so that what is written over them is read back. By the tests and the lengths of each part.
 -- Assumes nothing.
-use Rattle.std.specs.Prelude.{◌≡◌, ℕ, zero, suc, ◌+◌, ◌*◌, ◌≤◌, Bool, true, false, cond, ◌&&◌, ◌||◌, leb, List, [], ◌∷◌, ◌++◌, length, take, drop, replicate, ◌==◌, nat_le, nat_lt, refl}
+use Rattle.std.specs.Prelude.{◌≡◌, Option, Some, None, ℕ, zero, suc, ◌+◌, ◌*◌, ◌≤◌, Bool, true, false, cond, ◌&&◌, ◌||◌, leb, List, [], ◌∷◌, ◌++◌, length, take, drop, replicate, ◌==◌, nat_le, nat_lt, refl}
 use Rattle.std.proofs.Common.{sym, ap₂, ◌∙◌, subst, zero-mul, suc-mul, arith, length-append, take_at, length-take-le, eqb-true, leb-true, ltb-true, ltb-false, le-leb}
-use Rattle.std.proofs.Math.Option.{Option, none, some}
 use Rattle.std.proofs.lemmas.List.{length-replicate}
 use Rattle.std.proofs.lemmas.Bool.{eqb-false}
 use Rattle.block.specs.Blocks.{splice}
@@ -18,11 +17,11 @@ use Rattle.paper.proofs.CallLaws.{served-passes}
 use Rattle.refusals.specs.Sizes.{most}
 use Rattle.lines.specs.Lines.{parsed}
 use Rattle.lines.specs.declared.Command.{Command}
-use Rattle.lines.specs.declared.Command.TheVariants.{Box, Read, Look, Flush, Through, Back, Invalidate, Unformed}
+use Rattle.lines.specs.declared.Command.TheVariants.{Box, Read, Look, Flush, Through, Back, Invalidate}
 use Rattle.print.specs.Texts.{ask_text, word_text, counts_text, answer_text}
 use Rattle.answers.specs.Replay.{Opening, large, box_refusal, box_numbers, start_disk, started, asked, doing}
 use Rattle.print.specs.DecimalLaws.{decimal-length}
-use Rattle.session.specs.Bytewise.{State, Replied, first_line, later_line, end_line, keep, byte_in, at_end}
+use Rattle.session.specs.Bytewise.{stage_number, State, Replied, first_line, later_line, end_line, keep, byte_in, at_end}
 use Rattle.answers.specs.Done.{record_of}
 use Rattle.session.specs.Memory.{Memory, Sized, Holds, lengths_fit, numbers_fit, fits, over, state_in, stored, fed, ended}
 use Rattle.tables.specs.Rows.{table_bytes}
@@ -35,16 +34,16 @@ take-splice n t d h = take_at t (drop (0 + length t) d) n h
 
 -- ---- a line's text is at most 92 bytes
 
-ask-short : (c : Command) → length (ask_text c) ≤ 23
+ask-short : (c : Option Command) → length (ask_text c) ≤ 23
 unfolding ask_text
-ask-short (Read a) = simp length-append (omega (arith, decimal-length a))
-ask-short (Look a) = simp length-append (omega (arith, decimal-length a))
-ask-short Flush = omega arith
-ask-short (Through a x) = simp length-append (omega (arith, decimal-length a))
-ask-short (Back a x) = simp length-append (omega (arith, decimal-length a))
-ask-short (Invalidate a x) = simp length-append (omega (arith, decimal-length a))
-ask-short (Box b p m d) = omega arith
-ask-short Unformed = omega arith
+ask-short (Some (Read a)) = simp length-append (omega (arith, decimal-length a))
+ask-short (Some (Look a)) = simp length-append (omega (arith, decimal-length a))
+ask-short (Some Flush) = omega arith
+ask-short (Some (Through a x)) = simp length-append (omega (arith, decimal-length a))
+ask-short (Some (Back a x)) = simp length-append (omega (arith, decimal-length a))
+ask-short (Some (Invalidate a x)) = simp length-append (omega (arith, decimal-length a))
+ask-short (Some (Box b p m d)) = omega arith
+ask-short None = omega arith
 
 word-short : (w : Word) → length (word_text w) ≤ 7
 unfolding word_text
@@ -60,7 +59,7 @@ counts-short : (f p : ℕ) → length (counts_text f p) ≤ 42
 unfolding counts_text
 counts-short f p = simp length-append (omega (arith, decimal-length f, decimal-length p))
 
-answer-short : (k : ℕ) (c : Command) (a : Answer) → length (answer_text k c a) ≤ 92
+answer-short : (k : ℕ) (c : Option Command) (a : Answer) → length (answer_text k c a) ≤ 92
 unfolding answer_text
 answer-short k c (refused r) = simp length-append (omega (arith, decimal-length k, decimal-length r))
 answer-short k c (answered w f p) = simp length-append (omega (arith, decimal-length k, ask-short c, word-short w, counts-short f p))
@@ -86,8 +85,8 @@ started-lengths N =
 
 doing-lengths : (N : Numbers) (t : Lent) (q : Option Ask) → Lengths N t → Lengths N (doing N t q).lent
 unfolding doing
-doing-lengths N t none h = h
-doing-lengths N t (some q) h =
+doing-lengths N t None h = h
+doing-lengths N t (Some q) h =
     by-test (refusal N t (calling q) == 0)
     (λ e. (served-passes N t q (eqb-true (refusal N t (calling q)) 0 e)).lengths)
     (λ e. subst (Lengths N) (sym (keeps N t q (eqb-false (refusal N t (calling q)) 0 e)).lent) h)
@@ -98,10 +97,10 @@ none-holds : (b : Bool) (k x : ℕ) → 1 ≤ k → cond b k x ≡ 0 → (b ≡ 
 none-holds true k x h e = absurd (omega arith)
 none-holds false k x h e = (refl, e)
 
-pub opened-fits : (c : Command) → box_refusal c ≡ 0 → Opening (box_numbers c) × Holds (record_of (box_numbers c) 0)
+pub opened-fits : (c : Option Command) → box_refusal c ≡ 0 → Opening (box_numbers c) × Holds (record_of (box_numbers c) 0)
 unfolding box_refusal large
-opened-fits (Box B P m d) e =
-    let N = box_numbers (Box B P m d) in
+opened-fits (Some (Box B P m d)) e =
+    let N = box_numbers (Some (Box B P m d)) in
     let u = none-holds (unfit N) 1 (large N) (omega arith) e in
     let v = (none-holds (nat_lt 256 P || nat_lt 16384 (P * B) || nat_lt 16384 (d * B)) 5 0 (omega arith) u.1).0 in
     let w = or-false-left (nat_lt 256 P || nat_lt 16384 (P * B)) (nat_lt 16384 (d * B)) v in
@@ -116,13 +115,13 @@ opened-fits (Box B P m d) e =
         ltb-false 16384 (d * B) (or-false-right (nat_lt 256 P || nat_lt 16384 (P * B)) (nat_lt 16384 (d * B)) v),
       ),
     )
-opened-fits (Read a) e = absurd (omega arith)
-opened-fits (Look a) e = absurd (omega arith)
-opened-fits Flush e = absurd (omega arith)
-opened-fits (Through a x) e = absurd (omega arith)
-opened-fits (Back a x) e = absurd (omega arith)
-opened-fits (Invalidate a x) e = absurd (omega arith)
-opened-fits Unformed e = absurd (omega arith)
+opened-fits (Some (Read a)) e = absurd (omega arith)
+opened-fits (Some (Look a)) e = absurd (omega arith)
+opened-fits (Some Flush) e = absurd (omega arith)
+opened-fits (Some (Through a x)) e = absurd (omega arith)
+opened-fits (Some (Back a x)) e = absurd (omega arith)
+opened-fits (Some (Invalidate a x)) e = absurd (omega arith)
+opened-fits None e = absurd (omega arith)
 
 -- ---- a state that fits, and what a byte makes of it
 
@@ -135,7 +134,7 @@ record Small (o : Replied) : Type 0 where
   state : Fitted o.state
   text : length o.text ≤ 92
 
-first_small : (s : State) (c : Command) → Fitted s → Small (first_line s c)
+first_small : (s : State) (c : Option Command) → Fitted s → Small (first_line s c)
 unfolding first_line
 first_small s c h =
     by-test (box_refusal c == 0)
@@ -145,7 +144,7 @@ first_small s c h =
     }))
     (λ e. rw e (record { state = record { kept = omega arith; holds = h.holds; lengths = h.lengths }; text = answer-short 0 c (refused (box_refusal c)) }))
 
-later-small : (s : State) (c : Command) → Fitted s → Small (later_line s c)
+later-small : (s : State) (c : Option Command) → Fitted s → Small (later_line s c)
 unfolding later_line
 later-small s c h =
     let o = doing s.numbers s.lent (asked s.numbers c) in
@@ -157,9 +156,9 @@ later-small s c h =
 end-small : (s : State) → Fitted s → Small (end_line s)
 unfolding end_line
 end-small s h =
-    by-test (s.stage == 0)
+    by-test (stage_number s.stage == 0)
     (λ e. rw e (first_small s (parsed s.kept) h))
-    (λ e. rw e (by-test (s.stage == 1)
+    (λ e. rw e (by-test (stage_number s.stage == 1)
     (λ f. rw f (later-small s (parsed s.kept) h))
     (λ f. rw f (record { state = h; text = omega arith }))))
 

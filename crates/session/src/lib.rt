@@ -6,11 +6,19 @@ pub mod line;
 use counters::Counters;
 use parts::BoxRecord;
 
-// What is carried from byte to byte beside the lent buffers: 0 before the box line, 1 while the box is open, and above that at the end;
-// how many bytes of the line are kept; the next call's number; the box record and the counters.
+// Where a replay stands: before the box line has ended, while the box is open, and when nothing more is printed.
+#[derive(Clone, Copy, PartialEq, Eq)]
+pub enum Stage {
+    Before,
+    Open,
+    Over,
+}
+
+// What is carried from byte to byte beside the lent buffers: the stage; how many bytes of the line are kept; the next call's number;
+// the box record and the counters.
 #[derive(Clone, Copy)]
 pub struct Session {
-    pub stage: u8,
+    pub stage: Stage,
     pub kept: usize,
     pub number: u64,
     pub box_record: BoxRecord,

@@ -7,14 +7,13 @@ ghost use Rattle.answers.specs.Replay.{Opening, started, asked, doing};
 ghost use Rattle.session.specs.Bytewise.{first_line, later_line};
 ghost use Rattle.session.specs.Memory.{buffers, within, held, over, memory, Sized, Holds, state_in, stored, after_of};
 
-use crate::{Fed, Session};
+use crate::{Fed, Session, Stage};
 use answers::{boxes, call, start};
 use counters::Counters;
 use lines::Command;
-use open::Begun;
+use outcome::Outcome;
 use parts::BoxRecord;
-use policy::Answer;
-use policy::calls::Outcome;
+use policy::Answered;
 use tables::row;
 
 // Opens a box of fitting numbers.
@@ -24,7 +23,7 @@ fn open_box(
     flash: &mut [u8],
     addresses: &mut [u8],
     blocks: &mut [u8],
-) -> Begun
+) -> Outcome<(), BoxRecord>
     requires holds { Holds b }
     requires opening { Opening (numbers_of b) }
     requires sized { Sized disk.old flash.old addresses.old blocks.old }
@@ -48,14 +47,14 @@ fn open_box(
 
 // Makes the call of a line.
 fn call_box(
-    c: Command,
+    c: Option<Command>,
     b: BoxRecord,
     disk: &mut [u8],
     flash: &mut [u8],
     addresses: &mut [u8],
     blocks: &mut [u8],
     k: Counters,
-) -> Outcome
+) -> Outcome<Answered, BoxRecord>
     requires holds { Holds b }
     requires sized { Sized disk.old flash.old addresses.old blocks.old }
     ensures box_record_value { numbers_of result.box_record ≡ numbers_of b }
@@ -84,7 +83,7 @@ fn call_box(
 // Line 1: the box is opened, or the line refused and the replay over.
 pub fn first(
     s: Session,
-    c: Command,
+    c: Option<Command>,
     disk: &mut [u8],
     flash: &mut [u8],
     addresses: &mut [u8],
@@ -99,32 +98,25 @@ pub fn first(
         (first_line (state_in (memory s line disk.old flash.old addresses.old blocks.old
         out.old)) c) }
 {
-    let number = boxes::box_refusal(c);
-    if number != 0 {
-        let filled = print::answer(out, 0, 0, c, Answer::Refused(number));
-        let b = s.box_record;
-        let k = s.counters;
+    if let Err(r) = boxes::box_refusal(c) {
+        let filled = print::answer(out, 0, 0, c, Err(r));
         return Fed {
             session: Session {
-                stage: 2,
+                stage: Stage::Over,
                 kept: 0,
-                number: s.number,
-                box_record: b,
-                counters: k,
+                ..s
             },
-            filled: filled,
+            filled,
         };
     }
     let x = open_box(boxes::box_of(c), disk, flash, addresses, blocks);
-    let b = x.box_record;
-    let k = x.counters;
     Fed {
         session: Session {
-            stage: 1,
+            stage: Stage::Open,
             kept: 0,
             number: 1,
-            box_record: b,
-            counters: k,
+            box_record: x.box_record,
+            counters: x.counters,
         },
         filled: 0,
     }
@@ -133,7 +125,7 @@ pub fn first(
 // A later line.
 pub fn later(
     s: Session,
-    c: Command,
+    c: Option<Command>,
     disk: &mut [u8],
     flash: &mut [u8],
     addresses: &mut [u8],
@@ -149,21 +141,16 @@ pub fn later(
         (later_line (state_in (memory s line disk.old flash.old addresses.old blocks.old
         out.old)) c) }
 {
-    let b = s.box_record;
-    let k = s.counters;
-    let x = call_box(c, b, disk, flash, addresses, blocks, k);
-    let a = x.answer;
-    let filled = print::answer(out, 0, s.number, c, a);
-    let b2 = x.box_record;
-    let k2 = x.counters;
+    let x = call_box(c, s.box_record, disk, flash, addresses, blocks, s.counters);
+    let filled = print::answer(out, 0, s.number, c, x.answer);
     Fed {
         session: Session {
-            stage: 1,
+            stage: Stage::Open,
             kept: 0,
             number: std::num::wrapping_add_u64(s.number, 1),
-            box_record: b2,
-            counters: k2,
+            box_record: x.box_record,
+            counters: x.counters,
         },
-        filled: filled,
+        filled,
     }
 }

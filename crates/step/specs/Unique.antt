@@ -1,8 +1,8 @@
 -- No fingerprint is used twice, as the index asks it of the bytes. Assumes nothing.
-use Rattle.std.specs.Prelude.{◌≡◌, refl, true, not, List, [], ◌∷◌, ◌++◌, map, ℕ}
+use Rattle.std.specs.Prelude.{◌≡◌, refl, true, not, List, [], ◌∷◌, ◌++◌, map, ℕ, is_none}
 use Rattle.std.proofs.Common.{sym, ap, ◌∙◌}
 use Rattle.tables.specs.Rows.{rows}
-use Rattle.tables.specs.Find.{every, find_from, absent, caches}
+use Rattle.tables.specs.Find.{every, find_from, caches}
 use Rattle.tables.specs.Index.{unique}
 use Rattle.paper.specs.KeyedLaws.{Distinct}
 use Rattle.paper.specs.Cache.{BlockRow}
@@ -16,7 +16,7 @@ unique-used : (l : List (BlockRow (Fixed 32))) → Distinct comparing.same (λ u
 unfolding every
 unique-used [] ds = refl
 unique-used (u ∷ l) ds =
-    let e : absent (find_from (caches (read_block (used_bytes u)).fingerprint) 0 (map used_bytes l)) ≡ true
+    let e : is_none (find_from (caches (read_block (used_bytes u)).fingerprint) 0 (map used_bytes l)) ≡ true
     = absent-is (find_from (caches (read_block (used_bytes u)).fingerprint) 0 (map used_bytes l))
     ∙ ap not (used-has (read_block (used_bytes u)).fingerprint u.fingerprint (sym (fp-used u)) 0 l ∙ ds.0) in
     rw (flag-used u, e) (unique-used l ds.1)

@@ -1,5 +1,5 @@
 -- The tests for 6 and 7 in the positive, row by row, are those of `Unsound`. Assumes nothing.
-use Rattle.std.specs.Prelude.{◌≡◌, Bool, true, false, not, cond, ◌&&◌, ℕ, zero, suc, ◌+◌, ◌-◌, ◌*◌, ◌≤◌, ◌<◌, eqb, leb, ltb, length, take, drop, get_or}
+use Rattle.std.specs.Prelude.{◌≡◌, Bool, true, false, not, cond, ◌&&◌, ℕ, zero, suc, ◌+◌, ◌-◌, ◌*◌, ◌≤◌, ◌<◌, eqb, leb, ltb, length, take, drop, get_or, Some, is_none}
 use Rattle.std.proofs.Math.Path.{refl, ap, ap₂}
 use Rattle.std.proofs.Common.{sym, ◌∙◌, arith, length-drop, take-append-drop, eq-eqb, eqb-true, ltb-true, ltb-false, leb-true, leb-false, lt-ltb, le-ltb, le-leb}
 use Rattle.std.proofs.Math.Bool.{◌||◌}
@@ -8,8 +8,7 @@ use Rattle.std.proofs.lemmas.List.{length-map}
 use Rattle.std.proofs.lemmas.Bool.{eqb-false, lt-leb, not-true, not-false}
 use Rattle.tables.specs.Rows.{rows}
 use Rattle.tables.specs.Records.{read_address, read_block, slots_from}
-use Rattle.tables.specs.Find.{all, any, every, find_from, pick, absent, caches, is_used, is_dirty}
-use Rattle.tables.specs.declared.Found.TheVariants.{At}
+use Rattle.tables.specs.Find.{all, any, every, find_from, caches, is_used, is_dirty}
 use Rattle.tables.specs.Unsound.{elem, twice, count, nonzero, nonzero_padding, nonzero_last, addresses_unsound, free_after_used, free_with_fingerprint, each_once}
 use Rattle.tables.specs.Unsound.{used_twice, blocks_unsound, dirty_uncached}
 use Rattle.tables.specs.Sound.{distinct, tail_ok, seated_tail, address_ok, is_zero, zero_row, sound_addresses, addresses_fit, blocks_fit, row_address, row_slot}
@@ -148,17 +147,17 @@ ordered (r ∷ rs) =
     one false b = refl
 
 -- what a search does not find
-absent-any : {A : Type 0} (p : A → Bool) (k : ℕ) (xs : List A) → absent (find_from p k xs) ≡ not (any p xs)
+absent-any : {A : Type 0} (p : A → Bool) (k : ℕ) (xs : List A) → is_none (find_from p k xs) ≡ not (any p xs)
 unfolding find_from any
 absent-any p k [] = refl
-absent-any p k (x ∷ xs) = elim (p x) as (λ b. absent (pick b (At k) (find_from p (suc k) xs))
+absent-any p k (x ∷ xs) = elim (p x) as (λ b. is_none (cond b (Some k) (find_from p (suc k) xs))
     ≡ not (b || any p xs)) [ true ↦ refl | false ↦ absent-any p (suc k) xs ]
 
 once : (rs : List (List ℕ)) → used_twice rs ≡ not (every unique rs)
 unfolding used_twice every
 once [] = refl
 once (r ∷ rs) =
-    ap₂ {C = Bool} ◌||◌ (one (is_used r) (any (caches (read_block r).fingerprint) rs) (absent (find_from (caches (read_block r).fingerprint) 0 rs))
+    ap₂ {C = Bool} ◌||◌ (one (is_used r) (any (caches (read_block r).fingerprint) rs) (is_none (find_from (caches (read_block r).fingerprint) 0 rs))
     (absent-any (caches (read_block r).fingerprint) 0 rs)) (once rs)
     ∙ not-or (unique r rs) (every unique rs)
   where
@@ -397,7 +396,7 @@ pub dirty-checked : (n d : ℕ) (a b : List ℕ) → dirty_uncached n d a b ≡ 
 unfolding dirty_uncached read_address
 dirty-checked n d a b =
     any-all (λ r. eqb (read_address r).dirty 1 && not (any (caches (read_address r).fingerprint) (rows d b))) (dirty_ok (rows d b))
-    (λ r. one (is_dirty r) (any (caches (read_address r).fingerprint) (rows d b)) (absent (find_from (caches (read_address r).fingerprint) 0 (rows d b)))
+    (λ r. one (is_dirty r) (any (caches (read_address r).fingerprint) (rows d b)) (is_none (find_from (caches (read_address r).fingerprint) 0 (rows d b)))
     (absent-any (caches (read_address r).fingerprint) 0 (rows d b))) (rows n a)
   where
     one : (u a b : Bool) → b ≡ not a → u && not a ≡ not (cond u (not b) true)

@@ -1,11 +1,9 @@
 -- What keeps an address table sound: the functions of `shift` and `put` on it. `Promises` says it with the test for 6. Assumes nothing.
-use Rattle.std.specs.Prelude.{◌≡◌, refl, Bool, true, false, ◌&&◌, List, [], ◌∷◌, ◌++◌, map, ℕ, suc, ◌+◌, ◌-◌, ◌*◌, ◌^◌, ◌≤◌, ◌<◌, eqb, leb, ltb, length, get_or, set, drop}
+use Rattle.std.specs.Prelude.{◌≡◌, refl, Bool, true, false, ◌&&◌, List, [], ◌∷◌, ◌++◌, map, ℕ, suc, ◌+◌, ◌-◌, ◌*◌, ◌^◌, ◌≤◌, ◌<◌, eqb, leb, ltb, length, get_or, set, drop, None, Option, Some, cond}
 use Rattle.std.proofs.Common.{sym, ap, ◌∙◌, arith, length-append, drop-drop, get_or-set_same, get_or-set_other, eqb-true, leb-true, le-leb, lt-ltb}
 use Rattle.std.proofs.Math.Seq.{map-set_same}
 use Rattle.tables.specs.Rows.{rows, flat, zeros, row_at, remove_at}
-use Rattle.tables.specs.Find.{all, find_from, pick, has_address}
-use Rattle.tables.specs.declared.Found.{Found}
-use Rattle.tables.specs.declared.Found.TheVariants.{At, Nothing}
+use Rattle.tables.specs.Find.{all, find_from, has_address}
 use Rattle.tables.specs.Unsound.{elem}
 use Rattle.tables.specs.Sound.{distinct, seated_tail, address_ok, is_zero, sound_addresses, row_address}
 use Rattle.tables.specs.Records.{Seat, address_bytes, address_row, address_table, fresh_addresses, read_address}
@@ -52,12 +50,12 @@ addrs-removed P m n t i h l r =
       rest = rw (rest-removed n t x i h g) (all_append is_zero (zeros 40) (drop (n * 40) t) (zeros-zero 40) r.rest);
     }
 
-pick-none : (b : Bool) (k : ℕ) (f : Found) → pick b (At k) f ≡ Nothing → (b ≡ false) × (f ≡ Nothing)
+pick-none : (b : Bool) (k : ℕ) (f : Option ℕ) → cond b (Some k) f ≡ None → (b ≡ false) × (f ≡ None)
 pick-none true k f e = let z : ◌≡◌ {A = ℕ} 0 1 = cc in absurd (omega arith)
 pick-none false k f e = (refl, e)
 
 -- no row has the address
-not_found : (a k : ℕ) (rs : List (List ℕ)) → find_from (has_address a) k rs ≡ Nothing → elem a (map row_address rs) ≡ false
+not_found : (a k : ℕ) (rs : List (List ℕ)) → find_from (has_address a) k rs ≡ None → elem a (map row_address rs) ≡ false
 unfolding find_from elem
 not_found a k [] e = refl
 not_found a k (r ∷ rs) e =
@@ -66,7 +64,7 @@ not_found a k (r ∷ rs) e =
 
 -- push_row with a sound row
 pub addrs-pushed : (P m n : ℕ) (t r : List ℕ) → n < m → length t ≡ m * 40 → length r ≡ 40 → address_ok P r ≡ true
-    → find_from (has_address (row_address r)) 0 (rows n t) ≡ Nothing
+    → find_from (has_address (row_address r)) 0 (rows n t) ≡ None
     → Addrs P m n t → Addrs P m (n + 1) (row_added n r t)
 unfolding all row_added
 addrs-pushed P m n t r h l lr ok f s =
@@ -117,7 +115,7 @@ addrs-fresh P m = record { few = omega arith; each = refl; apart = refl; rest = 
 -- ---- searches and the address list
 
 -- the converse of `not_found`
-unseen : (a k : ℕ) (rs : List (List ℕ)) → elem a (map row_address rs) ≡ false → find_from (has_address a) k rs ≡ Nothing
+unseen : (a k : ℕ) (rs : List (List ℕ)) → elem a (map row_address rs) ≡ false → find_from (has_address a) k rs ≡ None
 unfolding find_from elem
 unseen a k [] e = refl
 unseen a k (r ∷ rs) e =
@@ -125,8 +123,8 @@ unseen a k (r ∷ rs) e =
     (unseen a (suc k) rs (or_right (eqb a (row_address r)) (elem a (map row_address rs)) e))
 
 -- no other row has a held address; and where none has it, none has it when a row is taken out
-pub found-out : (n : ℕ) (t : List ℕ) (a i : ℕ) → distinct (map row_address (rows n t)) ≡ true → find_from (has_address a) 0 (rows n t) ≡ At i
-    → find_from (has_address a) 0 (remove_at (rows n t) i) ≡ Nothing
+pub found-out : (n : ℕ) (t : List ℕ) (a i : ℕ) → distinct (map row_address (rows n t)) ≡ true → find_from (has_address a) 0 (rows n t) ≡ Some i
+    → find_from (has_address a) 0 (remove_at (rows n t) i) ≡ None
 found-out n t a i d e =
     let r = found_at (has_address a) (rows n t) [] i e in
     let h : i < n = omega (arith, r.below, rows-length n t) in
@@ -137,7 +135,7 @@ found-out n t a i d e =
     ∙ ap (λ (x : ℕ). elem x (remove_at (map row_address (rows n t)) i)) (sym q)
     ∙ elem_out (map row_address (rows n t)) i d (rw values_length h))
 
-pub nothing-out : (n : ℕ) (t : List ℕ) (a i : ℕ) → find_from (has_address a) 0 (rows n t) ≡ Nothing → find_from (has_address a) 0 (remove_at (rows n t) i) ≡ Nothing
+pub nothing-out : (n : ℕ) (t : List ℕ) (a i : ℕ) → find_from (has_address a) 0 (rows n t) ≡ None → find_from (has_address a) 0 (remove_at (rows n t) i) ≡ None
 nothing-out n t a i e = unseen a 0 (remove_at (rows n t) i)
     (ap (elem a) (map-remove_at row_address (rows n t) i) ∙ elem-remove_at a (map row_address (rows n t)) i (not_found a 0 (rows n t) e))
 

@@ -1,5 +1,5 @@
 -- What keeps a block table sound: the functions of `shift` and `put` on it. `Promises` says it with the test for 7. Assumes nothing.
-use Rattle.std.specs.Prelude.{◌≡◌, Bool, false, not, ◌&&◌, ◌||◌, eqb, take, drop}
+use Rattle.std.specs.Prelude.{◌≡◌, Bool, false, not, ◌&&◌, ◌||◌, eqb, take, drop, None, is_none}
 use Rattle.std.proofs.Math.Path.{refl, ap}
 use Rattle.std.proofs.Common.{sym, ◌∙◌, arith, not-suc-le-zero, le_of_suc-le-suc, length-append, eq-eqb, lt-ltb}
 use Rattle.std.proofs.Math.Bool.{true, cond, and-false}
@@ -10,8 +10,7 @@ use Rattle.std.proofs.Math.ListN.{length, get_or}
 use Rattle.std.proofs.Math.Seq.{take_at}
 use Rattle.std.proofs.lemmas.Bool.{not-true}
 use Rattle.tables.specs.Rows.{rows, flat, zeros, row_at, remove_at}
-use Rattle.tables.specs.Find.{all, every, find_from, caches, absent, same, is_used}
-use Rattle.tables.specs.declared.Found.TheVariants.{Nothing}
+use Rattle.tables.specs.Find.{all, every, find_from, caches, same, is_used}
 use Rattle.tables.specs.Sound.{distinct, tail_ok, is_zero, sound_blocks, used_ok, block_ok, row_slot}
 use Rattle.tables.specs.Records.{block_bytes, free_row, slots_from, block_table, fresh_blocks, read_block}
 use Rattle.tables.specs.RowLaws.{rows-length, rows_at, length_part}
@@ -40,9 +39,9 @@ block_ok-remove_at : (d : ℕ) (r : List ℕ) (rs : List (List ℕ)) (j : ℕ) �
 block_ok-remove_at d r rs j e =
     block_ok-swap d r rs (remove_at rs j)
     (λ _ u. let p = caches (read_block r).fingerprint in
-    both (all is_used (remove_at rs j)) (absent (find_from p 0 (remove_at rs j)))
-    (all-remove_at is_used rs j (and_left (all is_used rs) (absent (find_from p 0 rs)) u))
-    (absent-all p 0 (remove_at rs j) ∙ all-remove_at (λ s. not (p s)) rs j (sym (absent-all p 0 rs) ∙ and_right (all is_used rs) (absent (find_from p 0 rs)) u)))
+    both (all is_used (remove_at rs j)) (is_none (find_from p 0 (remove_at rs j)))
+    (all-remove_at is_used rs j (and_left (all is_used rs) (is_none (find_from p 0 rs)) u))
+    (absent-all p 0 (remove_at rs j) ∙ all-remove_at (λ s. not (p s)) rs j (sym (absent-all p 0 rs) ∙ and_right (all is_used rs) (is_none (find_from p 0 rs)) u)))
     e
 
 -- x does not have the fingerprint of the row r, if r is used
@@ -56,10 +55,10 @@ block_ok-snoc d x ux r rs c e =
     block_ok-swap d r rs (rs ++ (x ∷ []))
     (λ ur u. let p = caches (read_block r).fingerprint in
     let cl : not (p x) ≡ true = ap (λ b. not b || not (p x)) (sym ur) ∙ c in
-    both (all is_used (rs ++ (x ∷ []))) (absent (find_from p 0 (rs ++ (x ∷ []))))
-    (all_append is_used rs (x ∷ []) (and_left (all is_used rs) (absent (find_from p 0 rs)) u) (both (is_used x) true ux refl))
+    both (all is_used (rs ++ (x ∷ []))) (is_none (find_from p 0 (rs ++ (x ∷ []))))
+    (all_append is_used rs (x ∷ []) (and_left (all is_used rs) (is_none (find_from p 0 rs)) u) (both (is_used x) true ux refl))
     (absent-all p 0 (rs ++ (x ∷ [])) ∙ all_append (λ s. not (p s)) rs (x ∷ []) (sym (absent-all p 0 rs)
-    ∙ and_right (all is_used rs) (absent (find_from p 0 rs)) u) (both (not (p x)) true cl refl)))
+    ∙ and_right (all is_used rs) (is_none (find_from p 0 rs)) u) (both (not (p x)) true cl refl)))
     e
 
 -- row i out, x in at the end: to_newest and put_block; x in front: to_front
@@ -106,7 +105,7 @@ used-part d r rs e u =
 
 none-caches : (r : List ℕ) (rs : List (List ℕ)) → used_ok r rs ≡ true → all (λ s. not (caches (read_block r).fingerprint s)) rs ≡ true
 none-caches r rs u = sym (absent-all (caches (read_block r).fingerprint) 0 rs)
-    ∙ and_right (all is_used rs) (absent (find_from (caches (read_block r).fingerprint) 0 rs)) u
+    ∙ and_right (all is_used rs) (is_none (find_from (caches (read_block r).fingerprint) 0 rs)) u
 
 -- the other rows are clear of a used row
 pub clear-out : (d : ℕ) (rs : List (List ℕ)) (i : ℕ) → every (block_ok d) rs ≡ true → i < length rs → is_used (get_or rs i []) ≡ true
@@ -123,11 +122,11 @@ clear-out d (r ∷ rs) (suc i) e h u =
     (clear-out d rs i (and_right (block_ok d r rs) (every (block_ok d) rs) e) (le_of_suc-le-suc h) u)
 
 -- rows that do not cache x's fingerprint are clear of x
-pub clear-new : (x : List ℕ) (rs : List (List ℕ)) (i : ℕ) → find_from (caches (read_block x).fingerprint) 0 rs ≡ Nothing
+pub clear-new : (x : List ℕ) (rs : List (List ℕ)) (i : ℕ) → find_from (caches (read_block x).fingerprint) 0 rs ≡ None
     → all (clear_of x) (remove_at rs i) ≡ true
 clear-new x rs i e =
     all-remove_at (clear_of x) rs i (all-mono (λ s. not (caches (read_block x).fingerprint s)) (clear_of x) (turned x) rs
-    (sym (absent-all (caches (read_block x).fingerprint) 0 rs) ∙ ap absent e))
+    (sym (absent-all (caches (read_block x).fingerprint) 0 rs) ∙ ap is_none e))
 
 pub zeros-four : zeros 4 ≡ 0 ∷ 0 ∷ 0 ∷ 0 ∷ []
 unfolding zeros
@@ -229,7 +228,7 @@ module _ (d : ℕ) (t : List ℕ) (i : ℕ) (h : i < d) (l : length t ≡ d * 40
       w)
 
   -- put_block with a fingerprint that is not cached
-  pub kept_put : (g : List ℕ) → length g ≡ 32 → find_from (caches g) 0 (rows d t) ≡ Nothing → Blocks d (row_filled d i g t)
+  pub kept_put : (g : List ℕ) → length g ≡ 32 → find_from (caches g) 0 (rows d t) ≡ None → Blocks d (row_filled d i g t)
   unfolding all find_from read_block row_filled filled
   kept_put g lg f =
       let r : List ℕ = row_at t i in

@@ -1,5 +1,5 @@
 -- Laws of the tests `all`, `every`, `elem` and `distinct` for a list with an element taken out, added or changed. Assumes nothing.
-use Rattle.std.specs.Prelude.{◌≡◌, Bool, false, not, ◌&&◌, ◌||◌, eqb, length, get_or, set, drop}
+use Rattle.std.specs.Prelude.{◌≡◌, Bool, false, not, ◌&&◌, ◌||◌, eqb, length, get_or, set, drop, Option, Some, is_none, cond}
 use Rattle.std.proofs.Math.Path.{refl}
 use Rattle.std.proofs.Common.{sym, ap, arith, not-suc-le-zero, le_of_suc-le-suc, ne_eqb}
 use Rattle.std.proofs.Math.Bool.{true}
@@ -8,9 +8,7 @@ use Prim.Native.Nat.{ℕ, zero, suc, ◌<◌}
 use Rattle.std.proofs.lemmas.Bool.{eqb-false, not-true}
 use Rattle.tables.specs.Rows.{zeros, remove_at}
 use Rattle.tables.specs.Records.{slots_from}
-use Rattle.tables.specs.Find.{all, every, find_from, pick, absent}
-use Rattle.tables.specs.declared.Found.{Found}
-use Rattle.tables.specs.declared.Found.TheVariants.{At}
+use Rattle.tables.specs.Find.{all, every, find_from}
 use Rattle.tables.specs.Unsound.{elem}
 use Rattle.tables.specs.Sound.{distinct, is_zero}
 use Rattle.tables.specs.SoundLaws.{and_left, and_right, or_left, or_right}
@@ -87,12 +85,12 @@ distinct_snoc (y ∷ xs) x d e =
     (distinct_snoc xs x (and_right (not (elem y xs)) (distinct xs) d) (or_right (eqb x y) (elem x xs) e))
 
 -- what a search does not find
-pub absent-all : {A : Type 0} (p : A → Bool) (k : ℕ) (xs : List A) → absent (find_from p k xs) ≡ all (λ x. not (p x)) xs
+pub absent-all : {A : Type 0} (p : A → Bool) (k : ℕ) (xs : List A) → is_none (find_from p k xs) ≡ all (λ x. not (p x)) xs
 unfolding find_from all
 absent-all p k [] = refl
 absent-all p k (x ∷ xs) = step (p x) (find_from p (suc k) xs) (all (λ y. not (p y)) xs) (absent-all p (suc k) xs)
   where
-    step : (b : Bool) (f : Found) (r : Bool) → absent f ≡ r → absent (pick b (At k) f) ≡ not b && r
+    step : (b : Bool) (f : Option ℕ) (r : Bool) → is_none f ≡ r → is_none (cond b (Some k) f) ≡ not b && r
     step true f r e = refl
     step false f r e = e
 

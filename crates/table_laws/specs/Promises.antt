@@ -1,12 +1,11 @@
 -- For the crates above, by the tests of `Unsound`: a table that passes is the bytes of its records, and each operation keeps it passing.
 -- Each statement has the bytes at exit as the function's contract writes them. `Checked.each-once` is the law of the slots. Assumes nothing.
-use Rattle.std.specs.Prelude.{◌≡◌, refl, Bool, true, false, not, cond, ◌&&◌, ◌||◌, List, map, ℕ, ◌+◌, ◌-◌, ◌*◌, ◌^◌, ◌≤◌, ◌<◌, length, get_or}
+use Rattle.std.specs.Prelude.{◌≡◌, refl, Bool, true, false, not, cond, ◌&&◌, ◌||◌, List, map, ℕ, ◌+◌, ◌-◌, ◌*◌, ◌^◌, ◌≤◌, ◌<◌, length, get_or, None}
 use Rattle.std.proofs.Common.{sym, ap, ◌∙◌, arith}
 use Rattle.std.proofs.lemmas.Bool.{not-false}
 use Rattle.tables.specs.Rows.{rows, row_at}
 use Rattle.tables.specs.Records.{Seat, address_bytes, address_row, address_table, held_rows, block_table, block_rows, fresh_addresses, fresh_blocks}
 use Rattle.tables.specs.Find.{every, find_from, has_address, caches, is_used}
-use Rattle.tables.specs.declared.Found.TheVariants.{Nothing}
 use Rattle.tables.specs.Unsound.{addresses_unsound, blocks_unsound, dirty_uncached, tables_refused}
 use Rattle.tables.specs.Sound.{distinct, sound_addresses, sound_blocks, block_ok, addresses_fit, blocks_fit, row_slot}
 use Rattle.tables.specs.Index.{unique, row_ok}
@@ -44,7 +43,7 @@ module _ (P m n : ℕ) (t : List ℕ) (e : addresses_unsound P m n t ≡ false) 
 
   -- an address below P that is not held, where a row is left
   pub push-address-kept : (a : ℕ) (g : List ℕ) (x : ℕ) (z : Seat) → n < m → P ≤ 2 ^ 32 → a < P → length g ≡ 32 → x ≤ 1
-      → find_from (has_address a) 0 (rows n t) ≡ Nothing → addresses_unsound P m (n + 1) (row_added n (address_bytes (address_row a g x z)) t) ≡ false
+      → find_from (has_address a) 0 (rows n t) ≡ None → addresses_unsound P m (n + 1) (row_added n (address_bytes (address_row a g x z)) t) ≡ false
   push-address-kept a g x z hn hp ha lg hx f =
       let r : List ℕ = address_bytes (address_row a g x z) in
       passes P m (n + 1) (row_added n r t)
@@ -100,7 +99,7 @@ module _ (d : ℕ) (t : List ℕ) (i : ℕ) (h : i < d) (e : blocks_unsound d t 
   to-front-kept = blocks-pass d (row_freed d i t) (kept-front d t i h l block-parts)
 
   -- a fingerprint that is not cached
-  pub put-block-kept : (g : List ℕ) → length g ≡ 32 → find_from (caches g) 0 (rows d t) ≡ Nothing → blocks_unsound d (row_filled d i g t) ≡ false
+  pub put-block-kept : (g : List ℕ) → length g ≡ 32 → find_from (caches g) 0 (rows d t) ≡ None → blocks_unsound d (row_filled d i g t) ≡ false
   put-block-kept g lg f = blocks-pass d (row_filled d i g t) (kept_put d t i h l block-parts g lg f)
 
 -- ---- the three tests in turn

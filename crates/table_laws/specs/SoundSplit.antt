@@ -1,7 +1,7 @@
 -- Refusal 7 in two passes: each row by itself, and no fingerprint twice. Assumes nothing.
-use Rattle.std.specs.Prelude.{◌≡◌, refl, Bool, true, false, cond, ◌&&◌, List, [], ◌∷◌, ℕ, ltb}
+use Rattle.std.specs.Prelude.{◌≡◌, refl, Bool, true, false, cond, ◌&&◌, List, [], ◌∷◌, ℕ, ltb, is_none}
 use Rattle.std.proofs.Common.{ap, ◌∙◌}
-use Rattle.tables.specs.Find.{all, every, find_from, caches, absent, is_used}
+use Rattle.tables.specs.Find.{all, every, find_from, caches, is_used}
 use Rattle.tables.specs.Sound.{is_zero, tail_ok, block_ok, row_slot}
 use Rattle.tables.specs.Index.{unique, row_ok}
 use Rattle.tables.specs.Records.{read_block}
@@ -29,7 +29,7 @@ and-assoc2 false b c e = refl
 
 ok-split : (d : ℕ) (r : List ℕ) (rs : List (List ℕ)) → block_ok d r rs ≡ row_ok d r rs && unique r rs
 ok-split d r rs =
-    ap (λ b. ltb (row_slot r) d && (tail_ok r && b)) (cond-and (is_used r) (all is_used rs) (absent (find_from (caches (read_block r).fingerprint) 0 rs))
+    ap (λ b. ltb (row_slot r) d && (tail_ok r && b)) (cond-and (is_used r) (all is_used rs) (is_none (find_from (caches (read_block r).fingerprint) 0 rs))
     (all is_zero (read_block r).fingerprint))
     ∙ and-assoc2 (ltb (row_slot r) d) (tail_ok r) (cond (is_used r) (all is_used rs) (all is_zero (read_block r).fingerprint)) (unique r rs)
 

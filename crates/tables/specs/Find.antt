@@ -1,21 +1,11 @@
 -- What is asked of a list of rows: some, all, the first that passes a test. Assumes nothing.
-use Rattle.std.specs.Prelude.{ℕ, suc, Bool, true, false, ◌&&◌, ◌||◌, List, [], ◌∷◌, eqb}
+use Rattle.std.specs.Prelude.{ℕ, suc, Bool, true, false, ◌&&◌, ◌||◌, List, [], ◌∷◌, eqb, None, Option, Some, cond}
 use Rattle.tables.specs.Records.{read_address, read_block}
-use Rattle.tables.specs.declared.Found.{Found}
-use Rattle.tables.specs.declared.Found.TheVariants.{At, Nothing}
-
-abbrev pub pick : Bool → Found → Found → Found
-pick true a b = a
-pick false a b = b
 
 -- the index of the first element that p holds of, where the list's first has index k
-unfoldable pub find_from : {A : Type 0} → (A → Bool) → ℕ → List A → Found
-find_from p k [] = Nothing
-find_from p k (x ∷ xs) = pick (p x) (At k) (find_from p (suc k) xs)
-
-abbrev pub absent : Found → Bool
-absent (At i) = false
-absent Nothing = true
+unfoldable pub find_from : {A : Type 0} → (A → Bool) → ℕ → List A → Option ℕ
+find_from p k [] = None
+find_from p k (x ∷ xs) = cond (p x) (Some k) (find_from p (suc k) xs)
 
 -- p holds of all elements, of some
 unfoldable pub all : {A : Type 0} → (A → Bool) → List A → Bool

@@ -1,13 +1,12 @@
 -- Laws of `find_from`, `all` and `same`. Assumes nothing.
-use Rattle.std.specs.Prelude.{◌≡◌, refl, Bool, true, false, ℕ, suc, ◌+◌, ◌-◌, ◌≤◌, ◌<◌, List, [], ◌∷◌, length, get_or, drop}
+use Rattle.std.specs.Prelude.{◌≡◌, refl, Bool, true, false, ℕ, suc, ◌+◌, ◌-◌, ◌≤◌, ◌<◌, List, [], ◌∷◌, length, get_or, drop, None, Some, cond}
 use Rattle.std.proofs.Common.{subst, arith, add-one, drop_of_length-le, eq-eqb}
 use Rattle.std.proofs.Math.Seq.{drop-cons}
-use Rattle.tables.specs.Find.{find_from, pick, all, same}
-use Rattle.tables.specs.declared.Found.TheVariants.{At, Nothing}
+use Rattle.tables.specs.Find.{find_from, all, same}
 
 module _ {A : Type 0} (p : A → Bool) (xs : List A) (k : ℕ) (z : A) where
   -- the test holds at k
-  pub find-hit : k < length xs → p (get_or xs k z) ≡ true → find_from p k (drop k xs) ≡ At k
+  pub find-hit : k < length xs → p (get_or xs k z) ≡ true → find_from p k (drop k xs) ≡ Some k
   unfolding find_from
   find-hit h e = rw (drop-cons xs k z h, e)
 
@@ -17,7 +16,7 @@ module _ {A : Type 0} (p : A → Bool) (xs : List A) (k : ℕ) (z : A) where
   find-miss h e = rw (add-one, drop-cons xs k z h, e)
 
   -- the list's end
-  pub find-end : length xs ≤ k → find_from p k (drop k xs) ≡ Nothing
+  pub find-end : length xs ≤ k → find_from p k (drop k xs) ≡ None
   unfolding find_from
   find-end h = rw (drop_of_length-le xs h)
 
@@ -46,8 +45,8 @@ pub record Hit {A : Type 0} (p : A → Bool) (xs : List A) (z : A) (i : ℕ) : T
   pub holds : p (get_or xs i z) ≡ true
 
 found-step : {A : Type 0} (p : A → Bool) (x : A) (xs : List A) (z : A) (k i : ℕ) (b : Bool) → p x ≡ b
-    → (find_from p (suc k) xs ≡ At i → (suc k ≤ i) × Hit p xs z (i - suc k))
-    → pick b (At k) (find_from p (suc k) xs) ≡ At i → (k ≤ i) × Hit p (x ∷ xs) z (i - k)
+    → (find_from p (suc k) xs ≡ Some i → (suc k ≤ i) × Hit p xs z (i - suc k))
+    → cond b (Some k) (find_from p (suc k) xs) ≡ Some i → (k ≤ i) × Hit p (x ∷ xs) z (i - k)
 found-step p x xs z k i true q ih f =
     let m : k ≡ i = cc in
     let o : i - k ≡ 0 = omega arith in
@@ -57,10 +56,10 @@ found-step p x xs z k i false q ih f =
     let o : i - k ≡ suc (i - suc k) = omega (arith, r.0) in
     (omega (arith, r.0), record { below = omega (arith, r.0, r.1.below); holds = rw o r.1.holds })
 
-found_from : {A : Type 0} (p : A → Bool) (xs : List A) (z : A) (k i : ℕ) → find_from p k xs ≡ At i → (k ≤ i) × Hit p xs z (i - k)
+found_from : {A : Type 0} (p : A → Bool) (xs : List A) (z : A) (k i : ℕ) → find_from p k xs ≡ Some i → (k ≤ i) × Hit p xs z (i - k)
 unfolding find_from
 found_from p [] z k i e = let n : ◌≡◌ {A = ℕ} 0 1 = cc in absurd (omega arith)
 found_from p (x ∷ xs) z k i e = found-step p x xs z k i (p x) refl (found_from p xs z (suc k) i) e
 
-pub found_at : {A : Type 0} (p : A → Bool) (xs : List A) (z : A) (i : ℕ) → find_from p 0 xs ≡ At i → Hit p xs z i
+pub found_at : {A : Type 0} (p : A → Bool) (xs : List A) (z : A) (i : ℕ) → find_from p 0 xs ≡ Some i → Hit p xs z i
 found_at p xs z i e = let o : i - 0 ≡ i = omega arith in subst (λ (m : ℕ). Hit p xs z m) o (found_from p xs z 0 i e).1

@@ -1,8 +1,6 @@
 -- An index over the fingerprints of a block table's used rows: for each bucket a chain of rows that a search follows. Assumes nothing.
-use Rattle.std.specs.Prelude.{ℕ, ◌+◌, ◌-◌, ◌*◌, ◌%◌, ◌≤◌, ◌<◌, ◌≡◌, Bool, true, not, cond, ◌&&◌, List, [], ltb, length, drop, get_or}
-use Rattle.tables.specs.Find.{all, find_from, caches, has_fingerprint, absent, is_dirty, is_used}
-use Rattle.tables.specs.declared.Found.{Found}
-use Rattle.tables.specs.declared.Found.TheVariants.{At, Nothing}
+use Rattle.std.specs.Prelude.{ℕ, ◌+◌, ◌-◌, ◌*◌, ◌%◌, ◌≤◌, ◌<◌, ◌≡◌, Bool, true, not, cond, ◌&&◌, List, [], ltb, length, drop, get_or, None, Option, Some, is_none}
+use Rattle.tables.specs.Find.{all, find_from, caches, has_fingerprint, is_dirty, is_used}
 use Rattle.tables.specs.Sound.{is_zero, tail_ok, row_slot}
 use Rattle.tables.specs.Records.{read_address, read_block}
 use Rattle.tables.specs.Rows.{rows, HasRows}
@@ -70,12 +68,12 @@ Indexed d blocks heads = (length heads ≡ heads_length) × Linked 0 heads (rows
 
 -- no used row of rs has the fingerprint of the row r, if r is used
 abbrev pub unique : List ℕ → List (List ℕ) → Bool
-unique r rs = cond (is_used r) (absent (find_from (caches (read_block r).fingerprint) 0 rs)) true
+unique r rs = cond (is_used r) (is_none (find_from (caches (read_block r).fingerprint) 0 rs)) true
 
 -- a row's index as a number, 256 for none
-abbrev pub code : Found → ℕ
-code (At i) = i
-code Nothing = 256
+abbrev pub code : Option ℕ → ℕ
+code (Some i) = i
+code None = 256
 
 -- the block row of an address row r, among the block rows rs
 unfoldable pub place_in : List (List ℕ) → List ℕ → ℕ
@@ -83,7 +81,7 @@ place_in rs r = code (find_from (caches (read_address r).fingerprint) 0 rs)
 
 -- the fingerprint of an address row is cached
 abbrev pub cached_in : List (List ℕ) → List ℕ → Bool
-cached_in rs r = not (absent (find_from (caches (read_address r).fingerprint) 0 rs))
+cached_in rs r = not (is_none (find_from (caches (read_address r).fingerprint) 0 rs))
 
 -- an address row is clean, or its fingerprint is cached
 abbrev pub dirty_ok : List (List ℕ) → List ℕ → Bool
@@ -95,7 +93,7 @@ cached_ok each rs r = cond each (cached_in rs r) (dirty_ok rs r)
 
 -- a block row is used, and no address row has its fingerprint
 abbrev pub unknown_in : List (List ℕ) → List ℕ → Bool
-unknown_in hs r = is_used r && absent (find_from (has_fingerprint (read_block r).fingerprint) 0 hs)
+unknown_in hs r = is_used r && is_none (find_from (has_fingerprint (read_block r).fingerprint) 0 hs)
 
 -- what `block_ok` asks but that a fingerprint is not used twice
 abbrev pub row_ok : ℕ → List ℕ → List (List ℕ) → Bool

@@ -1,9 +1,8 @@
 -- Laws of `rows` and `flat`: a table's bytes as a list of rows of 40 bytes. Assumes nothing.
-use Rattle.std.specs.Prelude.{◌≡◌, refl, ℕ, zero, suc, ◌+◌, ◌-◌, ◌*◌, ◌≤◌, ◌<◌, List, [], ◌∷◌, ◌++◌, length, get_or, take, drop, Bool, true, false}
+use Rattle.std.specs.Prelude.{◌≡◌, refl, ℕ, zero, suc, ◌+◌, ◌-◌, ◌*◌, ◌≤◌, ◌<◌, List, [], ◌∷◌, ◌++◌, length, get_or, take, drop, Bool, true, false, None, Some, Option, MatchOption}
 use Rattle.std.proofs.Common.{sym, ap, ◌∙◌, append_assoc, arith, zero-add, suc-add, not-suc-le-zero, le_of_suc-le-suc, length-drop, length-take-le, get_or-drop, get_or-take, drop-drop, take-add, take-take, take_all}
 use Rattle.std.proofs.Math.Seq.{take-nil}
 use Rattle.tables.specs.Find.{find_from}
-use Rattle.tables.specs.declared.Found.TheVariants.{At, Nothing}
 use Rattle.tables.specs.FindLaws.{find-hit, find-miss, find-end}
 use Rattle.tables.specs.Rows.{rows, flat, remove_at, row_at, le4}
 
@@ -92,14 +91,30 @@ part-fp t k = let e : k * 40 + 32 - k * 40 ≡ 32 = omega arith in rw (e, take-t
 
 -- a search's turn on row k
 module _ (p : List ℕ → Bool) (n : ℕ) (t : List ℕ) (k : ℕ) where
-  pub turn-hit : k < n → p (row_at t k) ≡ true → find_from p k (drop k (rows n t)) ≡ At k
+  pub turn-hit : k < n → p (row_at t k) ≡ true → find_from p k (drop k (rows n t)) ≡ Some k
   turn-hit h e = find-hit p (rows n t) k [] (rw rows-length h) (rw (rows_at n t k h) e)
 
   pub turn-miss : k < n → p (row_at t k) ≡ false → find_from p k (drop k (rows n t)) ≡ find_from p (k + 1) (drop (k + 1) (rows n t))
   turn-miss h e = find-miss p (rows n t) k [] (rw rows-length h) (rw (rows_at n t k h) e)
 
-  pub turn_end : n ≤ k → find_from p k (drop k (rows n t)) ≡ Nothing
+  pub turn_end : n ≤ k → find_from p k (drop k (rows n t)) ≡ None
   turn_end h = find-end p (rows n t) k [] (rw rows-length h)
+
+-- the rows before k miss: the search goes on at k
+misses : (p : List ℕ → Bool) (n : ℕ) (t : List ℕ) (k : ℕ) → k ≤ n → ((j : ℕ) → 0 ≤ j → j < k → p (row_at t j) ≡ false)
+    → find_from p 0 (rows n t) ≡ find_from p k (drop k (rows n t))
+misses p n t zero l h = refl
+misses p n t (suc k) l h =
+    let m : k + 1 ≡ suc k = omega arith in
+    rw m at (misses p n t k (omega arith) (λ j a b. h j a (omega arith)) ∙ turn-miss p n t k (omega arith) (h k (omega arith) (omega arith)))
+
+-- the first row that passes, by its place
+pub first-row : (p : List ℕ → Bool) (n : ℕ) (t : List ℕ) (r : Option ℕ)
+    → MatchOption r ((j : ℕ) → 0 ≤ j → j < n → p (row_at t j) ≡ false)
+    (λ i. (0 ≤ i) × (i < n) × (p (row_at t i) ≡ true) × ((j : ℕ) → 0 ≤ j → j < i → p (row_at t j) ≡ false))
+    → r ≡ find_from p 0 (rows n t)
+first-row p n t None h = sym (misses p n t n (omega arith) h ∙ turn_end p n t n (omega arith))
+first-row p n t (Some i) h = sym (misses p n t i (omega (arith, h.1)) h.3 ∙ turn-hit p n t i h.1 h.2)
 
 -- n bytes from index at on: how many
 pub length_part : (t : List ℕ) (at n : ℕ) → at + n ≤ length t → length (take n (drop at t)) ≡ n

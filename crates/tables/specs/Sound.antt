@@ -1,11 +1,9 @@
 -- The tests for 6 and 7 as the checks go through a table: row by row, in the positive. `Unsound` has the definitions. Assumes nothing.
-use Rattle.std.specs.Prelude.{ℕ, Bool, true, false, not, cond, ◌&&◌, List, [], ◌∷◌, map, eqb, leb, ltb, length, drop, get_or}
+use Rattle.std.specs.Prelude.{ℕ, Bool, true, false, not, cond, ◌&&◌, List, [], ◌∷◌, map, eqb, leb, ltb, length, drop, get_or, is_none}
 use Rattle.tables.specs.Rows.{rows, table_bytes}
 use Rattle.tables.specs.Records.{read_address, read_block}
-use Rattle.tables.specs.Find.{all, every, caches, find_from, absent, is_used}
+use Rattle.tables.specs.Find.{all, every, caches, find_from, is_used}
 use Rattle.tables.specs.Unsound.{elem}
-use Rattle.tables.specs.declared.row.Number.{Number}
-use Rattle.tables.specs.declared.row.Number.TheVariants.{Address, Slot}
 
 -- no number is in the list twice
 unfoldable pub distinct : List ℕ → Bool
@@ -18,10 +16,6 @@ row_address r = (read_address r).address
 
 abbrev pub row_slot : List ℕ → ℕ
 row_slot r = (read_block r).slot
-
-abbrev pub number_in : Number → List ℕ → ℕ
-number_in Address r = row_address r
-number_in Slot r = row_slot r
 
 -- the last four bytes of a row: a byte that is 0 or 1, and three zeros
 unfoldable pub tail_ok : List ℕ → Bool
@@ -48,7 +42,7 @@ sound_addresses P m n t = leb n m && (all (address_ok P) (rows n t) && (distinct
 
 -- a used block row r before the rows rs: no free row follows it, and no used one has its fingerprint
 abbrev pub used_ok : List ℕ → List (List ℕ) → Bool
-used_ok r rs = all is_used rs && absent (find_from (caches (read_block r).fingerprint) 0 rs)
+used_ok r rs = all is_used rs && is_none (find_from (caches (read_block r).fingerprint) 0 rs)
 
 -- a block row r before the rows rs, where there are d slots: a free row has no fingerprint
 abbrev pub block_ok : ℕ → List ℕ → List (List ℕ) → Bool

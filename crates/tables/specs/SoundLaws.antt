@@ -114,6 +114,15 @@ pub record Read (ws : List ℕ) (q k x : ℕ) : Type 0 where
   pub is : x ≡ get_or ws (k - 1) 0
   pub has : x < q
 
+-- the number in row k - 1
+pub read-row : (f : List ℕ → ℕ) (n : ℕ) (t : List ℕ) (q k x : ℕ) → 0 < k → k ≤ n → x ≡ f (row_at t (k - 1)) → x < q → Read (map f (rows n t)) q k x
+read-row f n t q k x h l e b = record {
+  some = h;
+  within = omega (arith, values_length f n t);
+  is = e ∙ sym (values-at f n t (k - 1) (omega arith));
+  has = b;
+}
+
 module _ {ws : List ℕ} {q k x : ℕ} (r : Read ws q k x) (at : ℕ → ℕ) (m : Marked at q (drop k ws)) where
   before : drop (k - 1) ws ≡ x ∷ drop k ws
   before = let e : suc (k - 1) ≡ k = omega (arith, r.some) in drop-cons ws (k - 1) 0 (omega (arith, r.some, r.within)) ∙ rw (e, r.is)

@@ -1,11 +1,10 @@
 // Whether the addresses, or the slots, of a table's rows are all different.
-ghost use Rattle.std.specs.Prelude.{◌≡◌, true, cond, map, ℕ, ◌*◌, ◌<◌, eqb, length};
-ghost use Rattle.tables.specs.Rows.{rows, row_at, HasRows};
+ghost use Rattle.std.specs.Prelude.{◌≡◌, true, cond, map, ℕ, ◌+◌, ◌*◌, ◌^◌, ◌<◌, ◌≤◌, eqb, length};
+ghost use Rattle.tables.specs.Rows.{le4, rows, row_at, row_bytes, HasRows};
 ghost use Rattle.tables.specs.Bits.{bit_at};
-ghost use Rattle.tables.specs.Sound.{distinct, number_in, row_address, row_slot};
+ghost use Rattle.tables.specs.Sound.{distinct, row_address, row_slot};
 
 use crate::row;
-use crate::row::Number;
 
 // Sets the bit of `x` in `seen`, where eight numbers have a byte. Whether it was clear.
 pub fn set_bit(seen: &mut [u8], x: usize) -> bool
@@ -24,19 +23,16 @@ pub fn set_bit(seen: &mut [u8], x: usize) -> bool
     true
 }
 
-// Whether the addresses, or the slots, of the first `n` rows are all different. `seen` has a bit, clear at first, for each number that can occur.
-pub(crate) fn numbers_distinct(t: &[u8], n: usize, which: Number, seen: &mut [u8]) -> bool
-    requires has_rows { HasRows t.now n }
-    requires by_index { (k : ℕ) → k < n → number_in which (row_at t.now k) < length seen.old * 8 }
-    requires by_index_2 { (x : ℕ) → x < length seen.old * 8 → bit_at seen.old x ≡ 0 }
-    ensures value { result ≡ distinct (map (number_in which) (rows n t.now)) }
-    ensures seen_len_unchanged { length seen.new ≡ length seen.old }
+// Whether the numbers of four bytes at place `at` of the first `n` rows are all different: each has a bit of `BYTES` bytes.
+pub(crate) fn numbers_distinct<const BYTES: usize>(t: &[u8], n: usize, at: usize) -> bool
+    requires has_rows { HasRows t.now n × (at + 4 ≤ row_bytes) × (BYTES < 2 ^ 32) }
+    requires by_index { (k : ℕ) → k < n → le4 (row_at t.now k) at < BYTES * 8 }
+    ensures { result ≡ distinct (map (λ r. le4 r at) (rows n t.now)) }
 {
-    let mut k = n;
-    while 0 < k {
-        k -= 1;
-        let x = row::number_at(t, k, which) as usize;
-        if !set_bit(seen, x) {
+    let mut seen = [0u8; BYTES];
+    for k in (0..n).rev() {
+        let x = row::word_at(t, k * row::BYTES + at) as usize;
+        if !set_bit(&mut seen, x) {
             return false;
         }
     }
@@ -44,31 +40,31 @@ pub(crate) fn numbers_distinct(t: &[u8], n: usize, which: Number, seen: &mut [u8
 }
 
 // Whether the addresses of the first `n` rows are all different.
+#[tactic(auto, unfolding(crate::specs::Records::read_address))]
 pub fn addresses_distinct(t: &[u8], n: usize) -> bool
     requires has_rows { HasRows t.now n }
     requires by_index { (k : ℕ) → k < n → row_address (row_at t.now k) < 65536 }
     ensures { result ≡ distinct (map row_address (rows n t.now)) }
 {
-    let mut seen = [0u8; 8192];
-    numbers_distinct(t, n, Number::Address, &mut seen)
+    numbers_distinct::<8192>(t, n, row::ADDRESS)
 }
 
 // The same where the addresses are below 4,096: with fewer bytes to clear.
+#[tactic(auto, unfolding(crate::specs::Records::read_address))]
 pub fn few_distinct(t: &[u8], n: usize) -> bool
     requires has_rows { HasRows t.now n }
     requires by_index { (k : ℕ) → k < n → row_address (row_at t.now k) < 4096 }
     ensures { result ≡ distinct (map row_address (rows n t.now)) }
 {
-    let mut seen = [0u8; 512];
-    numbers_distinct(t, n, Number::Address, &mut seen)
+    numbers_distinct::<512>(t, n, row::ADDRESS)
 }
 
 // Whether the slots of the first `d` rows are all different.
+#[tactic(auto, unfolding(crate::specs::Records::read_block))]
 pub fn slots_distinct(t: &[u8], d: usize) -> bool
     requires has_rows { HasRows t.now d }
     requires by_index { (k : ℕ) → k < d → row_slot (row_at t.now k) < 256 }
     ensures { result ≡ distinct (map row_slot (rows d t.now)) }
 {
-    let mut seen = [0u8; 32];
-    numbers_distinct(t, d, Number::Slot, &mut seen)
+    numbers_distinct::<32>(t, d, row::SLOT)
 }

@@ -16,10 +16,3 @@ pub struct SourceAddress(pub u32);
 // A slot, a block number of the flash.
 #[derive(Clone, Copy)]
 pub struct FlashSlot(pub u32);
-
-// A row's index, if there is such a row.
-#[derive(Clone, Copy)]
-pub enum Found {
-    At(usize),
-    Nothing,
-}

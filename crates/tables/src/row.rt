@@ -4,7 +4,7 @@ ghost use Rattle.tables.specs.Rows.{row_at, row_bytes, le4, le8, HasRow, IsPrint
 ghost use Rattle.tables.specs.Find.{all, is_dirty, is_used};
 ghost use Rattle.tables.specs.Records.{bytes2, read_address, read_block, address_bytes, address_row, block_bytes, free_row};
 ghost use Rattle.tables.specs.Operations.{filled, freed_row, row_cleaned};
-ghost use Rattle.tables.specs.Sound.{is_zero, number_in, tail_ok, seated_tail, zero_row};
+ghost use Rattle.tables.specs.Sound.{is_zero, tail_ok, seated_tail, zero_row};
 
 use crate::{FlashSlot, SourceAddress, moves};
 
@@ -14,11 +14,14 @@ pub const BYTES: usize = 40;
 // The bytes of a fingerprint. A block row begins with its own.
 const PRINT: usize = 32;
 
+// Where an address row has its address: at its front.
+pub(crate) const ADDRESS: usize = 0;
+
 // Where an address row has its fingerprint: behind its address.
 const ADDRESS_PRINT: usize = 4;
 
 // Where a block row has its slot: behind its fingerprint.
-const SLOT: usize = 32;
+pub(crate) const SLOT: usize = 32;
 
 // Where a row has the byte that says dirty or used.
 const FLAG: usize = 36;
@@ -34,19 +37,12 @@ const SEAT_HIGH: usize = 38;
 // The last byte of a row, which is zero.
 const LAST: usize = 39;
 
-// Which number of a row: an address row's address, or a block row's slot.
-#[derive(Clone, Copy)]
-pub(crate) enum Number {
-    Address,
-    Slot,
-}
-
 // The byte at index `at`.
 pub fn byte_at(t: &[u8], at: usize) -> u32
     requires { at < length t.now }
     ensures { (result ≡ get_or t.now at 0) × (result < 256) }
 {
-    t[at] as u32
+    u32::from(t[at])
 }
 
 // The four bytes from index `at` on, little-endian.
@@ -54,18 +50,7 @@ pub fn word_at(t: &[u8], at: usize) -> u32
     requires { at + 4 ≤ length t.now }
     ensures { result ≡ le4 t.now at }
 {
-    byte_at(t, at)
-        + 256 * byte_at(t, at + 1)
-        + 65536 * byte_at(t, at + 2)
-        + 16777216 * byte_at(t, at + 3)
-}
-
-// The byte at index `at`, as 64 bits.
-pub(crate) fn byte64(t: &[u8], at: usize) -> u64
-    requires { at < length t.now }
-    ensures { (result ≡ get_or t.now at 0) × (result < 256) }
-{
-    t[at] as u64
+    u32::from_le_bytes([t[at], t[at + 1], t[at + 2], t[at + 3]])
 }
 
 // The eight bytes from index `at` on, little-endian.
@@ -73,14 +58,16 @@ pub(crate) fn word8(t: &[u8], at: usize) -> u64
     requires { at + 8 ≤ length t.now }
     ensures { result ≡ le8 t.now at }
 {
-    byte64(t, at)
-        + 256 * byte64(t, at + 1)
-        + 65536 * byte64(t, at + 2)
-        + 16777216 * byte64(t, at + 3)
-        + 4294967296 * byte64(t, at + 4)
-        + 1099511627776 * byte64(t, at + 5)
-        + 281474976710656 * byte64(t, at + 6)
-        + 72057594037927936 * byte64(t, at + 7)
+    u64::from_le_bytes([
+        t[at],
+        t[at + 1],
+        t[at + 2],
+        t[at + 3],
+        t[at + 4],
+        t[at + 5],
+        t[at + 6],
+        t[at + 7],
+    ])
 }
 
 // Row `k`, as a part of the table.
@@ -98,7 +85,7 @@ pub fn address_at(t: &[u8], k: usize) -> SourceAddress
     requires { HasRow t.now k }
     ensures { result.0 ≡ (read_address (row_at t.now k)).address }
 {
-    SourceAddress(word_at(t, k * BYTES))
+    SourceAddress(word_at(t, k * BYTES + ADDRESS))
 }
 
 // The fingerprint in row `k` of an address table, as a part of it.
@@ -124,9 +111,8 @@ pub fn seat_at(t: &[u8], k: usize) -> u16
     requires { HasRow t.now k }
     ensures { bytes2 result ≡ (read_address (row_at t.now k)).seat }
 {
-    let low = byte_at(t, k * BYTES + SEAT);
-    let high = byte_at(t, k * BYTES + SEAT_HIGH);
-    (low + 256 * high) as u16
+    let at = k * BYTES;
+    u16::from_le_bytes([t[at + SEAT], t[at + SEAT_HIGH]])
 }
 
 // The fingerprint in row `k` of a block table, as a part of it.
@@ -153,23 +139,6 @@ pub fn is_used(t: &[u8], k: usize) -> bool
     ensures { result ≡ is_used (row_at t.now k) }
 {
     t[k * BYTES + FLAG] == 1
-}
-
-// The address, or the slot, in row `k`.
-pub(crate) fn number_at(t: &[u8], k: usize, which: Number) -> u32
-    requires { HasRow t.now k }
-    ensures { result ≡ number_in which (row_at t.now k) }
-{
-    match which {
-        Number::Address => {
-            let a = address_at(t, k);
-            a.0
-        }
-        Number::Slot => {
-            let s = slot_at(t, k);
-            s.0
-        }
-    }
 }
 
 // Whether the last four bytes of row `k` are a byte that is 0 or 1 and three zeros: as a number, at most 1.
@@ -234,16 +203,13 @@ pub(crate) fn new_address(a: SourceAddress, g: &[u8], dirty: u8, seat: u16) -> [
     requires { IsPrint g.now }
     ensures { result ≡ address_bytes (address_row a.0 g.now dirty (bytes2 seat)) }
 {
-    let x = a.0;
     let mut row = [0u8; BYTES];
-    row[0] = (x % 256) as u8;
-    row[1] = (x / 256 % 256) as u8;
-    row[2] = (x / 65536 % 256) as u8;
-    row[3] = (x / 16777216 % 256) as u8;
+    moves::write(&mut row, ADDRESS, &a.0.to_le_bytes());
     moves::write(&mut row, ADDRESS_PRINT, g);
     row[FLAG] = dirty;
-    row[SEAT] = (seat % 256) as u8;
-    row[SEAT_HIGH] = (seat / 256 % 256) as u8;
+    let [low, high] = seat.to_le_bytes();
+    row[SEAT] = low;
+    row[SEAT_HIGH] = high;
     row
 }
 
@@ -251,12 +217,8 @@ pub(crate) fn new_address(a: SourceAddress, g: &[u8], dirty: u8, seat: u16) -> [
 pub(crate) fn free(s: FlashSlot) -> [u8; BYTES]
     ensures { result ≡ block_bytes (free_row s.0) }
 {
-    let x = s.0;
     let mut row = [0u8; BYTES];
-    row[SLOT] = (x % 256) as u8;
-    row[SLOT + 1] = (x / 256 % 256) as u8;
-    row[SLOT + 2] = (x / 65536 % 256) as u8;
-    row[SLOT + 3] = (x / 16777216 % 256) as u8;
+    moves::write(&mut row, SLOT, &s.0.to_le_bytes());
     row
 }
 

@@ -1,8 +1,8 @@
--- What does not happen. Assumes nothing.
-use mathlib.Core.Path.{◌≡◌}
-use mathlib.Core.Bool.{true, false}
-use Prim.Native.Nat.{ℕ}
-use native.Mathlib.Omega.{arith}
+-- An array of zeros. Assumes nothing.
+use Rattle.std.proofs.Common.{ℕ, replicate}
+use Rattle.std.proofs.lemmas.List.{length-replicate}
+use Rattle.tables.specs.Index.{Blank}
+use Rattle.tables.specs.SoundLaws.{filled-with}
 
-pub never : {A : Type 0} → false ≡ true → A
-never e = let z : ◌≡◌ {A = ℕ} 0 1 = cc in absurd (omega arith)
+pub blank : Blank (replicate 4353 0)
+blank = (length-replicate {A = ℕ} 4353 0, filled-with 4353 0)

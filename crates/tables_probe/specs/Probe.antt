@@ -1,18 +1,16 @@
 -- What the probe's functions answer, and where what they are given fits. Assumes nothing.
-use Rattle.std.specs.Prelude.{ℕ, ◌+◌, Bool, not, cond, ◌&&◌, ◌||◌, List, eqb, leb, ltb, length}
+use Rattle.std.specs.Prelude.{ℕ, ◌+◌, Bool, not, cond, ◌&&◌, ◌||◌, List, eqb, leb, ltb, length, None, Option, Some}
 use Rattle.tables.specs.Sound.{addresses_fit, blocks_fit}
 use Rattle.tables.specs.Unsound.{addresses_unsound, blocks_unsound, dirty_uncached}
-use Rattle.tables.specs.declared.Found.{Found}
-use Rattle.tables.specs.declared.Found.TheVariants.{At, Nothing}
 use Rattle.tables.specs.Rows.{table_bytes}
 
 -- the answer where there is no such row, or what is given does not fit
 abbrev pub none : ℕ
 none = 4294967295
 
-abbrev pub number : Found → ℕ
-number (At i) = i
-number Nothing = none
+abbrev pub number : Option ℕ → ℕ
+number (Some i) = i
+number None = none
 
 -- n rows, at most 1,024, are in t
 unfoldable pub fits : ℕ → List ℕ → Bool

@@ -16,8 +16,7 @@ pub extern "C" fn tables_probe_find_address(t: &[u8], n: usize, a: u32) -> usize
     if !fit::fits(t, n) {
         return fit::NONE;
     }
-    let found = find::find_address(t, n, SourceAddress(a));
-    fit::number(found)
+    fit::number(find::find_address(t, n, SourceAddress(a)))
 }
 
 // The first of `n` address rows with the fingerprint `g`.
@@ -29,8 +28,7 @@ pub extern "C" fn tables_probe_find_fingerprint(t: &[u8], n: usize, g: &[u8]) ->
     if !fit::fits_with(t, n, g) {
         return fit::NONE;
     }
-    let found = find::find_fingerprint(t, n, g);
-    fit::number(found)
+    fit::number(find::find_fingerprint(t, n, g))
 }
 
 // The first of `n` block rows that is used and has the fingerprint `g`.
@@ -41,8 +39,7 @@ pub extern "C" fn tables_probe_find_cached(t: &[u8], n: usize, g: &[u8]) -> usiz
     if !fit::fits_with(t, n, g) {
         return fit::NONE;
     }
-    let found = find::find_cached(t, n, g);
-    fit::number(found)
+    fit::number(find::find_cached(t, n, g))
 }
 
 // The address in row `i` of `n`.
@@ -51,10 +48,9 @@ pub extern "C" fn tables_probe_address_at(t: &[u8], n: usize, i: usize) -> u32
     ensures { result ≡ cond (fits_row n t.now i) (read_address (row_at t.now i)).address none }
 {
     if !fit::fits_row(t, n, i) {
-        return 4294967295;
+        return u32::MAX;
     }
-    let a = row::address_at(t, i);
-    a.0
+    row::address_at(t, i).0
 }
 
 // The slot in row `i` of `n`.
@@ -63,10 +59,9 @@ pub extern "C" fn tables_probe_slot_at(t: &[u8], n: usize, i: usize) -> u32
     ensures { result ≡ cond (fits_row n t.now i) (read_block (row_at t.now i)).slot none }
 {
     if !fit::fits_row(t, n, i) {
-        return 4294967295;
+        return u32::MAX;
     }
-    let s = row::slot_at(t, i);
-    s.0
+    row::slot_at(t, i).0
 }
 
 // Whether row `i` of `n` of an address table is dirty.
@@ -74,10 +69,7 @@ pub extern "C" fn tables_probe_slot_at(t: &[u8], n: usize, i: usize) -> u32
 pub extern "C" fn tables_probe_is_dirty(t: &[u8], n: usize, i: usize) -> bool
     ensures { result ≡ fits_row n t.now i && is_dirty (row_at t.now i) }
 {
-    if !fit::fits_row(t, n, i) {
-        return false;
-    }
-    row::is_dirty(t, i)
+    fit::fits_row(t, n, i) && row::is_dirty(t, i)
 }
 
 // Whether row `i` of `n` of a block table is used.
@@ -85,8 +77,5 @@ pub extern "C" fn tables_probe_is_dirty(t: &[u8], n: usize, i: usize) -> bool
 pub extern "C" fn tables_probe_is_used(t: &[u8], n: usize, i: usize) -> bool
     ensures { result ≡ fits_row n t.now i && is_used (row_at t.now i) }
 {
-    if !fit::fits_row(t, n, i) {
-        return false;
-    }
-    row::is_used(t, i)
+    fit::fits_row(t, n, i) && row::is_used(t, i)
 }

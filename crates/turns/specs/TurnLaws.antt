@@ -1,7 +1,7 @@
 -- The turns of a folder read. Assumes nothing.
 use Rattle.std.specs.Prelude.{◌≡◌, Bool, ◌&&◌, ℕ, ◌+◌, ◌-◌, ◌*◌, ◌<◌, ◌≤◌, eqb, ltb, leb, get_or, drop}
 use Rattle.std.proofs.Math.Path.{refl, sym, ap, ap₂, subst}
-use Rattle.std.proofs.Common.{◌∙◌, arith, le_of_suc-le-suc, zero-mul, add-one, length-append, length-drop, take-append-drop, length-take-le, take-suc, take_all, take_at, drop_at, ltb-true, ltb-false, lt-ltb, le-leb}
+use Rattle.std.proofs.Common.{◌∙◌, arith, le_of_suc-le-suc, zero-mul, add-one, length-append, length-drop, take-append-drop, length-take-le, take-suc, take_all, ltb-true, ltb-false, lt-ltb, le-leb}
 use Rattle.std.proofs.Math.Bool.{true, false, not, cond}
 use mathlib.Core.List.{List, [], ◌∷◌, ◌++◌, map, append_assoc, append-nil}
 use Rattle.std.proofs.Math.Option.{Option, none, some}

@@ -29,29 +29,7 @@ pub struct Sums {
     pub fetches: usize,
 }
 
-// 1 for yes.
-pub(crate) fn one_if(yes: bool) -> usize
-    ensures value { result ≡ cond yes 1 0 }
-    ensures upper_bound { result ≤ 1 }
-{
-    if yes {
-        return 1;
-    }
-    0
-}
-
-// 1 for a fetch: the first read of an address, where it is a miss.
-pub(crate) fn fetch_if(first: bool, hit: bool) -> usize
-    ensures value { result ≡ cond (first && not hit) 1 0 }
-    ensures upper_bound { result ≤ 1 }
-{
-    if hit {
-        return 0;
-    }
-    one_if(first)
-}
-
-// The sums with those of one read more.
+// The sums with those of one read more. A fetch is the first read of an address, where it is a miss.
 pub(crate) fn summed(t: Sums, s: Served, first: bool) -> Sums
     requires { (t.hits ≤ 64) × (t.flashed ≤ 64) × (t.primary ≤ 65664) × (t.fetches ≤ 64) × (s.flashed ≤ 1) × (s.primary ≤ 1026) }
     ensures { result ≡ record {
@@ -62,14 +40,13 @@ pub(crate) fn summed(t: Sums, s: Served, first: bool) -> Sums
       fetches = t.fetches + cond (first && not s.yes) 1 0;
     } }
 {
-    let h = one_if(s.yes);
-    let f = fetch_if(first, s.yes);
+    let fetch = usize::from(first && !s.yes);
     Sums {
         held: s.held,
-        hits: t.hits + h,
+        hits: t.hits + usize::from(s.yes),
         flashed: t.flashed + s.flashed,
         primary: t.primary + s.primary,
-        fetches: t.fetches + f,
+        fetches: t.fetches + fetch,
     }
 }
 
@@ -78,14 +55,8 @@ pub(crate) fn first_of(asked: &[u32], k: usize) -> usize
     requires { k < length asked.now }
     ensures { (result ≤ k) × (result ≡ index_where (λ x. eqb (get_or asked.now k 0) x) (take k asked.now)) }
 {
-    let mut i = 0;
-    while i < k {
-        if asked[k] == asked[i] {
-            return i;
-        }
-        i += 1;
-    }
-    k
+    let a = asked[k];
+    asked[..k].iter().position(|&x| a == x).unwrap_or(k)
 }
 
 // Where `i` is below `k`, block `i` of the buffer is written over its block `k`.
@@ -193,10 +164,8 @@ pub fn serve_many(
         primary: 0,
         fetches: 0,
     };
-    let mut k = 0;
-    while k < asked.len() {
+    for k in 0..asked.len() {
         t = turn(b, t, k, asked, disk, flash, addrs, blocks, buffer);
-        k += 1;
     }
     t
 }

@@ -1,62 +1,47 @@
 -- Where the refusal is 0 the lent bytes are those of a sound box and its lists, and what the step leaves is the paper's call. Assumes nothing.
-use mathlib.Core.Path.{◌≡◌, refl, sym, ap, ◌∙◌}
+use mathlib.Core.Path.{refl, sym, ap, ◌∙◌}
 use mathlib.Core.Option.{some}
 use Prim.Native.Nat.{ℕ}
 use native.Mathlib.Omega.{arith}
 use lib.ListN.{length-replicate}
-use Rattle.std.proofs.Common.{rules}
 use Rattle.tables.specs.SoundLaws.{filled-with}
 use Rattle.paper.specs.Cache.{hit, miss}
-use Rattle.paper.specs.Lent.{Ask, calling, call_of}
-use Rattle.arc.specs.ArcLent.{arc_refusal}
-use Rattle.refusals.specs.Given.{counters_of}
+use Rattle.paper.specs.Lent.{Ask, call_of}
 use Rattle.parts.specs.Rep.{engine}
 use Rattle.policy.specs.CallLaws.{all-bytes, said-is, hit-counted, read-block, one-le}
-use Rattle.arcrefusals.specs.Given.{sizes_of, base_of, arc_lent}
+use Rattle.arcrefusals.specs.Given.{sizes_of, base_of}
 use Rattle.arccalls.specs.Contract.{arc_told}
 use Rattle.arccalls.specs.BaseLaws.{arc-refused}
-use Rattle.arcaccess.specs.AccessLaws.{outcome, box-sound, box-held, lists-held, accesses, counts-fit, most-rows, none_over, small-numbers, access-told, read-says}
+use Rattle.arcaccess.specs.AccessLaws.{outcome, box-sound, box-held, lists-held, accesses, counts-fit, most-rows}
+use Rattle.arcaccess.specs.AccessLaws.{none_over, small-numbers, access-told, read-says}
 use Rattle.arcaccess.proofs.read.Goals as goal
-use Rattle.arcaccess.proofs.read.Goals.{Else-number-ne0}
 
--- the refusal is 0
-zero : (c : Else-number-ne0)
-    → (let a = c.args in
-    arc_refusal (sizes_of a.a) (arc_lent a.a a.disk.now a.flash.now a.addresses.now a.blocks.now a.lists.now (counters_of a.c))
-    (calling (Ask.read a.asked.0 a.block.now)) ≡ 0)
-zero c = sym c.arc_access-number.ensures.value ∙ c.if-number-ne0.false
+pub arc_access-requires : goal.arc_access-requires
+arc_access-requires c = (length-replicate {A = ℕ} 4353 0, filled-with 4353 0)
 
-pub arc_access-number-requires : goal.arc_access-number-requires
-arc_access-number-requires c = (length-replicate {A = ℕ} 4353 0, filled-with 4353 0)
-
-pub returns-then-number-ne0 : goal.returns-then-number-ne0
-returns-then-number-ne0 c =
+pub returns-in-Err : goal.returns-in-Err
+returns-in-Err c =
     let a = c.args in
-    let x = c.arc_access-number in
     ap (λ r. arc_told r a.disk.now a.flash.now a.addresses.now a.blocks.now a.lists.now (some a.block.now)) c.refused.ensures
-    ∙ arc-refused a.a a.disk.now a.flash.now a.addresses.now a.blocks.now a.lists.now a.c (Ask.read a.asked.0 a.block.now) x.result
-    x.ensures.value c.if-number-ne0.true _ refl
+    ∙ arc-refused a.a a.disk.now a.flash.now a.addresses.now a.blocks.now a.lists.now a.c
+    (Ask.read a.asked.0 a.block.now) c.in-Err.r c.in-Err.ensures.value _ refl
 
 pub base_of-b-requires : goal.base_of-b-requires
 base_of-b-requires c =
-    let zero : (let a = c.args in
-    arc_refusal (sizes_of a.a) (arc_lent a.a a.disk.now a.flash.now a.addresses.now a.blocks.now a.lists.now (counters_of a.c))
-    (calling (Ask.read a.asked.0 a.block.now)) ≡ 0) = sym c.arc_access-number.ensures.value ∙ c.if-number-ne0.false in
     let a = c.args in
-    small-numbers a.a a.disk.now a.flash.now a.addresses.now a.blocks.now a.lists.now a.c (Ask.read a.asked.0 a.block.now) zero
+    small-numbers a.a a.disk.now a.flash.now a.addresses.now a.blocks.now a.lists.now a.c (Ask.read a.asked.0 a.block.now)
+    (sym c.in_default.ensures.value)
 
 pub serve_read-s-requires : goal.serve_read-s-requires
 serve_read-s-requires c =
-    let zero : (let a = c.args in
-    arc_refusal (sizes_of a.a) (arc_lent a.a a.disk.now a.flash.now a.addresses.now a.blocks.now a.lists.now (counters_of a.c))
-    (calling (Ask.read a.asked.0 a.block.now)) ≡ 0) = sym c.arc_access-number.ensures.value ∙ c.if-number-ne0.false in
     let a = c.args in
     let q = Ask.read a.asked.0 a.block.now in
-    let e = zero in
+    let e = sym c.in_default.ensures.value in
     let x = all-bytes a.addresses.now (λ i. omega (arith, c.slice_known-3-1.given i)) in
     let y = all-bytes a.blocks.now (λ i. omega (arith, c.slice_known-4-1.given i)) in
     record {
-      arc_access = rw c.base_of-b.ensures (accesses a.a a.disk.now a.flash.now a.addresses.now a.blocks.now a.lists.now a.c q e x y a.asked.0 a.block.now refl refl);
+      arc_access = rw c.base_of-b.ensures (accesses a.a a.disk.now a.flash.now a.addresses.now a.blocks.now a.lists.now
+          a.c q e x y a.asked.0 a.block.now refl refl);
       lent_arc = rw c.base_of-b.ensures (
         _,
         _,
@@ -64,17 +49,14 @@ serve_read-s-requires c =
         lists-held a.a a.disk.now a.flash.now a.addresses.now a.blocks.now a.lists.now a.c q e (λ i. omega (arith, c.slice_known-5-1.given i)),
         box-sound a.a a.disk.now a.flash.now a.addresses.now a.blocks.now a.lists.now a.c q e,
       );
-      indexed = rw c.base_of-b.ensures (c.arc_access-number.ensures.indexed c.if-number-ne0.false);
+      indexed = rw c.base_of-b.ensures (c.in_default.ensures.indexed);
     }
 
 pub accessed-requires : goal.accessed-requires
 accessed-requires c =
-    let zero : (let a = c.args in
-    arc_refusal (sizes_of a.a) (arc_lent a.a a.disk.now a.flash.now a.addresses.now a.blocks.now a.lists.now (counters_of a.c))
-    (calling (Ask.read a.asked.0 a.block.now)) ≡ 0) = sym c.arc_access-number.ensures.value ∙ c.if-number-ne0.false in
     let a = c.args in
     let q = Ask.read a.asked.0 a.block.now in
-    let e = zero in
+    let e = sym c.in_default.ensures.value in
     let r = c.serve_read-s in
     let f0 = r.ensures.few in
     let f = rw c.base_of-b.ensures at f0 in
@@ -86,12 +68,9 @@ accessed-requires c =
 pub returns : goal.returns
 unfolding call_of
 returns c =
-    let zero : (let a = c.args in
-    arc_refusal (sizes_of a.a) (arc_lent a.a a.disk.now a.flash.now a.addresses.now a.blocks.now a.lists.now (counters_of a.c))
-    (calling (Ask.read a.asked.0 a.block.now)) ≡ 0) = sym c.arc_access-number.ensures.value ∙ c.if-number-ne0.false in
     let a = c.args in
     let q = Ask.read a.asked.0 a.block.now in
-    let e = zero in
+    let e = sym c.in_default.ensures.value in
     let x = all-bytes a.addresses.now (λ i. omega (arith, c.slice_known-3-1.given i)) in
     let y = all-bytes a.blocks.now (λ i. omega (arith, c.slice_known-4-1.given i)) in
     let l = a.block.now in

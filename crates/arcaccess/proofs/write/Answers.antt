@@ -1,76 +1,43 @@
 -- As a read, with the word of a write. Assumes nothing.
-use mathlib.Core.Path.{◌≡◌, refl, sym, ap, ◌∙◌, subst}
-use mathlib.Core.Bool.{cond}
+use mathlib.Core.Path.{sym, ap, ◌∙◌}
 use mathlib.Core.Option.{some}
 use Prim.Native.Nat.{ℕ}
 use native.Mathlib.Omega.{arith}
 use lib.ListN.{length-replicate}
-use Rattle.std.proofs.Common.{rules}
 use Rattle.tables.specs.SoundLaws.{filled-with}
-use Rattle.tables.specs.Records.{bytes2}
-use Rattle.paper.specs.Cache.{Call, same_block, new_block, one_if}
-use Rattle.paper.specs.Engine.{Fixed, fit}
-use Rattle.paper.specs.Lent.{calling}
-use Rattle.arc.specs.Policy.{serve_by}
-use Rattle.arc.specs.Arc.{arc}
-use Rattle.arc.specs.ArcLent.{arc_refusal}
-use Rattle.arc.specs.ArcDemand.{lists_of, box_of}
-use Rattle.refusals.specs.Given.{counters_of}
-use Rattle.parts.specs.Rep.{engine}
-use Rattle.serve.specs.Calls.{is_yes}
+use Rattle.paper.specs.Engine.{fit}
 use Rattle.policy.specs.Contract.{ask_of}
-use Rattle.policy.specs.CallLaws.{all-bytes, fit_is, said-is, no_hit, asks_write}
-use Rattle.arcrefusals.specs.Given.{sizes_of, base_of, arc_lent}
+use Rattle.policy.specs.CallLaws.{all-bytes, fit_is, asks_write}
 use Rattle.arccalls.specs.Contract.{arc_told}
 use Rattle.arccalls.specs.BaseLaws.{arc-refused}
-use Rattle.arcaccess.specs.AccessLaws.{outcome, box-sound, box-held, lists-held, accesses, counts-fit, most-rows, none_over, small-numbers, access-told}
-use Rattle.arcaccess.specs.AccessLaws.{write-says, asked-as-read, written_as}
+use Rattle.arcaccess.specs.AccessLaws.{box-sound, box-held, lists-held, accesses, counts-fit, most-rows, none_over, small-numbers}
+use Rattle.arcaccess.specs.AccessLaws.{asked-as-read, written_as}
 use Rattle.arcaccess.proofs.write.Goals as goal
-use Rattle.arcaccess.proofs.write.Goals.{Else-number-ne0}
 
--- the refusal is 0
-zero : (c : Else-number-ne0)
-    → (let a = c.args in
-    arc_refusal (sizes_of a.a) (arc_lent a.a a.disk.now a.flash.now a.addresses.now a.blocks.now a.lists.now (counters_of a.c))
-    (calling (ask_of a.kind a.asked.0 a.block.now a.seat)) ≡ 0)
-zero c =
+pub arc_access-requires : goal.arc_access-requires
+arc_access-requires c = (length-replicate {A = ℕ} 4353 0, filled-with 4353 0)
+
+pub returns-in-Err : goal.returns-in-Err
+returns-in-Err c =
     let a = c.args in
-    sym (asked-as-read a.kind _ _ a.asked.0 a.block.now a.seat) ∙ sym c.arc_access-number.ensures.value ∙ c.if-number-ne0.false
-
-pub arc_access-number-requires : goal.arc_access-number-requires
-arc_access-number-requires c = (length-replicate {A = ℕ} 4353 0, filled-with 4353 0)
-
-pub returns-then-number-ne0 : goal.returns-then-number-ne0
-returns-then-number-ne0 c =
-    let a = c.args in
-    let x = c.arc_access-number in
     let q = ask_of a.kind a.asked.0 a.block.now a.seat in
     ap (λ r. arc_told r a.disk.now a.flash.now a.addresses.now a.blocks.now a.lists.now (some a.block.now)) c.refused.ensures
-    ∙ arc-refused a.a a.disk.now a.flash.now a.addresses.now a.blocks.now a.lists.now a.c q x.result
-    (x.ensures.value ∙ asked-as-read a.kind _ _ a.asked.0 a.block.now a.seat) c.if-number-ne0.true _
+    ∙ arc-refused a.a a.disk.now a.flash.now a.addresses.now a.blocks.now a.lists.now a.c q c.in-Err.r
+    (c.in-Err.ensures.value ∙ asked-as-read a.kind _ _ a.asked.0 a.block.now a.seat) _
     (sym (asks_write a.kind a.a.size a.asked.0 a.seat a.block.now).block)
 
 pub base_of-b-requires : goal.base_of-b-requires
 base_of-b-requires c =
-    let zero : (let a = c.args in
-    arc_refusal (sizes_of a.a) (arc_lent a.a a.disk.now a.flash.now a.addresses.now a.blocks.now a.lists.now (counters_of a.c))
-    (calling (ask_of a.kind a.asked.0 a.block.now a.seat)) ≡ 0) =
-    let a = c.args in
-    sym (asked-as-read a.kind _ _ a.asked.0 a.block.now a.seat) ∙ sym c.arc_access-number.ensures.value ∙ c.if-number-ne0.false in
     let a = c.args in
     small-numbers a.a a.disk.now a.flash.now a.addresses.now a.blocks.now a.lists.now a.c
-    (ask_of a.kind a.asked.0 a.block.now a.seat) zero
+    (ask_of a.kind a.asked.0 a.block.now a.seat)
+    (sym (asked-as-read a.kind _ _ a.asked.0 a.block.now a.seat) ∙ sym c.in_default.ensures.value)
 
 pub serve_write-s-requires : goal.serve_write-s-requires
 serve_write-s-requires c =
-    let zero : (let a = c.args in
-    arc_refusal (sizes_of a.a) (arc_lent a.a a.disk.now a.flash.now a.addresses.now a.blocks.now a.lists.now (counters_of a.c))
-    (calling (ask_of a.kind a.asked.0 a.block.now a.seat)) ≡ 0) =
-    let a = c.args in
-    sym (asked-as-read a.kind _ _ a.asked.0 a.block.now a.seat) ∙ sym c.arc_access-number.ensures.value ∙ c.if-number-ne0.false in
     let a = c.args in
     let q = ask_of a.kind a.asked.0 a.block.now a.seat in
-    let e = zero in
+    let e = sym (asked-as-read a.kind _ _ a.asked.0 a.block.now a.seat) ∙ sym c.in_default.ensures.value in
     let k = asks_write a.kind a.a.size a.asked.0 a.seat a.block.now in
     let x = all-bytes a.addresses.now (λ i. omega (arith, c.slice_known-3-1.given i)) in
     let y = all-bytes a.blocks.now (λ i. omega (arith, c.slice_known-4-1.given i)) in
@@ -85,19 +52,14 @@ serve_write-s-requires c =
             (λ i. omega (arith, c.slice_known-5-1.given i)),
         box-sound a.a a.disk.now a.flash.now a.addresses.now a.blocks.now a.lists.now a.c q e,
       );
-      indexed = rw c.base_of-b.ensures (c.arc_access-number.ensures.indexed c.if-number-ne0.false);
+      indexed = rw c.base_of-b.ensures (c.in_default.ensures.indexed);
     }
 
 pub accessed-requires : goal.accessed-requires
 accessed-requires c =
-    let zero : (let a = c.args in
-    arc_refusal (sizes_of a.a) (arc_lent a.a a.disk.now a.flash.now a.addresses.now a.blocks.now a.lists.now (counters_of a.c))
-    (calling (ask_of a.kind a.asked.0 a.block.now a.seat)) ≡ 0) =
-    let a = c.args in
-    sym (asked-as-read a.kind _ _ a.asked.0 a.block.now a.seat) ∙ sym c.arc_access-number.ensures.value ∙ c.if-number-ne0.false in
     let a = c.args in
     let q = ask_of a.kind a.asked.0 a.block.now a.seat in
-    let e = zero in
+    let e = sym (asked-as-read a.kind _ _ a.asked.0 a.block.now a.seat) ∙ sym c.in_default.ensures.value in
     let r = c.serve_write-s in
     let f0 = r.ensures.few in
     let f = rw c.base_of-b.ensures at f0 in
@@ -109,14 +71,9 @@ accessed-requires c =
 
 pub returns : goal.returns
 returns c =
-    let zero : (let a = c.args in
-    arc_refusal (sizes_of a.a) (arc_lent a.a a.disk.now a.flash.now a.addresses.now a.blocks.now a.lists.now (counters_of a.c))
-    (calling (ask_of a.kind a.asked.0 a.block.now a.seat)) ≡ 0) =
-    let a = c.args in
-    sym (asked-as-read a.kind _ _ a.asked.0 a.block.now a.seat) ∙ sym c.arc_access-number.ensures.value ∙ c.if-number-ne0.false in
     let a = c.args in
     let q = ask_of a.kind a.asked.0 a.block.now a.seat in
-    let e = zero in
+    let e = sym (asked-as-read a.kind _ _ a.asked.0 a.block.now a.seat) ∙ sym c.in_default.ensures.value in
     let l = a.block.now in
     let k = asks_write a.kind a.a.size a.asked.0 a.seat l in
     let x = all-bytes a.addresses.now (λ i. omega (arith, c.slice_known-3-1.given i)) in

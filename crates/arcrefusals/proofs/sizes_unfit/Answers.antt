@@ -1,6 +1,5 @@
 -- C and X by themselves, then 1 of the base's record. Assumes nothing.
 use mathlib.Core.Path.{ap, ◌∙◌}
-use Rattle.std.proofs.Common.{rules}
 use Rattle.paper.specs.Lent.{unfit}
 use Rattle.parts.specs.Rep.{numbers_of}
 use Rattle.arcrefusals.specs.Given.{sizes_of}

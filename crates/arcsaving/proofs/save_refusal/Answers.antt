@@ -1,73 +1,37 @@
 -- As a full flush, then 14. Assumes nothing.
-use mathlib.Core.Path.{◌≡◌, sym, ◌∙◌}
-use native.Mathlib.Omega.{arith}
-use Rattle.paper.specs.Lent.{Ask, calling}
+use Rattle.std.proofs.Common.{sym, ◌∙◌}
+use Rattle.std.proofs.lemmas.Result.{err_from_is_err_and}
+use Rattle.refusal.specs.Numbers.{refused}
 use Rattle.arc.specs.Arc.{m_of}
-use Rattle.arc.specs.ArcLent.{ArcLent, arc_refusal}
 use Rattle.refusals.specs.Given.{counters_of}
 use Rattle.arcrefusals.specs.Given.{sizes_of, arc_lent}
 use Rattle.arcsaving.specs.SaveLaws.{flush-refused, numbers-small, save-14, save-0}
-use Rattle.std.proofs.Common.{rules}
 use Rattle.arcsaving.proofs.save_refusal.Goals as goal
-use Rattle.arcsaving.proofs.save_refusal.Goals.{After-arc_flush-number, Else-number-ne0}
 
-abbrev given : After-arc_flush-number → ArcLent
-given c =
-    let a = c.args in
-    arc_lent a.a a.disk.now a.flash.now a.addresses.now a.blocks.now a.lists.now (counters_of a.c)
+pub arc_flush-requires : goal.arc_flush-requires
+arc_flush-requires c = c.requires
 
--- the flush is not refused
-zero : (c : Else-number-ne0)
-    → (let given : ArcLent =
+pub returns-in_err-arc_flush-clause-value : goal.returns-in_err-arc_flush-clause-value
+returns-in_err-arc_flush-clause-value c =
     let a = c.args in
-    arc_lent a.a a.disk.now a.flash.now a.addresses.now a.blocks.now a.lists.now (counters_of a.c) in
-    (let a = c.args in arc_refusal (sizes_of a.a) given (calling (Ask.flush (m_of (sizes_of a.a)))) ≡ 0))
-zero c = sym (c.arc_flush-number.ensures.by_index (m_of (sizes_of c.args.a))) ∙ c.if-number-ne0.false
-
-pub arc_flush-number-requires : goal.arc_flush-number-requires
-arc_flush-number-requires c = c.requires
-
-pub returns-then-number-ne0 : goal.returns-then-number-ne0
-returns-then-number-ne0 c =
-    let given : ArcLent =
-    let a = c.args in
-    arc_lent a.a a.disk.now a.flash.now a.addresses.now a.blocks.now a.lists.now (counters_of a.c) in
-    let a = c.args in
-    record {
-      value = flush-refused (sizes_of a.a) given a.area.now _ (c.arc_flush-number.ensures.by_index (m_of (sizes_of a.a))) c.if-number-ne0.true;
-      indexed = λ z. absurd (c.if-number-ne0.true z);
-    }
+    let p = err_from_is_err_and c.from_residual.result c.from_residual.ensures.1 in
+    rw (p.1, p.2) (flush-refused (sizes_of a.a) (arc_lent a.a a.disk.now a.flash.now a.addresses.now a.blocks.now a.lists.now (counters_of a.c)) a.area.now _
+    (c.in_err-arc_flush.ensures.by_index (m_of (sizes_of a.a))) (refused _))
 
 pub body_length-n-requires : goal.body_length-n-requires
 body_length-n-requires c =
-    let given : ArcLent =
     let a = c.args in
-    arc_lent a.a a.disk.now a.flash.now a.addresses.now a.blocks.now a.lists.now (counters_of a.c) in
-    let a = c.args in
-    numbers-small (sizes_of a.a) given a.area.now (zero c)
+    numbers-small (sizes_of a.a) (arc_lent a.a a.disk.now a.flash.now a.addresses.now a.blocks.now a.lists.now (counters_of a.c)) a.area.now
+    (sym (c.in_ok-arc_flush.ensures.by_index (m_of (sizes_of a.a))))
 
-pub returns-then-too_short : goal.returns-then-too_short
-returns-then-too_short c =
-    let given : ArcLent =
+pub returns-then-too_short-clause-value : goal.returns-then-too_short-clause-value
+returns-then-too_short-clause-value c =
     let a = c.args in
-    arc_lent a.a a.disk.now a.flash.now a.addresses.now a.blocks.now a.lists.now (counters_of a.c) in
-    let zero : (let a = c.args in arc_refusal (sizes_of a.a) given (calling (Ask.flush (m_of (sizes_of a.a)))) ≡ 0) = sym (c.arc_flush-number.ensures.by_index (m_of (sizes_of c.args.a))) ∙ c.if-number-ne0.false in
-    let a = c.args in
-    record {
-      value = save-14 (sizes_of a.a) given a.area.now zero _ c.body_length-n.ensures
-          (sym c.too_short.ensures ∙ c.if-too_short.true);
-      indexed = λ z. absurd (omega arith);
-    }
+    save-14 (sizes_of a.a) (arc_lent a.a a.disk.now a.flash.now a.addresses.now a.blocks.now a.lists.now (counters_of a.c)) a.area.now
+    (sym (c.in_ok-arc_flush.ensures.by_index (m_of (sizes_of a.a)))) _ c.body_length-n.ensures (sym c.too_short.ensures ∙ c.if-too_short.true)
 
-pub returns : goal.returns
-returns c =
-    let given : ArcLent =
+pub returns-clause-value : goal.returns-clause-value
+returns-clause-value c =
     let a = c.args in
-    arc_lent a.a a.disk.now a.flash.now a.addresses.now a.blocks.now a.lists.now (counters_of a.c) in
-    let zero : (let a = c.args in arc_refusal (sizes_of a.a) given (calling (Ask.flush (m_of (sizes_of a.a)))) ≡ 0) = sym (c.arc_flush-number.ensures.by_index (m_of (sizes_of c.args.a))) ∙ c.if-number-ne0.false in
-    let a = c.args in
-    record {
-      value = save-0 (sizes_of a.a) given a.area.now zero _ c.body_length-n.ensures
-          (sym c.too_short.ensures ∙ c.if-too_short.false);
-      indexed = λ z. c.arc_flush-number.ensures.indexed c.if-number-ne0.false;
-    }
+    save-0 (sizes_of a.a) (arc_lent a.a a.disk.now a.flash.now a.addresses.now a.blocks.now a.lists.now (counters_of a.c)) a.area.now
+    (sym (c.in_ok-arc_flush.ensures.by_index (m_of (sizes_of a.a)))) _ c.body_length-n.ensures (sym c.too_short.ensures ∙ c.if-too_short.false)

@@ -1,87 +1,43 @@
--- The answer by the number. Assumes nothing.
-use mathlib.Core.Path.{◌≡◌, sym, ap, ◌∙◌}
-use Rattle.std.proofs.Common.{rules}
+-- The answer by the refusal. Assumes nothing.
+use Rattle.std.proofs.Common.{sym, ap, ◌∙◌}
+use Rattle.std.proofs.lemmas.Result.{err_from_is_err_and}
 use Rattle.paper.specs.Cache.{Numbers}
 use Rattle.paper.specs.Engine.{fingerprinting}
-use Rattle.paper.specs.Lent.{split, with_label}
+use Rattle.paper.specs.Lent.{split}
 use Rattle.paper.specs.Machines.{content_of}
 use Rattle.parts.specs.declared.BoxRecord.{BoxRecord}
-use Rattle.parts.specs.Rep.{numbers_of, empty_box, relabelled}
+use Rattle.parts.specs.Rep.{relabelled}
 use Rattle.exam.specs.Scores.{scores}
-use Rattle.exam.specs.Contract.{question_refusal}
-use Rattle.exam.proofs.QuestionLaws.{Posed, posed}
-use Rattle.exam.proofs.Answers.{refused-answer, posed-answer}
+use Rattle.exam.proofs.QuestionLaws.{posed}
+use Rattle.exam.proofs.Answers.{of-record, refused-answer, posed-answer}
 use Rattle.exam.proofs.scores.Goals as goal
-use Rattle.exam.proofs.scores.Goals.{After-refusal-no, After-with_label, Else-no-ne0, Start}
 
--- the numbers and the label that are given
-abbrev numbers : Start → Numbers
-numbers s = let a = s.args in record { B = a.size; P = a.blocks; m = a.rows; d = a.slots; label = a.label.now; t = a.limit }
-
-number_is : (c : After-refusal-no) → (let numbers : Numbers = let a = c.args in record { B = a.size; P = a.blocks; m = a.rows; d = a.slots; label = a.label.now; t = a.limit } in
-    (c.refusal-no.result ≡ question_refusal numbers c.args.disk.now c.args.k c.args.room))
-number_is c =
+pub returns-in_err-refusal : goal.returns-in_err-refusal
+returns-in_err-refusal c =
     let a = c.args in
-    c.refusal-no.ensures
-    ∙ ap (λ (x : BoxRecord). question_refusal (with_label (numbers_of x) a.label.now) a.disk.now a.k a.room) c.empty_box-b.ensures
+    let N : Numbers = record { B = a.size; P = a.blocks; m = a.rows; d = a.slots; label = a.label.now; t = a.limit } in
+    let p = err_from_is_err_and c.from_residual.result c.from_residual.ensures.1 in
+    rw (p.1, p.2) (refused-answer N a.disk.now a.k a.room _ (c.in_err-refusal.ensures ∙ of-record N a.disk.now a.k a.room _ _ c.empty_box-b.ensures))
 
--- what a question that passes has
-passed : (c : Else-no-ne0) → (let numbers : Numbers = let a = c.args in record { B = a.size; P = a.blocks; m = a.rows; d = a.slots; label = a.label.now; t = a.limit } in
-    (Posed numbers c.args.disk.now c.args.k c.args.room))
-passed c =
-    let numbers : Numbers = let a = c.args in record { B = a.size; P = a.blocks; m = a.rows; d = a.slots; label = a.label.now; t = a.limit } in
-    let number_is : (c.refusal-no.result ≡ question_refusal numbers c.args.disk.now c.args.k c.args.room) =
+pub with_label-requires : goal.with_label-requires
+with_label-requires c =
     let a = c.args in
-    c.refusal-no.ensures
-    ∙ ap (λ (x : BoxRecord). question_refusal (with_label (numbers_of x) a.label.now) a.disk.now a.k a.room) c.empty_box-b.ensures in
-    posed numbers c.args.disk.now c.args.k c.args.room (sym number_is ∙ c.if-no-ne0.false)
+    let N : Numbers = record { B = a.size; P = a.blocks; m = a.rows; d = a.slots; label = a.label.now; t = a.limit } in
+    (posed N a.disk.now a.k a.room (sym (c.in_ok-refusal.ensures ∙ of-record N a.disk.now a.k a.room _ _ c.empty_box-b.ensures))).label
 
--- the record with the label
-labelled-is : (c : After-with_label) → (let a = c.args in
-    c.with_label.result ≡ empty_box a.size a.blocks a.rows a.slots a.limit a.label.now)
-labelled-is c =
+pub counts-requires : goal.counts-requires
+counts-requires c =
     let a = c.args in
-    c.with_label.ensures
-    ∙ ap (λ (x : BoxRecord). relabelled x a.label.now) c.empty_box-b.ensures
-
-pub returns-then-no-ne0 : goal.returns-then-no-ne0
-returns-then-no-ne0 c =
-    let numbers : Numbers = let a = c.args in record { B = a.size; P = a.blocks; m = a.rows; d = a.slots; label = a.label.now; t = a.limit } in
-    let number_is : (c.refusal-no.result ≡ question_refusal numbers c.args.disk.now c.args.k c.args.room) =
-    let a = c.args in
-    c.refusal-no.ensures
-    ∙ ap (λ (x : BoxRecord). question_refusal (with_label (numbers_of x) a.label.now) a.disk.now a.k a.room) c.empty_box-b.ensures in
-    refused-answer numbers c.args.disk.now c.args.k c.args.room c.refusal-no.result number_is c.if-no-ne0.true
-
-pub counts-c-requires : goal.counts-c-requires
-counts-c-requires c =
-    let numbers : Numbers = let a = c.args in record { B = a.size; P = a.blocks; m = a.rows; d = a.slots; label = a.label.now; t = a.limit } in
-    let number_is : (c.refusal-no.result ≡ question_refusal numbers c.args.disk.now c.args.k c.args.room) =
-    let a = c.args in
-    c.refusal-no.ensures
-    ∙ ap (λ (x : BoxRecord). question_refusal (with_label (numbers_of x) a.label.now) a.disk.now a.k a.room) c.empty_box-b.ensures in
-    let passed : (Posed numbers c.args.disk.now c.args.k c.args.room) =
-    posed numbers c.args.disk.now c.args.k c.args.room (sym number_is ∙ c.if-no-ne0.false) in
-    let p = passed in
-    rw (labelled-is c) (p.few, p.rows, p.slots, p.whole, p.short)
+    let N : Numbers = record { B = a.size; P = a.blocks; m = a.rows; d = a.slots; label = a.label.now; t = a.limit } in
+    let p = posed N a.disk.now a.k a.room (sym (c.in_ok-refusal.ensures ∙ of-record N a.disk.now a.k a.room _ _ c.empty_box-b.ensures)) in
+    rw (c.with_label.ensures, c.empty_box-b.ensures) (p.few, p.rows, p.slots, p.whole, p.short)
 
 pub returns : goal.returns
 returns c =
-    let numbers : Numbers = let a = c.args in record { B = a.size; P = a.blocks; m = a.rows; d = a.slots; label = a.label.now; t = a.limit } in
-    let number_is : (c.refusal-no.result ≡ question_refusal numbers c.args.disk.now c.args.k c.args.room) =
     let a = c.args in
-    c.refusal-no.ensures
-    ∙ ap (λ (x : BoxRecord). question_refusal (with_label (numbers_of x) a.label.now) a.disk.now a.k a.room) c.empty_box-b.ensures in
-    let labelled-is : (let a = c.args in
-    c.with_label.result ≡ empty_box a.size a.blocks a.rows a.slots a.limit a.label.now) =
-    let a = c.args in
-    c.with_label.ensures
-    ∙ ap (λ (x : BoxRecord). relabelled x a.label.now) c.empty_box-b.ensures in
-    let a = c.args in
-    posed-answer numbers a.disk.now a.k a.room _ (sym number_is ∙ c.if-no-ne0.false)
-    (c.counts-c.ensures
+    let N : Numbers = record { B = a.size; P = a.blocks; m = a.rows; d = a.slots; label = a.label.now; t = a.limit } in
+    posed-answer N a.disk.now a.k a.room _ (sym (c.in_ok-refusal.ensures ∙ of-record N a.disk.now a.k a.room _ _ c.empty_box-b.ensures))
+    (c.counts.ensures
     ∙ ap (λ (x : BoxRecord). scores (fingerprinting x.label 64).same x.rows x.slots
-    (content_of (fingerprinting x.label 64) (split 64 x.blocks a.disk.now)) x.blocks a.k) labelled-is)
-
-pub with_label-requires : goal.with_label-requires
-with_label-requires c = (passed c).label
+    (content_of (fingerprinting x.label 64) (split 64 x.blocks a.disk.now)) x.blocks a.k)
+    (c.with_label.ensures ∙ ap (λ (x : BoxRecord). relabelled x a.label.now) c.empty_box-b.ensures))

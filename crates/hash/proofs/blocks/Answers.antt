@@ -1,25 +1,20 @@
-use Rattle.std.proofs.Common.{◌≡◌, ℕ, ◌+◌, ◌-◌, ◌*◌, ◌/◌, ◌≤◌, length, refl, ◌∙◌, add-one, arith, length-drop, length-take}
+-- `hash::blocks` meets its contract.
+-- Assumes nothing.
+use Rattle.std.proofs.Common.{rules, length-append, sym, ◌∙◌}
 use Rattle.hash.specs.Words.{words}
 use Rattle.hash.specs.Sha256.{blocks}
+use Rattle.hash.proofs.Laws.{block-more}
 use Rattle.hash.proofs.blocks.Goals as goal
-use Rattle.hash.proofs.blocks.Goals.{After-loop-i}
 
-width : (i : ℕ) → 64 * i + 64 - 64 * i ≡ 64
-width i = omega arith
-
-all : (c : After-loop-i) → c.loop-i.i ≡ length c.args.bytes.now / 64
-all c = omega arith
-
-pub loop-i-init : goal.loop-i-init
+pub loop-block-init : goal.loop-block-init
 unfolding blocks
-loop-i-init c = (omega arith, refl)
+loop-block-init c = search rules
 
-pub compress-s-requires : goal.compress-s-requires
-compress-s-requires c = simp (length-take, length-drop) (omega arith)
-
-pub loop-i-preserved : goal.loop-i-preserved
+pub loop-block-preserved : goal.loop-block-preserved
 unfolding blocks
-loop-i-preserved c = (omega arith, rw add-one (c.compress-s.ensures ∙ rw (c.loop-i.invariant.1, width)))
-
-pub returns : goal.returns
-returns c = c.loop-i.invariant.1 ∙ rw (all c)
+loop-block-preserved c =
+    let i = c.loop-block.invariant in
+    let e = c.in-Some.ensures.steps in
+    let n = length-append c.loop-block.yielded _ in
+    let m = block-more (words c.args.hash) c.args.bytes.now _ c.in-Some.block.now _ _ n i.1 (sym i.2 ∙ e.1.0) (e.1.1 ∙ i.0) in
+    (e.0 ∙ i.0, m.0, m.1, rw i.3 at c.compress-s.ensures ∙ m.2)

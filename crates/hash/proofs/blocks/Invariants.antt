@@ -1,12 +1,11 @@
--- `hash::blocks` meets its contract. The loop's invariant: s is the hash value after i blocks.
+-- The invariant of the loop of `hash::blocks`: s is the hash value after the blocks that the iterator has given, and the rest of the bytes follow them.
 -- Assumes nothing.
-use Rattle.std.proofs.Common.{◌≡◌, ℕ, ◌+◌, ◌-◌, ◌*◌, ◌/◌, ◌≤◌, length, refl, ◌∙◌, add-one, arith, length-drop, length-take}
+use Rattle.std.proofs.Common.{◌≡◌, ◌*◌, ◌≤◌, length, drop}
 use Rattle.hash.specs.Words.{words}
 use Rattle.hash.specs.Sha256.{blocks}
 use Rattle.hash.proofs.blocks.Given as goal
 
-abbrev pub invariant-loop-i : goal.invariant-loop-i
-invariant-loop-i l = (l.i ≤ l.n) × (words l.s ≡ blocks (words l.initial.s) l.bytes l.i)
-
-abbrev pub decreases-loop-i : goal.decreases-loop-i
-decreases-loop-i l = l.n - l.i
+abbrev pub invariant-loop-block : goal.invariant-loop-block
+invariant-loop-block l =
+    (l.block-iterator.size ≡ 64) × (64 * length l.yielded ≤ length l.bytes) × (l.block-iterator.rest.now ≡ drop (64 * length l.yielded) l.bytes)
+    × (words l.s ≡ blocks (words l.fn.hash) l.bytes (length l.yielded))

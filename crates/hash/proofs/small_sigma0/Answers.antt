@@ -1,6 +1,5 @@
 -- `hash::small_sigma0` meets its contract: its rotations are those of `σ0`.
 -- Assumes nothing.
-use Rattle.std.proofs.Common.{rules}
 use Rattle.hash.specs.Sha256.{σ0}
 use Rattle.hash.proofs.small_sigma0.Goals as goal
 

@@ -1,109 +1,55 @@
--- By the check's number and the label's length: refused, nothing is touched; else both tables are made fresh, whose lengths the check has seen to.
+-- By the check's refusal and the label's length: refused, nothing is touched; else both tables are made fresh, whose lengths the check has seen to.
 -- Assumes nothing.
-use mathlib.Core.Path.{◌≡◌, sym, ap, ◌∙◌}
-use Prim.Native.Nat.{ℕ}
-use native.Mathlib.Omega.{arith}
-use lib.ListN.{replicate}
-use Rattle.std.proofs.Common.{rules}
+use Rattle.std.specs.Prelude.{◌≡◌, List, ℕ, replicate, Result}
+use Rattle.std.proofs.Common.{rules, refl, sym, ap, ◌∙◌}
+use Rattle.refusal.specs.Numbers as Refusals
+use Rattle.counters.specs.declared.Counters.{Counters}
 use Rattle.paper.specs.Lent.{opening, refusal}
 use Rattle.parts.specs.declared.BoxRecord.{BoxRecord}
 use Rattle.parts.specs.Rep.{numbers_of, empty_box, relabelled}
 use Rattle.refusals.specs.Given.{counters_of, lent}
-use Rattle.refusals.specs.Sizes.{Opens, opens-with}
+use Rattle.refusals.specs.Sizes.{opens-with}
 use Rattle.open.proofs.NewBox.{number-kept, number-two, number-none, opening-refused, opening-done}
 use Rattle.open.proofs.open.Goals as goal
-use Rattle.open.proofs.open.Goals.{After-of_opening-no, Else-no-ne0}
 
--- the number of the check, of the record that was made
-number_is : (c : After-of_opening-no) → (let a = c.args in
-    c.of_opening-no.result ≡ refusal (numbers_of (empty_box a.size a.blocks a.rows a.slots a.limit (replicate 64 0)))
-    (lent (empty_box a.size a.blocks a.rows a.slots a.limit (replicate 64 0)) a.disk.now a.flash.now a.addresses.now a.table.now (counters_of a.c)) opening)
-number_is c =
-    let a = c.args in
-    c.of_opening-no.ensures (counters_of a.c)
-    ∙ ap (λ (x : BoxRecord). refusal (numbers_of x) (lent x a.disk.now a.flash.now a.addresses.now a.table.now (counters_of a.c)) opening) c.empty_box-b.ensures
+-- the check is of the record that was made
+of_made : (b x : BoxRecord) (disk flash addresses table : List ℕ) (c : Counters) (n : ℕ) → b ≡ x
+    → n ≡ refusal (numbers_of b) (lent b disk flash addresses table (counters_of c)) opening
+    → n ≡ refusal (numbers_of x) (lent x disk flash addresses table (counters_of c)) opening
+of_made b x disk flash addresses table c n e h =
+    h ∙ ap (λ (y : BoxRecord). refusal (numbers_of y) (lent y disk flash addresses table (counters_of c)) opening) e
 
--- what the check leaves
-open-on : (c : Else-no-ne0) → (let a = c.args in
-    Opens (empty_box a.size a.blocks a.rows a.slots a.limit (replicate 64 0)) a.disk.now a.flash.now a.addresses.now a.table.now (counters_of a.c))
-open-on c =
-    let number_is : (let a = c.args in
-    c.of_opening-no.result ≡ refusal (numbers_of (empty_box a.size a.blocks a.rows a.slots a.limit (replicate 64 0)))
-    (lent (empty_box a.size a.blocks a.rows a.slots a.limit (replicate 64 0)) a.disk.now a.flash.now a.addresses.now a.table.now (counters_of a.c)) opening) =
+pub returns-in-Err : goal.returns-in-Err
+returns-in-Err c =
     let a = c.args in
-    c.of_opening-no.ensures (counters_of a.c)
-    ∙ ap (λ (x : BoxRecord). refusal (numbers_of x) (lent x a.disk.now a.flash.now a.addresses.now a.table.now (counters_of a.c)) opening) c.empty_box-b.ensures in
-    let a = c.args in
-    opens-with (empty_box a.size a.blocks a.rows a.slots a.limit (replicate 64 0)) a.disk.now a.flash.now a.addresses.now a.table.now (counters_of a.c) (sym number_is ∙ c.if-no-ne0.false)
-
-pub returns-then-no-ne0 : goal.returns-then-no-ne0
-returns-then-no-ne0 c =
-    let number_is : (let a = c.args in
-    c.of_opening-no.result ≡ refusal (numbers_of (empty_box a.size a.blocks a.rows a.slots a.limit (replicate 64 0)))
-    (lent (empty_box a.size a.blocks a.rows a.slots a.limit (replicate 64 0)) a.disk.now a.flash.now a.addresses.now a.table.now (counters_of a.c)) opening) =
-    let a = c.args in
-    c.of_opening-no.ensures (counters_of a.c)
-    ∙ ap (λ (x : BoxRecord). refusal (numbers_of x) (lent x a.disk.now a.flash.now a.addresses.now a.table.now (counters_of a.c)) opening) c.empty_box-b.ensures in
-    let a = c.args in
-    let n = c.if-no-ne0.true in
-    opening-refused a.size a.blocks a.rows a.slots a.limit a.label.now a.disk.now a.flash.now a.addresses.now a.table.now a.c c.empty_box-b.result c.empty_box-b.ensures
-    c.unopened.result c.of_opening-no.result c.unopened.ensures
-    (number-kept a.size a.blocks a.rows a.slots a.limit a.label.now a.disk.now a.flash.now a.addresses.now a.table.now a.c c.of_opening-no.result number_is n) n
+    let n = of_made _ _ a.disk.now a.flash.now a.addresses.now a.table.now a.c _ c.empty_box-b.ensures (c.in-Err.ensures (counters_of a.c)) in
+    opening-refused a.size a.blocks a.rows a.slots a.limit a.label.now a.disk.now a.flash.now a.addresses.now a.table.now a.c c.empty_box-b.result c.empty_box-b.ensures c.refused.result c.in-Err.r c.refused.ensures
+    (number-kept a.size a.blocks a.rows a.slots a.limit a.label.now a.disk.now a.flash.now a.addresses.now a.table.now a.c _ n (λ z. Refusals.refused c.in-Err.r z))
 
 pub returns-then-label-ne64 : goal.returns-then-label-ne64
 returns-then-label-ne64 c =
-    let number_is : (let a = c.args in
-    c.of_opening-no.result ≡ refusal (numbers_of (empty_box a.size a.blocks a.rows a.slots a.limit (replicate 64 0)))
-    (lent (empty_box a.size a.blocks a.rows a.slots a.limit (replicate 64 0)) a.disk.now a.flash.now a.addresses.now a.table.now (counters_of a.c)) opening) =
     let a = c.args in
-    c.of_opening-no.ensures (counters_of a.c)
-    ∙ ap (λ (x : BoxRecord). refusal (numbers_of x) (lent x a.disk.now a.flash.now a.addresses.now a.table.now (counters_of a.c)) opening) c.empty_box-b.ensures in
-    let a = c.args in
-    opening-refused a.size a.blocks a.rows a.slots a.limit a.label.now a.disk.now a.flash.now a.addresses.now a.table.now a.c c.empty_box-b.result
-    c.empty_box-b.ensures c.unopened-then-label-ne64.result 2 c.unopened-then-label-ne64.ensures
-    (number-two a.size a.blocks a.rows a.slots a.limit a.label.now a.disk.now a.flash.now a.addresses.now a.table.now a.c c.of_opening-no.result
-    number_is c.if-no-ne0.false c.if-label-ne64.true) (λ z. absurd (omega (arith, z)))
+    let n = of_made _ _ a.disk.now a.flash.now a.addresses.now a.table.now a.c _ c.empty_box-b.ensures (c.in_default.ensures (counters_of a.c)) in
+    opening-refused a.size a.blocks a.rows a.slots a.limit a.label.now a.disk.now a.flash.now a.addresses.now a.table.now a.c c.empty_box-b.result c.empty_box-b.ensures c.refused-then-label-ne64.result _ c.refused-then-label-ne64.ensures
+    (number-two a.size a.blocks a.rows a.slots a.limit a.label.now a.disk.now a.flash.now a.addresses.now a.table.now a.c 0 n refl c.if-label-ne64.true)
 
 pub fresh_addresses-requires : goal.fresh_addresses-requires
 fresh_addresses-requires c =
-    let number_is : (let a = c.args in
-    c.of_opening-no.result ≡ refusal (numbers_of (empty_box a.size a.blocks a.rows a.slots a.limit (replicate 64 0)))
-    (lent (empty_box a.size a.blocks a.rows a.slots a.limit (replicate 64 0)) a.disk.now a.flash.now a.addresses.now a.table.now (counters_of a.c)) opening) =
     let a = c.args in
-    c.of_opening-no.ensures (counters_of a.c)
-    ∙ ap (λ (x : BoxRecord). refusal (numbers_of x) (lent x a.disk.now a.flash.now a.addresses.now a.table.now (counters_of a.c)) opening) c.empty_box-b.ensures in
-    let open-on : (let a = c.args in
-    Opens (empty_box a.size a.blocks a.rows a.slots a.limit (replicate 64 0)) a.disk.now a.flash.now a.addresses.now a.table.now (counters_of a.c)) =
-    let a = c.args in
-    opens-with (empty_box a.size a.blocks a.rows a.slots a.limit (replicate 64 0)) a.disk.now a.flash.now a.addresses.now a.table.now (counters_of a.c) (sym number_is ∙ c.if-no-ne0.false) in
-    open-on.lengths.addresses
+    let n = of_made _ _ a.disk.now a.flash.now a.addresses.now a.table.now a.c _ c.empty_box-b.ensures (c.in_default.ensures (counters_of a.c)) in
+    (opens-with (empty_box a.size a.blocks a.rows a.slots a.limit (replicate 64 0)) a.disk.now a.flash.now a.addresses.now a.table.now (counters_of a.c) (sym n)).lengths.addresses
 
 pub fresh_blocks-requires : goal.fresh_blocks-requires
 fresh_blocks-requires c =
-    let number_is : (let a = c.args in
-    c.of_opening-no.result ≡ refusal (numbers_of (empty_box a.size a.blocks a.rows a.slots a.limit (replicate 64 0)))
-    (lent (empty_box a.size a.blocks a.rows a.slots a.limit (replicate 64 0)) a.disk.now a.flash.now a.addresses.now a.table.now (counters_of a.c)) opening) =
     let a = c.args in
-    c.of_opening-no.ensures (counters_of a.c)
-    ∙ ap (λ (x : BoxRecord). refusal (numbers_of x) (lent x a.disk.now a.flash.now a.addresses.now a.table.now (counters_of a.c)) opening) c.empty_box-b.ensures in
-    let open-on : (let a = c.args in
-    Opens (empty_box a.size a.blocks a.rows a.slots a.limit (replicate 64 0)) a.disk.now a.flash.now a.addresses.now a.table.now (counters_of a.c)) =
-    let a = c.args in
-    opens-with (empty_box a.size a.blocks a.rows a.slots a.limit (replicate 64 0)) a.disk.now a.flash.now a.addresses.now a.table.now (counters_of a.c) (sym number_is ∙ c.if-no-ne0.false) in
-    let o = open-on in (o.lengths.blocks, o.most.slots)
+    let n = of_made _ _ a.disk.now a.flash.now a.addresses.now a.table.now a.c _ c.empty_box-b.ensures (c.in_default.ensures (counters_of a.c)) in
+    let o = opens-with (empty_box a.size a.blocks a.rows a.slots a.limit (replicate 64 0)) a.disk.now a.flash.now a.addresses.now a.table.now (counters_of a.c) (sym n) in
+    (o.lengths.blocks, o.most.slots)
 
 pub returns : goal.returns
 returns c =
-    let number_is : (let a = c.args in
-    c.of_opening-no.result ≡ refusal (numbers_of (empty_box a.size a.blocks a.rows a.slots a.limit (replicate 64 0)))
-    (lent (empty_box a.size a.blocks a.rows a.slots a.limit (replicate 64 0)) a.disk.now a.flash.now a.addresses.now a.table.now (counters_of a.c)) opening) =
     let a = c.args in
-    c.of_opening-no.ensures (counters_of a.c)
-    ∙ ap (λ (x : BoxRecord). refusal (numbers_of x) (lent x a.disk.now a.flash.now a.addresses.now a.table.now (counters_of a.c)) opening) c.empty_box-b.ensures in
-    let a = c.args in
-    let b = c.with_label.ensures
-    ∙ ap (λ (x : BoxRecord). relabelled x a.label.now) c.empty_box-b.ensures in
-    opening-done a.size a.blocks a.rows a.slots a.limit a.label.now a.disk.now a.flash.now a.addresses.now a.table.now a.c
-    (number-none a.size a.blocks a.rows a.slots a.limit a.label.now a.disk.now a.flash.now a.addresses.now a.table.now a.c c.of_opening-no.result number_is
-    c.if-no-ne0.false c.if-label-ne64.false) c.with_label.result b c.fresh_addresses.new.t c.fresh_blocks.new.t
+    let n = of_made _ _ a.disk.now a.flash.now a.addresses.now a.table.now a.c _ c.empty_box-b.ensures (c.in_default.ensures (counters_of a.c)) in
+    let b = c.with_label.ensures ∙ ap (λ (x : BoxRecord). relabelled x a.label.now) c.empty_box-b.ensures in
+    opening-done a.size a.blocks a.rows a.slots a.limit a.label.now a.disk.now a.flash.now a.addresses.now a.table.now a.c (number-none a.size a.blocks a.rows a.slots a.limit a.label.now a.disk.now a.flash.now a.addresses.now a.table.now a.c 0 n refl c.if-label-ne64.false) c.with_label.result b c.fresh_addresses.new.t c.fresh_blocks.new.t
     c.no_counts.result c.fresh_addresses.ensures c.fresh_blocks.ensures c.no_counts.ensures

@@ -3,4 +3,4 @@ use Rattle.std.proofs.Common.{rules}
 use Rattle.open.proofs.with_label.Goals as goal
 
 pub returns : goal.returns
-returns c = rw c.copy_all.ensures
+returns c = rw c.copy_from_slice.ensures.after

@@ -3,13 +3,9 @@ use native.Mathlib.Omega.{arith}
 use Rattle.print.specs.PutLaws.{put_next}
 use Rattle.print.proofs.answered.Goals as goal
 
-pub returns : goal.returns
-returns c =
+pub returns-clause-put : goal.returns-clause-put
+returns-clause-put c =
     let n = c.decimal-i.ensures in
     let a = c.ask-j.ensures in
     let w = c.word-k.ensures in
-    let e = c.counts.ensures in
-    record {
-      upper_bound = omega arith;
-      put = put_next _ _ _ _ _ _ _ _ (omega arith) (put_next _ _ _ _ _ _ _ _ (omega arith) (put_next _ _ _ _ _ _ _ _ (omega arith) n.put a.put) w.put) e.put;
-    }
+    put_next _ _ _ _ _ _ _ _ (omega arith) (put_next _ _ _ _ _ _ _ _ (omega arith) (put_next _ _ _ _ _ _ _ _ (omega arith) n.put a.put) w.put) c.counts.ensures.put

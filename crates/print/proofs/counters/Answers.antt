@@ -4,15 +4,11 @@ use native.Mathlib.Omega.{arith}
 use Rattle.print.specs.PutLaws.{put_next}
 use Rattle.print.proofs.counters.Goals as goal
 
-pub returns : goal.returns
+pub returns-clause-put : goal.returns-clause-put
 unfolding counters_text
-returns c =
+returns-clause-put c =
     let a = c.named-i.ensures in
     let b = c.named-j.ensures in
     let d = c.named-k.ensures in
     let e = c.named-l.ensures in
-    let f = c.text.ensures in
-    record {
-      upper_bound = omega arith;
-      put = put_next _ _ _ _ _ _ _ _ (omega arith) (put_next _ _ _ _ _ _ _ _ (omega arith) (put_next _ _ _ _ _ _ _ _ (omega arith) (put_next _ _ _ _ _ _ _ _ (omega arith) a.put b.put) d.put) e.put) f;
-    }
+    put_next _ _ _ _ _ _ _ _ (omega arith) (put_next _ _ _ _ _ _ _ _ (omega arith) (put_next _ _ _ _ _ _ _ _ (omega arith) (put_next _ _ _ _ _ _ _ _ (omega arith) a.put b.put) d.put) e.put) c.text.ensures

@@ -3,12 +3,8 @@ use native.Mathlib.Omega.{arith}
 use Rattle.print.specs.PutLaws.{put_next}
 use Rattle.print.proofs.refused.Goals as goal
 
-pub returns : goal.returns
-returns c =
+pub returns-clause-put : goal.returns-clause-put
+returns-clause-put c =
     let f = c.decimal-a.ensures in
-    let p = c.named-b.ensures in
-    let e = c.text.ensures in
-    record {
-      upper_bound = omega arith;
-      put = put_next _ _ _ _ _ _ _ _ (omega arith) (put_next _ _ _ _ _ _ _ _ (omega arith) f.put p.put) e;
-    }
+    let p = rw c.from.ensures at c.named-b.ensures in
+    put_next _ _ _ _ _ _ _ _ (omega arith) (put_next _ _ _ _ _ _ _ _ (omega arith) f.put p.put) c.text.ensures

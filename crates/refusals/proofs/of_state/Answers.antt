@@ -1,35 +1,27 @@
--- The tables' number where they have one, else the counters'. Assumes nothing.
-use mathlib.Core.Path.{sym, ap, ◌∙◌}
-use mathlib.Core.Bool.{cond}
-use native.Mathlib.Omega.{arith}
-use Rattle.std.proofs.Common.{rules}
+-- The tables' refusal where they have one, else the counters'. Assumes nothing.
+use Rattle.std.specs.Prelude.{cond}
+use Rattle.std.proofs.Common.{rules, ap, sym, ◌∙◌}
+use Rattle.std.proofs.lemmas.Result.{err_from_is_err_and}
+use Rattle.refusal.specs.Numbers.{refused}
 use Rattle.refusals.specs.Given.{counters_of}
 use Rattle.refusals.proofs.Refusing.{state-tables, state-counters}
 use Rattle.refusals.proofs.of_state.Goals as goal
 
-pub returns-then-state-ne0 : goal.returns-then-state-ne0
-returns-then-state-ne0 c =
+pub returns-in_err-of_tables-clause-value : goal.returns-in_err-of_tables-clause-value
+returns-in_err-of_tables-clause-value c =
     let a = c.args in
-    record {
-      value = c.of_tables-state.ensures.value ∙ state-tables a.b a.addresses.now a.blocks.now (counters_of a.c) (λ z. c.if-state-ne0.true (c.of_tables-state.ensures.value ∙ z));
-      indexed = λ z. absurd (c.if-state-ne0.true z);
-      heads_len = c.of_tables-state.ensures.heads_len;
-    }
+    let p = err_from_is_err_and c.from_residual.result c.from_residual.ensures.1 in
+    let v = c.in_err-of_tables.ensures.value in
+    rw (p.1, p.2) (v ∙ state-tables a.b a.addresses.now a.blocks.now (counters_of a.c) (λ z. refused _ (v ∙ z)))
 
-pub returns-then-counters_over : goal.returns-then-counters_over
-returns-then-counters_over c =
+pub returns-then-counters_over-clause-value : goal.returns-then-counters_over-clause-value
+returns-then-counters_over-clause-value c =
     let a = c.args in
-    record {
-      value = ap (λ x. cond x 9 0) (sym c.if-counters_over.true ∙ c.counters_over.ensures) ∙ state-counters a.b a.addresses.now a.blocks.now (counters_of a.c) (sym c.of_tables-state.ensures.value ∙ c.if-state-ne0.false);
-      indexed = λ z. absurd (omega (arith, z));
-      heads_len = c.of_tables-state.ensures.heads_len;
-    }
+    ap (λ x. cond x 9 0) (sym c.if-counters_over.true ∙ c.counters_over.ensures)
+    ∙ state-counters a.b a.addresses.now a.blocks.now (counters_of a.c) (sym c.in_ok-of_tables.ensures.value)
 
-pub returns : goal.returns
-returns c =
+pub returns-clause-value : goal.returns-clause-value
+returns-clause-value c =
     let a = c.args in
-    record {
-      value = ap (λ x. cond x 9 0) (sym c.if-counters_over.false ∙ c.counters_over.ensures) ∙ state-counters a.b a.addresses.now a.blocks.now (counters_of a.c) (sym c.of_tables-state.ensures.value ∙ c.if-state-ne0.false);
-      indexed = λ z. c.of_tables-state.ensures.indexed c.if-state-ne0.false;
-      heads_len = c.of_tables-state.ensures.heads_len;
-    }
+    ap (λ x. cond x 9 0) (sym c.if-counters_over.false ∙ c.counters_over.ensures)
+    ∙ state-counters a.b a.addresses.now a.blocks.now (counters_of a.c) (sym c.in_ok-of_tables.ensures.value)

@@ -1,28 +1,13 @@
 -- 1, 12, and the rest of the body. Assumes nothing.
-use mathlib.Core.Path.{◌≡◌, sym, ◌∙◌}
-use mathlib.Core.Bool.{false}
-use Rattle.paper.specs.Lent.{unfit}
-use Rattle.parts.specs.Rep.{numbers_of}
+use mathlib.Core.Path.{sym, ◌∙◌}
 use Rattle.refusals.specs.Sizes.{most}
 use Rattle.restoring.specs.FoundLaws.{unfit-body, limit-body}
-use Rattle.std.proofs.Common.{rules}
-use Rattle.restoring.proofs.box_fails.Reads as reads
-use Rattle.restoring.proofs.box_fails.Lts as lts
-use Rattle.refusals.proofs.limit_unfit.Reads as limit-unfit-reads
-use Rattle.refusals.proofs.numbers_unfit.Reads as numbers-unfit-reads
-use Rattle.restoring.proofs.sized_fails.Reads as sized-fails-reads
 use Rattle.restoring.proofs.box_fails.Goals as goal
-
-pub numbers_unfit-requires : goal.numbers_unfit-requires
-numbers_unfit-requires c = search rules
 
 pub returns-then-numbers_unfit : goal.returns-then-numbers_unfit
 returns-then-numbers_unfit c e k =
     let a = c.args in
     unfit-body a.body.now a.b e k (sym c.numbers_unfit.ensures ∙ c.if-numbers_unfit.true)
-
-pub limit_unfit-requires : goal.limit_unfit-requires
-limit_unfit-requires c = search rules
 
 pub returns-then-limit_unfit : goal.returns-then-limit_unfit
 returns-then-limit_unfit c e k =

@@ -2,7 +2,6 @@
 use mathlib.Core.Path.{sym, ◌∙◌}
 use native.Mathlib.Omega.{arith}
 use Rattle.restoring.specs.ArcBodyLaws.{body-long, kind-one}
-use Rattle.std.proofs.Common.{rules}
 use Rattle.restoring.proofs.found_in.Goals as goal
 
 pub word_at-requires : goal.word_at-requires

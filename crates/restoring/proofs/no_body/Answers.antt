@@ -1,21 +1,17 @@
 -- By the number that the body starts with. Assumes nothing.
-use mathlib.Core.Path.{sym, ◌∙◌}
 use Rattle.restoring.specs.FoundLaws.{other-kind}
 use Rattle.restoring.specs.ArcBodyLaws.{short-body}
-use Rattle.std.proofs.Common.{rules}
+use Rattle.std.proofs.Common.{arith}
 use Rattle.restoring.proofs.no_body.Goals as goal
 
 pub returns-then-body-lt92 : goal.returns-then-body-lt92
 returns-then-body-lt92 c = short-body c.args.body.now c.if-body-lt92.true
 
-pub returns-then-kind-eq0 : goal.returns-then-kind-eq0
-returns-then-kind-eq0 c =
-    c.box_fails.ensures c.record_in-b.ensures (sym c.word_at-kind.ensures ∙ c.if-kind-eq0.true)
+pub returns-in-0 : goal.returns-in-0
+returns-in-0 c = c.box_fails.ensures c.record_in.ensures (omega arith)
 
-pub returns-then-kind-ne1 : goal.returns-then-kind-ne1
-returns-then-kind-ne1 c =
-    other-kind c.args.body.now (λ z. c.if-kind-eq0.false (c.word_at-kind.ensures ∙ z)) (λ z. c.if-kind-ne1.true (c.word_at-kind.ensures ∙ z))
+pub returns-in-1 : goal.returns-in-1
+returns-in-1 c = c.arc_fails.ensures (omega arith)
 
-pub returns : goal.returns
-returns c =
-    c.arc_fails.ensures (sym c.word_at-kind.ensures ∙ c.if-kind-ne1.false)
+pub returns-in_default : goal.returns-in_default
+returns-in_default c = other-kind c.args.body.now (λ z. omega arith) (λ z. omega arith)

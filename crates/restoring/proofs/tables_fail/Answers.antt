@@ -3,14 +3,8 @@ use Prim.Native.Nat.{ℕ}
 use lib.ListN.{length-replicate}
 use Rattle.tables.specs.SoundLaws.{filled-with}
 use Rattle.restoring.specs.FoundLaws as Laws
-use Rattle.std.proofs.Common.{rules}
-use Rattle.restoring.proofs.tables_fail.Reads as reads
-use Rattle.restoring.proofs.tables_fail.Lts as lts
-use Rattle.refusals.proofs.of_tables.Reads as of-tables-reads
+use Rattle.std.proofs.Common.{◌∙◌}
 use Rattle.restoring.proofs.tables_fail.Goals as goal
-
-pub slice_bounds-of_tables-end : goal.slice_bounds-of_tables-end
-slice_bounds-of_tables-end c = search rules
 
 pub of_tables-requires : goal.of_tables-requires
 of_tables-requires c =
@@ -22,4 +16,4 @@ of_tables-requires c =
 pub returns : goal.returns
 returns c u w =
     let a = c.args in
-    Laws.tables-fail a.b a.addresses.now a.blocks.now _ c.of_tables.ensures.value
+    c.is_err.ensures.value ∙ Laws.tables-fail a.b a.addresses.now a.blocks.now _ c.of_tables.ensures.value

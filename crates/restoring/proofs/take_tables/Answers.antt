@@ -2,7 +2,6 @@
 use mathlib.Core.Path.{◌∙◌}
 use Prim.Native.Nat.{◌+◌}
 use Rattle.restoring.specs.FoundLaws.{part-is}
-use Rattle.std.proofs.Common.{rules}
 use Rattle.restoring.proofs.take_tables.Goals as goal
 
 pub returns : goal.returns
@@ -11,7 +10,7 @@ returns c =
     let t = c.args.body.now in
     let at₂ = f.start + f.addresses in
     record {
-      addresses_after = c.copy_all.ensures ∙ part-is f.start f.addresses t;
-      blocks_after = c.copy_all-2.ensures ∙ part-is at₂ f.blocks t;
-      lists_after = c.copy_all-3.ensures ∙ part-is (at₂ + f.blocks) f.lists t;
+      addresses_after = c.copy_from_slice.ensures.after ∙ part-is f.start f.addresses t;
+      blocks_after = c.copy_from_slice-2.ensures.after ∙ part-is at₂ f.blocks t;
+      lists_after = c.copy_from_slice-3.ensures.after ∙ part-is (at₂ + f.blocks) f.lists t;
     }

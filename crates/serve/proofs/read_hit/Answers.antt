@@ -27,10 +27,6 @@ in_slot-requires c =
     let f = (get_or q.1.rows a.i no_row).fingerprint in
     rw (parts-length a.b.size a.b.slots a.flash.now q.1.flash q.2.flash-is) (block-ends c.slot_at-slot.result.0 a.b.slots a.b.size (rw (slot-some (numbers_of a.b) a.b.slots a.blocks.now q.1.free q.1.used f q.2.blocks-are a.j q.3.place q.3.is-cached c.slot_at-slot.result.0 c.slot_at-slot.ensures) (slot_of-below (numbers_of a.b) a.b.slots f q.1.used p.2.1 q.2.blocks-are.used-below)))
 
-pub copy_all-requires : goal.copy_all-requires
-copy_all-requires c =
-    c.in_slot.ensures.1 ∙ sym c.requires.i_lt_held.2.2
-
 pub renew-requires : goal.renew-requires
 renew-requires c =
     let p = c.requires.i_lt_held in
@@ -50,7 +46,7 @@ returns c =
           let x = block_of (engine a.b) f s.used s.flash in
           let k = slot-some (numbers_of a.b) a.b.slots a.blocks.now s.free s.used f h.blocks-are a.j q.place q.is-cached c.slot_at-slot.result.0 c.slot_at-slot.ensures in
           let kb : c.slot_at-slot.result.0 < a.b.slots = rw k (slot_of-below (numbers_of a.b) a.b.slots f s.used p.2.1 h.blocks-are.used-below) in
-          let ex = sym (c.copy_all.ensures ∙ c.in_slot.ensures.0 ∙ part-block a.b.size a.b.slots a.flash.now s.flash h.flash-is c.slot_at-slot.result.0 (engine a.b).blank kb ∙ ap (λ (y : ℕ). (get_or s.flash y (engine a.b).blank).0) k) in
+          let ex = sym (c.copy_from_slice.ensures.after ∙ c.in_slot.ensures.0 ∙ part-block a.b.size a.b.slots a.flash.now s.flash h.flash-is c.slot_at-slot.result.0 (engine a.b).blank kb ∙ ap (λ (y : ℕ). (get_or s.flash y (engine a.b).blank).0) k) in
           let ef = sym (fp-is a.b.blocks a.b.rows a.b.held a.addrs.now s.rows h.rows_are a.i p.0 no_row) ∙ sym c.fp_at-g.ensures.1 in
           let ed = c.dirty_at-dirty.ensures ∙ ap bit (dirty-is a.b.blocks a.b.rows a.b.held a.addrs.now s.rows h.rows_are a.i p.0 no_row) in
           let ez = c.seat_at-seat.ensures ∙ seat-is a.b.blocks a.b.rows a.b.held a.addrs.now s.rows h.rows_are a.i p.0 no_row in

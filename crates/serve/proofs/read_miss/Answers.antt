@@ -13,15 +13,11 @@ at_address-requires c =
     rw (parts-length a.b.size a.b.blocks a.disk.now q.0.disk q.1.disk-is)
     (block-ends a.a.0 a.b.blocks a.b.size c.requires.access.3)
 
-pub copy_all-requires : goal.copy_all-requires
-copy_all-requires c =
-    c.at_address.ensures.1 ∙ sym c.requires.access.2
-
 pub read_taken-requires : goal.read_taken-requires
 read_taken-requires c =
     let p = c.requires.access in
     record {
-      access = (p.0, p.1, c.copy_all.auto.dst ∙ p.2, p.3, p.4, p.5, p.6);
+      access = (p.0, p.1, c.copy_from_slice.auto.self ∙ p.2, p.3, p.4, p.5, p.6);
       lent_sound = c.requires.lent_sound;
       indexed = c.requires.indexed;
     }
@@ -34,7 +30,7 @@ returns c =
       flashed_bound = w.ensures.flashed_bound;
       block_after = λ s lent h sd.
           let x = get_or s.disk a.a.0 (engine a.b).blank in
-          let ex = sym (c.copy_all.ensures ∙ c.at_address.ensures.0
+          let ex = sym (c.copy_from_slice.ensures.after ∙ c.at_address.ensures.0
           ∙ part-block a.b.size a.b.blocks a.disk.now s.disk h.disk-is a.a.0 (engine a.b).blank c.requires.access.3) in
           w.ensures.block_after s x lent h sd ex;
     }

@@ -1,22 +1,14 @@
 -- By whether there is a block to bring. Assumes nothing.
-use mathlib.Core.Path.{◌≡◌, sym, ap, ◌∙◌}
+use mathlib.Core.Path.{sym, ap, ◌∙◌}
 use mathlib.Core.Bool.{cond}
-use Prim.Native.Nat.{◌+◌, ◌*◌, ◌≤◌}
+use Prim.Native.Nat.{◌*◌}
 use native.Mathlib.Omega.{arith}
-use native.Mathlib.Nat.{mul-le-mul_right}
-use lib.ListN.{length}
 use borrow.Author.Tests.{lt-ltb, le-ltb}
 use Rattle.block.specs.Blocks.{part, splice}
 use Rattle.block.specs.Laws.{product-fits}
 use Rattle.parts.specs.CopyLaws.{block-ends}
 use Rattle.turns.specs.TurnLaws.{paste-splice}
-use Rattle.std.proofs.Common.{rules}
 use Rattle.turns.proofs.bring.Goals as goal
-use Rattle.turns.proofs.bring.Goals.{Then-i-k}
-
--- the block to bring ends where that of k begins, or before
-ends : (c : Then-i-k) → (let a = c.args in a.i * a.size + a.size ≤ a.k * a.size)
-ends c = let a = c.args in block-ends a.i a.k a.size c.if-i-k.true
 
 -- both products fit
 pub overflow_mul-k : goal.overflow_mul-k
@@ -31,15 +23,13 @@ overflow_mul-i c =
 
 pub move_up-requires : goal.move_up-requires
 move_up-requires c =
-    let ends : (let a = c.args in a.i * a.size + a.size ≤ a.k * a.size) = let a = c.args in block-ends a.i a.k a.size c.if-i-k.true in
-    let e = ends in
-    (omega (arith, e), c.requires.0)
+    let e = block-ends c.args.i c.args.k c.args.size c.if-i-k.true in
+    (omega arith, c.requires.0)
 
 pub returns-then-i-k : goal.returns-then-i-k
 returns-then-i-k c =
-    let ends : (let a = c.args in a.i * a.size + a.size ≤ a.k * a.size) = let a = c.args in block-ends a.i a.k a.size c.if-i-k.true in
     let a = c.args in
-    let e = ends in
+    let e = block-ends a.i a.k a.size c.if-i-k.true in
     c.move_up.ensures
     ∙ paste-splice a.buffer.now (a.k * a.size) (a.i * a.size) a.size (omega (arith, e, c.requires.0))
     ∙ sym (ap (λ x. cond x (splice (a.k * a.size) (part (a.i * a.size) a.size a.buffer.now) a.buffer.now) a.buffer.now)

@@ -1,6 +1,6 @@
 -- The read into its place of the buffer, and the sums. Assumes nothing.
-use mathlib.Core.Path.{◌≡◌, refl, sym, ap, ◌∙◌, subst}
-use mathlib.Core.List.{[]}
+use mathlib.Core.Path.{◌≡◌, sym, ap, ◌∙◌, subst}
+use mathlib.Core.List.{List, []}
 use Prim.Native.Nat.{ℕ, ◌+◌, ◌-◌, ◌*◌, ◌≤◌}
 use native.Mathlib.Nat.{mul-le-mul}
 use native.Mathlib.Omega.{arith}
@@ -9,16 +9,11 @@ use Rattle.hash.proofs.SpecLaws.{size-whole}
 use Rattle.block.specs.Blocks.{part}
 use Rattle.block.specs.Laws.{product-fits, part-is, length_part, length-splice}
 use Rattle.turns.specs.TurnLaws.{put-part, table-lengths, turned-at}
-use Rattle.std.proofs.Common.{rules}
 use Rattle.turns.proofs.land.Goals as goal
-use Rattle.turns.proofs.land.Goals.{Start}
 
 -- the part of the buffer that is lent has a block's length
-lent-long : (c : Start) → (let a = c.args in
-    length (take (a.k * a.b.size + a.b.size - a.k * a.b.size) (drop (a.k * a.b.size) a.buffer.now)) ≡ a.b.size)
-lent-long c =
-    let a = c.args in
-    ap (length {A = ℕ}) (part-is (a.k * a.b.size) a.b.size a.buffer.now) ∙ length_part (a.k * a.b.size) a.b.size a.buffer.now c.requires.fits.3
+lent-long : (k B : ℕ) (buffer : List ℕ) → k * B + B ≤ length buffer → length (take (k * B + B - k * B) (drop (k * B) buffer)) ≡ B
+lent-long k B buffer h = ap (length {A = ℕ}) (part-is (k * B) B buffer) ∙ length_part (k * B) B buffer h
 
 pub overflow_mul-at : goal.overflow_mul-at
 overflow_mul-at c =
@@ -34,17 +29,13 @@ overflow_add-end c =
 
 pub read_one-s-requires : goal.read_one-s-requires
 read_one-s-requires c =
-    let lent-long : (let a = c.args in
-    length (take (a.k * a.b.size + a.b.size - a.k * a.b.size) (drop (a.k * a.b.size) a.buffer.now)) ≡ a.b.size) =
-    let a = c.args in
-    ap (length {A = ℕ}) (part-is (a.k * a.b.size) a.b.size a.buffer.now) ∙ length_part (a.k * a.b.size) a.b.size a.buffer.now c.requires.fits.3 in
     let a = c.args in
     let p = c.requires.fits in
     let q = c.requires.by_index in
     let w = q.4 in
     let t = table-lengths a.b a.t.held a.disk.now a.flash.now a.addrs.now a.blocks.now q.2.box w.box-is w.sure in
     record {
-      access = (p.0.m-least, p.0.d-least, lent-long, p.1, p.0.m-most, (w.box-is.rows_are.few, t.0, t.1), p.0.B-size);
+      access = (p.0.m-least, p.0.d-least, lent-long a.k a.b.size a.buffer.now p.3, p.1, p.0.m-most, (w.box-is.rows_are.few, t.0, t.1), p.0.B-size);
       lent_sound = (q.2.box, w.box-is, w.sure);
     }
 
@@ -65,16 +56,13 @@ summed-requires c =
 
 pub returns : goal.returns
 returns c =
-    let lent-long : (let a = c.args in
-    length (take (a.k * a.b.size + a.b.size - a.k * a.b.size) (drop (a.k * a.b.size) a.buffer.now)) ≡ a.b.size) =
-    let a = c.args in
-    ap (length {A = ℕ}) (part-is (a.k * a.b.size) a.b.size a.buffer.now) ∙ length_part (a.k * a.b.size) a.b.size a.buffer.now c.requires.fits.3 in
     let a = c.args in
     let p = c.requires.fits in
     let at = a.k * a.b.size in
     let B = a.b.size in
     let ro = c.read_one-s in
-    let put = put-part at B a.buffer.now _ (ro.auto.block ∙ lent-long) in
+    let long = ro.auto.block ∙ lent-long a.k B a.buffer.now p.3 in
+    let put = put-part at B a.buffer.now _ long in
     record {
       by_index_2 = λ l z T ll w g.
           turned-at a.b l z T a.t a.disk.now a.flash.now a.addrs.now a.blocks.now a.buffer.now w a.a.0 a.first
@@ -82,5 +70,5 @@ returns c =
           (subst (λ (j : ℕ). j * B + B ≤ length a.buffer.now) (sym ll) p.3) ro.ensures.flashed_bound.0 ro.ensures.flashed_bound.1
           (ro.ensures.block_after T.box g.0 [] w.box-is w.sure (g.1 ∙ sym (part-is at B a.buffer.now)))
           a.k ll c.summed.result c.summed.ensures _ put;
-      buffer_len_unchanged = ap (length {A = ℕ}) put ∙ length-splice at _ a.buffer.now (subst (λ (j : ℕ). at + j ≤ length a.buffer.now) (sym (ro.auto.block ∙ lent-long)) p.3);
+      buffer_len_unchanged = ap (length {A = ℕ}) put ∙ length-splice at _ a.buffer.now (subst (λ (j : ℕ). at + j ≤ length a.buffer.now) (sym long) p.3);
     }

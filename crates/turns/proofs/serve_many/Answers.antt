@@ -1,29 +1,16 @@
-use mathlib.Core.Path.{◌≡◌, refl, ◌∙◌}
-use Prim.Native.Nat.{◌-◌, ◌≤◌}
-use native.Mathlib.Omega.{arith}
-use lib.ListN.{length, take}
-use Rattle.paper.specs.Cache.{Box, Counters, no_counts}
-use Rattle.paper.specs.Engine.{Fixed}
+-- One turn more. Assumes nothing.
+use Rattle.std.proofs.Common.{◌∙◌, arith, take}
+use Rattle.paper.specs.Cache.{no_counts}
 use Rattle.paper.specs.Batch.{batch, start}
-use Rattle.parts.specs.Rep.{numbers_of, Rep, engine}
-use Rattle.step.specs.Steps.{Sure}
-use Rattle.turns.specs.Turns.{Turned}
+use Rattle.parts.specs.Rep.{numbers_of, engine}
 use Rattle.turns.specs.TurnLaws.{turned_none, batch-next, batch-whole}
-use Rattle.std.proofs.Common.{rules}
 use Rattle.turns.proofs.serve_many.Goals as goal
 
 pub loop-k-init : goal.loop-k-init
 unfolding batch
 loop-k-init c =
-    let a = c.args in (
-      omega arith,
-      refl,
-      refl,
-      refl,
-      refl,
-      refl,
-      λ s z h sd. turned_none a.b a.disk.now a.flash.now a.addrs.now a.blocks.now a.buffer.now s z h sd,
-    )
+    let a = c.args in
+    λ s z h sd. turned_none a.b a.disk.now a.flash.now a.addrs.now a.blocks.now a.buffer.now s z h sd
 
 pub turn-t-requires : goal.turn-t-requires
 turn-t-requires c =
@@ -33,32 +20,23 @@ turn-t-requires c =
     let q = c.requires.lent_sound in
     let h = c.loop-k-test.true in
     record {
-      fits = (p.0, h, p.1, p.3 l.k h, l.invariant.1 ∙ p.2);
-      turned = (no_counts, batch (engine a.b) (numbers_of a.b) (start q.0 no_counts) (take l.k a.asked.now), l.invariant.6 q.0 no_counts q.1 q.2);
+      fits = (p.0, h, p.1, p.3 l.k h, l.auto.buffer ∙ p.2);
+      turned = (no_counts, batch (engine a.b) (numbers_of a.b) (start q.0 no_counts) (take l.k a.asked.now), l.invariant q.0 no_counts q.1 q.2);
     }
 
 pub loop-k-preserved : goal.loop-k-preserved
 loop-k-preserved c =
     let l = c.loop-k in
     let a = c.args in
-    let h = c.loop-k-test.true in
-    let f = c.turn-t in (
-      omega (arith, h),
-      f.ensures.buffer_len_unchanged ∙ l.invariant.1,
-      f.auto.disk ∙ l.invariant.2,
-      f.auto.flash ∙ l.invariant.3,
-      f.auto.addrs ∙ l.invariant.4,
-      f.auto.blocks ∙ l.invariant.5,
-      λ s z r sd.
-          batch-next a.b a.asked.now l.k z _ _ _ _ _ _ s h
-          (f.ensures.turned_2 z (batch (engine a.b) (numbers_of a.b) (start s z) (take l.k a.asked.now)) (l.invariant.6 s z r sd)),
-    )
+    λ s z r sd.
+    batch-next a.b a.asked.now l.k z _ _ _ _ _ _ s c.loop-k-test.true
+    (c.turn-t.ensures.turned_2 z (batch (engine a.b) (numbers_of a.b) (start s z) (take l.k a.asked.now)) (l.invariant s z r sd))
 
 pub returns : goal.returns
 returns c =
     let l = c.loop-k in
     let a = c.args in
     record {
-      turned = λ s z r sd. batch-whole a.b a.asked.now l.k z _ _ _ _ _ _ s c.loop-k-test.false (l.invariant.6 s z r sd);
-      buffer_len_unchanged = l.invariant.1;
+      turned = λ s z r sd. batch-whole a.b a.asked.now l.k z _ _ _ _ _ _ s (omega arith) (l.invariant s z r sd);
+      buffer_len_unchanged = l.auto.buffer;
     }

@@ -1,46 +1,34 @@
 -- What is lent is brought, then read. Assumes nothing.
-use mathlib.Core.Path.{◌≡◌, refl, sym, ap, ◌∙◌, subst}
-use mathlib.Core.Bool.{cond}
+use mathlib.Core.Path.{◌≡◌, sym, ◌∙◌, subst}
 use mathlib.Core.List.{List}
-use Prim.Native.Nat.{ℕ, ◌+◌, ◌-◌, ◌*◌, ◌≤◌}
+use Prim.Native.Nat.{ℕ, ◌+◌, ◌*◌, ◌<◌, ◌≤◌}
 use native.Mathlib.Omega.{arith}
-use lib.Dec.{ltb, leb}
 use lib.ListN.{length, get_or, take}
 use lib.Seq.{length-take-le}
 use Rattle.hash.proofs.SpecLaws.{size-whole}
 use Rattle.parts.specs.CopyLaws.{block-ends}
 use Rattle.turns.specs.TurnLaws.{as_long, lends, turned-brought, next_of}
-use Rattle.std.proofs.Common.{rules}
 use Rattle.turns.proofs.turn.Goals as goal
-use Rattle.turns.proofs.turn.Goals.{Start}
 
--- the block's end is in the buffer
-ends : (c : Start) → c.args.k * c.args.b.size + c.args.b.size ≤ length c.args.buffer.now
-ends c =
-    let a = c.args in
-    subst (λ (n : ℕ). a.k * a.b.size + a.b.size ≤ n) (sym c.requires.fits.4) (block-ends a.k (length a.asked.now) a.b.size c.requires.fits.1)
+-- the end of block k is in the buffer
+ends : (k n B : ℕ) (buffer : List ℕ) → k < n → length buffer ≡ n * B → k * B + B ≤ length buffer
+ends k n B buffer h e = subst (λ (j : ℕ). k * B + B ≤ j) (sym e) (block-ends k n B h)
 
 pub bring-requires : goal.bring-requires
 bring-requires c =
-    let ends : c.args.k * c.args.b.size + c.args.b.size ≤ length c.args.buffer.now =
     let a = c.args in
-    subst (λ (n : ℕ). a.k * a.b.size + a.b.size ≤ n) (sym c.requires.fits.4) (block-ends a.k (length a.asked.now) a.b.size c.requires.fits.1) in
     let p = c.requires.fits in
-    let k = p.1 in
-    let n = p.2 in
-    (ends, omega (arith, k, n), (size-whole c.args.b.size p.0.B-size).1)
+    (ends a.k _ a.b.size a.buffer.now p.1 p.4, omega arith, (size-whole a.b.size p.0.B-size).1)
 
 pub land-requires : goal.land-requires
 land-requires c =
-    let ends : c.args.k * c.args.b.size + c.args.b.size ≤ length c.args.buffer.now =
-    let a = c.args in
-    subst (λ (n : ℕ). a.k * a.b.size + a.b.size ≤ n) (sym c.requires.fits.4) (block-ends a.k (length a.asked.now) a.b.size c.requires.fits.1) in
     let a = c.args in
     let p = c.requires.fits in
     let q = c.requires.turned in
     let k = p.1 in
     let n = p.2 in
     let B = a.b.size in
+    let ends = ends a.k _ B a.buffer.now p.1 p.4 in
     let ll = length-take-le a.k a.asked.now (omega (arith, k)) in
     let long = as_long B a.k c.first_of-i.result a.buffer.now _ ends c.bring.ensures in
     let stay = turned-brought a.b (take a.k a.asked.now) q.0 q.1 a.t a.disk.now a.flash.now a.addrs.now a.blocks.now
@@ -52,13 +40,11 @@ land-requires c =
 
 pub returns : goal.returns
 returns c =
-    let ends : c.args.k * c.args.b.size + c.args.b.size ≤ length c.args.buffer.now =
-    let a = c.args in
-    subst (λ (n : ℕ). a.k * a.b.size + a.b.size ≤ n) (sym c.requires.fits.4) (block-ends a.k (length a.asked.now) a.b.size c.requires.fits.1) in
     let a = c.args in
     let p = c.requires.fits in
     let k = p.1 in
     let B = a.b.size in
+    let ends = ends a.k _ B a.buffer.now p.1 p.4 in
     let ll = length-take-le a.k a.asked.now (omega (arith, k)) in
     let long = as_long B a.k c.first_of-i.result a.buffer.now _ ends c.bring.ensures in
     record {

@@ -1,28 +1,10 @@
 -- By the form of the line. Assumes nothing.
-use mathlib.Core.Path.{refl, sym, ◌∙◌}
-use Rattle.std.proofs.Common.{rules}
+use Rattle.std.proofs.Common.{sym, refl, ◌∙◌}
 use Rattle.answers.specs.Replay.{box_refusal}
-use Rattle.answers.proofs.Checking.{no-box}
 use Rattle.answers.proofs.boxes.box_refusal.Goals as goal
-
-pub returns-in_default : goal.returns-in_default
-returns-in_default c = no-box c.args.c c.in_default.not-Box
 
 pub returns-then-numbers_unfit : goal.returns-then-numbers_unfit
 unfolding box_refusal
 returns-then-numbers_unfit c =
-    let u = c.numbers_unfit.ensures in
-    let v = rw c.empty_box-x.ensures at u in
-    rw (c.in-Box.is, sym v ∙ c.if-numbers_unfit.true) refl
-
-pub returns : goal.returns
-unfolding box_refusal
-returns c =
-    let u = c.numbers_unfit.ensures in
-    let v = rw c.empty_box-x.ensures at u in
-    let t = c.too_large.ensures in
-    let w = rw c.empty_box-x.ensures at t in
-    rw (c.in-Box.is, sym v ∙ c.if-numbers_unfit.false) w
-
-pub too_large-requires : goal.too_large-requires
-too_large-requires c = rw c.empty_box-x.ensures (search rules)
+    let v = rw c.empty_box-x.ensures at c.numbers_unfit.ensures in
+    rw (c.in-Some.is, c.in-Box.is, sym v ∙ c.if-numbers_unfit.true) refl

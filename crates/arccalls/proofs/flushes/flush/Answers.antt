@@ -1,6 +1,5 @@
 -- A flush of at most m, where the numbers are such that m can be asked. Assumes nothing.
 use mathlib.Core.Path.{◌∙◌}
-use Rattle.std.proofs.Common.{rules}
 use Rattle.refusals.specs.Given.{counters_of}
 use Rattle.arcrefusals.specs.Given.{arc_lent}
 use Rattle.arccalls.specs.BaseLaws.{called-full}

@@ -1,22 +1,17 @@
 -- Numbers that 11 lets pass are small. Assumes nothing.
-use mathlib.Core.Path.{sym, ap, ◌∙◌}
+use mathlib.Core.Path.{sym, ◌∙◌}
 use mathlib.Core.Bool.{true≢false}
 use native.Mathlib.Omega.{arith}
-use Rattle.std.proofs.Common.{rules}
 use Rattle.arc.proofs.ArcDemandLaws.{arc-fits}
-use Rattle.parts.specs.declared.BoxRecord.{BoxRecord}
 use Rattle.arcrefusals.specs.Given.{sizes_of}
 use Rattle.arccalls.proofs.flushes.rows_of.Goals as goal
 
 pub returns-then-sizes_unfit : goal.returns-then-sizes_unfit
 returns-then-sizes_unfit c u = absurd (true≢false (sym c.if-sizes_unfit.true ∙ c.sizes_unfit.ensures ∙ u))
 
-pub base_of-b-requires : goal.base_of-b-requires
-base_of-b-requires c =
+pub base_of-requires : goal.base_of-requires
+base_of-requires c =
     let f = arc-fits (sizes_of c.args.a) (sym c.sizes_unfit.ensures ∙ c.if-sizes_unfit.false) in
     let x = f.C-most in
     let y = f.m-most in
     (omega (arith, x), omega (arith, y))
-
-pub returns : goal.returns
-returns c u = ap (λ (b : BoxRecord). b.rows) c.base_of-b.ensures

@@ -1,18 +1,7 @@
 -- The word at the list's first place is taken out. Assumes nothing.
-use native.Mathlib.Omega.{arith}
-use Rattle.std.proofs.Common.{rules}
-use Rattle.arclists.specs.ReplaceLaws.{holds-out, less-total, start-below}
+use Rattle.arclists.specs.MoveLaws.{holds-out}
 use Rattle.arclists.proofs.ghosts.out_of.Goals as goal
 
-pub remove_word-requires : goal.remove_word-requires
-remove_word-requires c =
-    let b = start-below c.args.from c.args.s c.requires.1 in
-    (omega (arith, c.start_of-i.ensures, c.total_of-n.ensures, b), omega (arith, c.total_of-n.ensures, c.requires.0))
-
-pub returns : goal.returns
-returns c =
-    let a = c.args in
-    record {
-      by_index = rw c.less_of.ensures (λ m l h. holds-out a.from h _ _ c.start_of-i.ensures c.total_of-n.ensures c.requires.1 c.remove_word.ensures);
-      result_bound = rw c.less_of.ensures (less-total a.from a.s);
-    }
+pub returns-clause-by_index : goal.returns-clause-by_index
+returns-clause-by_index c =
+    rw (c.with.ensures, c.size.ensures) (λ m l h. holds-out h c.args.from _ _ c.start.ensures c.total.ensures c.requires.1 c.remove_word.ensures)

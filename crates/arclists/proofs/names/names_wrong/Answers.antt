@@ -2,8 +2,6 @@
 use mathlib.Core.Path.{◌≡◌, refl, sym, ap, ◌∙◌}
 use mathlib.Core.Bool.{not}
 use native.Mathlib.Omega.{arith}
-use Rattle.std.proofs.Common.{rules}
-use borrow.Author.Tests.{not-true, not-false}
 use Rattle.tables.specs.Bits.{has-bit, no_bits}
 use Rattle.arclists.specs.NameLaws.{wrong-count, wrong_name, rest-tells}
 use Rattle.arclists.proofs.names.names_wrong.Goals as goal

@@ -2,7 +2,6 @@
 use mathlib.Core.Path.{ap, ◌∙◌}
 use Prim.Native.Nat.{ℕ}
 use lib.Dec.{eqb}
-use Rattle.std.proofs.Common.{rules}
 use Rattle.tables.specs.Bits.{bit_at}
 use Rattle.arclists.proofs.names.row_named.Goals as goal
 

@@ -1,25 +1,11 @@
--- Each number by itself, then the two sums. Assumes nothing.
-use Rattle.std.proofs.Common.{rules}
-use Rattle.arclists.specs.UnsoundLaws.{big-t1, big-t2, big-b3, big-b1, big-b2, top-full, rest-full}
+-- The two sums. Assumes nothing.
+use Rattle.std.proofs.Common.{arith}
+use Rattle.arclists.specs.UnsoundLaws.{full-top, full-back}
 use Rattle.arclists.proofs.unsound.too_large.Goals as goal
 
-pub returns-then-s-gt1024 : goal.returns-then-s-gt1024
-returns-then-s-gt1024 c = search big-t1
+pub returns-then-most-saturating_add : goal.returns-then-most-saturating_add
+returns-then-most-saturating_add c = full-top c.args.s c.saturating_add-2.result (omega arith) c.if-most-saturating_add.true
 
-pub returns-then-s-gt1024-2 : goal.returns-then-s-gt1024-2
-returns-then-s-gt1024-2 c = search big-t2
-
-pub returns-then-s-gt1024-3 : goal.returns-then-s-gt1024-3
-returns-then-s-gt1024-3 c = search big-b3
-
-pub returns-then-s-gt1024-4 : goal.returns-then-s-gt1024-4
-returns-then-s-gt1024-4 c = search big-b1
-
-pub returns-then-s-gt1024-5 : goal.returns-then-s-gt1024-5
-returns-then-s-gt1024-5 c = search big-b2
-
-pub returns-then-s : goal.returns-then-s
-returns-then-s c = search top-full
-
-pub returns : goal.returns
-returns c = search rest-full
+pub returns-else-most-saturating_add : goal.returns-else-most-saturating_add
+returns-else-most-saturating_add c =
+    full-back c.args.s c.saturating_add-else-most-saturating_add.result c.saturating_add-else-most-saturating_add.ensures (omega arith) (omega arith)

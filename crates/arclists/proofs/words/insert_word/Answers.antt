@@ -7,7 +7,6 @@ use mathlib.Core.List.{List}
 use native.Mathlib.Omega.{arith}
 use lib.ListN.{drop}
 use lib.Seq.{paste}
-use Rattle.std.proofs.Common.{rules}
 use Rattle.arclists.proofs.words.insert_word.Goals as goal
 
 pub returns : goal.returns

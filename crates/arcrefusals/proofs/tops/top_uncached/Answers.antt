@@ -3,7 +3,6 @@ use mathlib.Core.Path.{refl, ap, ◌∙◌, subst}
 use mathlib.Core.Bool.{not}
 use Prim.Native.Nat.{ℕ}
 use native.Mathlib.Omega.{arith}
-use Rattle.std.proofs.Common.{rules}
 use Rattle.tables.specs.Bits.{bit_at, has-bit, no_bits}
 use Rattle.tables.specs.SoundLaws.{Marked}
 use Rattle.arc.specs.Arc.{base_numbers}
@@ -14,16 +13,6 @@ use Rattle.refusals.specs.Given.{lent}
 use Rattle.arcrefusals.specs.Given.{sizes_of, base_of}
 use Rattle.arcrefusals.specs.TopLaws.{uncached-tell}
 use Rattle.arcrefusals.proofs.tops.top_uncached.Goals as goal
-use Rattle.arcrefusals.proofs.tops.top_uncached.Goals.{After-names_marked}
-
--- the bits are those of the addresses of T1 and T2
-tops-marked : (c : After-names_marked)
-    → (let a = c.args in Marked (bit_at c.names_marked.new.seen) 65536 (tops_in (rec_of a.a.sizes) a.lists.now))
-tops-marked c =
-    let l = c.args.lists.now in
-    let e = c.tops_of.ensures in
-    subst (λ (n : ℕ). Marked (bit_at c.names_marked.new.seen) 65536 (words n l)) e
-    (c.names_marked.ensures.marked (c.names_marked.ensures.value ∙ ap (λ (n : ℕ). fine (words n l)) e ∙ c.requires.lists_value))
 
 pub names_marked-requires : goal.names_marked-requires
 names_marked-requires c =

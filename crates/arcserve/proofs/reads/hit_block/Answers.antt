@@ -1,9 +1,8 @@
 -- The block copied is that of the row's fingerprint. Assumes nothing.
-use mathlib.Core.Path.{sym, ap, ◌∙◌}
+use mathlib.Core.Path.{ap, ◌∙◌}
 use Prim.Native.Nat.{ℕ, ◌<◌}
 use native.Mathlib.Omega.{arith}
 use lib.ListN.{get_or}
-use Rattle.std.proofs.Common.{rules}
 use Rattle.parts.specs.Rep.{numbers_of, no_row, engine}
 use Rattle.parts.specs.CopyLaws.{parts-length, block-ends, part-block, slot-some, slot_of-below}
 use Rattle.arcserve.proofs.reads.hit_block.Goals as goal
@@ -18,9 +17,6 @@ in_slot-requires c =
     (rw (slot-some (numbers_of a.b) a.b.slots a.blocks.now q.2.free q.2.used f q.5.blocks-are a.j q.6.place q.6.is-cached
     c.slot_at-slot.result.0 c.slot_at-slot.ensures) (slot_of-below (numbers_of a.b) a.b.slots f q.2.used d1 q.5.blocks-are.used-below)))
 
-pub copy_all-requires : goal.copy_all-requires
-copy_all-requires c = c.in_slot.ensures.1 ∙ sym c.requires.j_lt_slots.1
-
 pub returns : goal.returns
 returns c =
     let a = c.args in
@@ -31,6 +27,6 @@ returns c =
     let k = slot-some (numbers_of a.b) a.b.slots a.blocks.now s.free s.used f h.blocks-are a.j q.place q.is-cached
     at_slot.result.0 at_slot.ensures in
     let kb : at_slot.result.0 < a.b.slots = rw k (slot_of-below (numbers_of a.b) a.b.slots f s.used d1 h.blocks-are.used-below) in
-    c.copy_all.ensures ∙ c.in_slot.ensures.0
+    c.copy_from_slice.ensures.after ∙ c.in_slot.ensures.0
     ∙ part-block a.b.size a.b.slots a.flash.now s.flash h.flash-is at_slot.result.0 (engine a.b).blank kb
     ∙ ap (λ (y : ℕ). (get_or s.flash y (engine a.b).blank).0) k

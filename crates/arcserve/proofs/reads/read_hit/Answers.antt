@@ -2,7 +2,6 @@
 use mathlib.Core.Path.{sym, ap, ◌∙◌}
 use native.Mathlib.Omega.{arith}
 use lib.ListN.{get_or}
-use Rattle.std.proofs.Common.{rules}
 use Rattle.tables.specs.Records.{bytes2}
 use Rattle.paper.specs.Cache.{block_of}
 use Rattle.paper.specs.Lent.{bit}

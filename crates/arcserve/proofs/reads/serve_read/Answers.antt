@@ -1,6 +1,5 @@
 -- By whether the row's fingerprint has a place, which is the paper's hit. Assumes nothing.
 use lib.ListN.{get_or}
-use Rattle.std.proofs.Common.{rules}
 use Rattle.arc.specs.Policy.{serve_by}
 use Rattle.parts.specs.Rep.{engine}
 use Rattle.serve.specs.ServeLaws.{found-hit, found-miss}

@@ -3,7 +3,6 @@ use mathlib.Core.Path.{sym, ap, ◌∙◌}
 use mathlib.Core.List.{List}
 use Prim.Native.Nat.{ℕ, ◌*◌, ◌≤◌}
 use native.Mathlib.Omega.{arith}
-use Rattle.std.proofs.Common.{rules}
 use Rattle.block.specs.Blocks.{splice}
 use Rattle.parts.specs.Rep.{numbers_of, engine}
 use Rattle.parts.specs.CopyLaws.{parts-length, block-ends}

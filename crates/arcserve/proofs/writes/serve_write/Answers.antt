@@ -1,5 +1,4 @@
 -- By the kind of the write. Assumes nothing.
-use Rattle.std.proofs.Common.{rules}
 use Rattle.tables.specs.Records.{bytes2}
 use Rattle.arcserve.proofs.writes.serve_write.Goals as goal
 

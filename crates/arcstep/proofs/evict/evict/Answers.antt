@@ -1,18 +1,17 @@
 -- By whether there is one; its row leaves, and then its name. Assumes nothing.
 use mathlib.Core.Path.{refl, sym, ◌∙◌}
 use native.Mathlib.Omega.{arith}
-use Rattle.std.proofs.Common.{rules}
-use Rattle.arcstep.proofs.Naming.{small_low, ghosts-none}
+use Rattle.arcstep.proofs.Naming.{small_low, names-none}
 use Rattle.arcstep.proofs.Leaving.{stays, leaves}
 use Rattle.arcstep.proofs.evict.evict.Goals as goal
 
-pub returns-then-n-eq0 : goal.returns-then-n-eq0
-returns-then-n-eq0 c =
+pub returns-then-size-eq0 : goal.returns-then-size-eq0
+returns-then-size-eq0 c =
     let a = c.args in
     record {
       less = (omega arith, omega arith, omega arith, (refl, refl));
       runs = λ R h. stays a.b a.t a.disk.now a.flash.now a.addrs.now a.blocks.now a.lists.now R h a.from
-          (ghosts-none a.from a.t.sizes R.kept h.names.sized (sym c.size_of-n.ensures ∙ c.if-n-eq0.true));
+          (names-none a.from a.t.sizes R.kept h.names.sized (sym c.size.ensures ∙ c.if-size-eq0.true));
     }
 
 pub evict_row-g-requires : goal.evict_row-g-requires

@@ -1,12 +1,10 @@
 -- The replacement, and then the victim. Assumes nothing.
-use mathlib.Core.Path.{◌∙◌}
 use native.Mathlib.Omega.{arith}
-use Rattle.std.proofs.Common.{rules}
 use Rattle.arcstep.proofs.Ways.{fits-less}
 use Rattle.arcstep.proofs.insert.again.Goals as goal
 
-pub victim-j-requires : goal.victim-j-requires
-victim-j-requires c =
+pub victim-requires : goal.victim-requires
+victim-requires c =
     let w = c.replace-r in
     let q = c.requires.some_runs in
     record {
@@ -20,5 +18,5 @@ returns c =
     let w = c.replace-r in
     record {
       less = w.ensures.less;
-      clears = λ R h. let q = w.ensures.runs R h in record { runs = q; place_is = c.victim-j.ensures _ _ _ q };
+      clears = λ R h. let q = w.ensures.runs R h in record { runs = q; place_is = c.victim.ensures _ _ _ q };
     }

@@ -1,8 +1,8 @@
 -- Nothing where both are empty; else room is made first, and the oldest moves. Assumes nothing.
 use mathlib.Core.Path.{refl, ◌∙◌}
 use native.Mathlib.Omega.{arith}
-use Rattle.std.proofs.Common.{rules}
-use Rattle.arcstep.proofs.Naming.{small-t1b1, small-t2b2}
+use Rattle.arclists.specs.declared.ListName.TheVariants.{T1, T2, B1, B2}
+use Rattle.arcstep.proofs.Naming.{small-moved}
 use Rattle.arcstep.proofs.Ways.{told, replace-none, replace-some, topped}
 use Rattle.arcstep.proofs.metadata.replace.Goals as goal
 
@@ -28,5 +28,6 @@ returns c =
       runs = rw c.with_sizes.ensures (λ R h.
           let q = e.runs R h in
           told (replace-some a.b a.t.sizes R h.names.sized _ _ c.takes_t1-top.result (omega (arith, n)) (c.takes_t1-top.ensures R.kept h.names.sized))
-          (topped c.takes_t1-top.result _ _ q (small-t1b1 _ q.low) (small-t2b2 _ q.low) (m.by_index a.b.rows _ q.names)));
+          (topped c.takes_t1-top.result _ _ q (small-moved T1 B1 (omega arith) _ q.low) (small-moved T2 B2 (omega arith) _ q.low)
+          (m.by_index a.b.rows _ q.names)));
     }

@@ -1,4 +1,5 @@
 -- The names of T1 and T2 are marked, then their rows' block rows; the first that isn't is the oldest. Assumes nothing.
+use Rattle.std.specs.Prelude.{Option, unwrap_or}
 use mathlib.Core.Path.{◌≡◌, refl, sym, ap, ◌∙◌, subst}
 use mathlib.Core.List.{List, []}
 use Prim.Native.Nat.{ℕ, ◌+◌, ◌<◌}
@@ -9,13 +10,10 @@ use Rattle.tables.specs.Rows.{row_at}
 use Rattle.tables.specs.Bits.{bit_at, has-bit, no_bits}
 use Rattle.tables.specs.Sound.{row_address}
 use Rattle.tables.specs.SoundLaws.{Marked, fresh}
-use Rattle.tables.specs.declared.Found.{Found}
-use Rattle.tables.specs.declared.Found.TheVariants.{At, Nothing}
 use Rattle.paper.specs.Layout.{Blocks}
 use Rattle.arclists.specs.Names.{fine}
 use Rattle.parts.specs.Rep.{no_row}
 use Rattle.parts.specs.MoveLaws.{address_is, address_below}
-use Rattle.parts.specs.TableLaws.{placed}
 use Rattle.step.specs.Unique.{unique-is}
 use Rattle.arcstep.specs.Runs.{Within, Runs}
 use Rattle.arcstep.specs.Victim.{oldest_at}
@@ -27,7 +25,7 @@ use Rattle.arcstep.proofs.victim.oldest_at.Goals.{After-first_unknown}
 -- what is found is the oldest
 found : (c : After-first_unknown)
     → (let a = c.args in (disk flash : List ℕ) (R : Within a.b) → Runs a.b a.t disk flash a.addrs.now a.blocks.now a.lists.now R
-    → R.stepped.box.free ≡ [] → placed c.first_unknown.result a.b.slots ≡ oldest_at R.kept R.stepped.box)
+    → R.stepped.box.free ≡ [] → unwrap_or c.first_unknown.result a.b.slots ≡ oldest_at R.kept R.stepped.box)
 found c disk flash R h e =
     let a = c.args in
     let m = c.names_marked in
@@ -62,10 +60,10 @@ mark_tops-requires c =
       by_index_2 = fresh 257;
     }
 
-pub returns-in-At : goal.returns-in-At
-returns-in-At c =
+pub returns-in-Some : goal.returns-in-Some
+returns-in-Some c =
     let found : (let a = c.args in (disk flash : List ℕ) (R : Within a.b) → Runs a.b a.t disk flash a.addrs.now a.blocks.now a.lists.now R
-    → R.stepped.box.free ≡ [] → placed c.first_unknown.result a.b.slots ≡ oldest_at R.kept R.stepped.box) = λ disk flash R h e.
+    → R.stepped.box.free ≡ [] → unwrap_or c.first_unknown.result a.b.slots ≡ oldest_at R.kept R.stepped.box) = λ disk flash R h e.
     let a = c.args in
     let m = c.names_marked in
     let k = c.mark_tops in
@@ -75,12 +73,12 @@ returns-in-At c =
     found-oldest a.b.blocks a.b.rows a.t.held a.b.slots a.addrs.now a.blocks.now m.new.seen k.new.known R.kept R.stepped.box.rows
     R.stepped.box.used h.box.rows_are hb (unique-is a.b.slots a.blocks.now [] R.stepped.box.used hb h.once) marked
     k.ensures.known_len k.ensures.by_index_3 c.first_unknown.result c.first_unknown.ensures in
-    λ disk flash R h e. ap (λ (f : Found). placed f c.args.b.slots) (sym c.in-At.is) ∙ found disk flash R h e
+    λ disk flash R h e. ap (λ (f : Option ℕ). unwrap_or f c.args.b.slots) (sym c.in-Some.is) ∙ found disk flash R h e
 
-pub returns-in-Nothing : goal.returns-in-Nothing
-returns-in-Nothing c =
+pub returns-in-None : goal.returns-in-None
+returns-in-None c =
     let found : (let a = c.args in (disk flash : List ℕ) (R : Within a.b) → Runs a.b a.t disk flash a.addrs.now a.blocks.now a.lists.now R
-    → R.stepped.box.free ≡ [] → placed c.first_unknown.result a.b.slots ≡ oldest_at R.kept R.stepped.box) = λ disk flash R h e.
+    → R.stepped.box.free ≡ [] → unwrap_or c.first_unknown.result a.b.slots ≡ oldest_at R.kept R.stepped.box) = λ disk flash R h e.
     let a = c.args in
     let m = c.names_marked in
     let k = c.mark_tops in
@@ -90,4 +88,4 @@ returns-in-Nothing c =
     found-oldest a.b.blocks a.b.rows a.t.held a.b.slots a.addrs.now a.blocks.now m.new.seen k.new.known R.kept R.stepped.box.rows
     R.stepped.box.used h.box.rows_are hb (unique-is a.b.slots a.blocks.now [] R.stepped.box.used hb h.once) marked
     k.ensures.known_len k.ensures.by_index_3 c.first_unknown.result c.first_unknown.ensures in
-    λ disk flash R h e. ap (λ (f : Found). placed f c.args.b.slots) (sym c.in-Nothing.is) ∙ found disk flash R h e
+    λ disk flash R h e. ap (λ (f : Option ℕ). unwrap_or f c.args.b.slots) (sym c.in-None.is) ∙ found disk flash R h e

@@ -1,28 +1,21 @@
-use mathlib.Core.Path.{◌≡◌, sym, ◌∙◌, subst}
+use mathlib.Core.Path.{sym, ◌∙◌}
 use mathlib.Core.List.{map}
-use Prim.Native.Nat.{ℕ, ◌-◌, ◌≤◌, ◌<◌}
-use lib.ListN.{length, drop, get_or, length-set}
+use Prim.Native.Nat.{◌-◌, ◌<◌}
+use lib.ListN.{length, get_or, length-set}
 use native.Mathlib.Omega.{arith}
+use Rattle.std.proofs.lemmas.Grind.{common_steps}
 use Rattle.tables.specs.Index.{place_in}
-use Rattle.tables.specs.Rows.{rows, row_at}
-use Rattle.tables.specs.SoundLaws.{Read, Marks, marked-none, marks-set, values-at, values_length}
+use Rattle.tables.specs.Rows.{rows}
+use Rattle.tables.specs.SoundLaws.{Read, marked-none, marks-set, values-at, values_length}
 use Rattle.table_laws.specs.Knowns.{place-below}
-use Rattle.std.proofs.Common.{rules}
 use Rattle.checks.proofs.known.mark_known.Goals as goal
-use Rattle.checks.proofs.known.mark_known.Goals.{After-place_of-x}
-
--- the place is a byte of `known`
-below : (c : After-place_of-x) → c.place_of-x.result < length c.loop-k.known
-below c =
-    let a = c.args in
-    let b : c.place_of-x.result < 257 = rw c.place_of-x.ensures (place-below a.d a.t.now (row_at a.a.now (c.loop-k.k - 1)) c.requires.has_rows.1.1) in
-    omega (arith, b, c.loop-k.invariant.1)
 
 pub loop-k-init : goal.loop-k-init
 loop-k-init c =
     let a = c.args in
     let h = values_length (place_in (rows a.d a.t.now)) a.n a.a.now in
-    (search rules, c.requires.has_rows.2, marked-none (λ x. get_or a.known.now x 0) (length a.known.now) (map (place_in (rows a.d a.t.now)) (rows a.n a.a.now)) a.n (omega (arith, h)) c.requires.by_index)
+    let l = map (place_in (rows a.d a.t.now)) (rows a.n a.a.now) in
+    (c.requires.has_rows.2, marked-none (λ x. get_or a.known.now x 0) (length a.known.now) l a.n (omega (arith, h)) c.requires.by_index)
 
 pub loop-k-preserved : goal.loop-k-preserved
 loop-k-preserved c =
@@ -33,21 +26,12 @@ loop-k-preserved c =
     let h : k - 1 < a.n = omega arith in
     let r : Read (map f (rows a.n a.a.now)) (length c.loop-k.known) k c.place_of-x.result =
     record {
-      some = c.loop-k-test.true;
-      within = omega (arith, values_length f a.n a.a.now, i.0);
+      some = omega arith;
+      within = omega (arith, values_length f a.n a.a.now);
       is = c.place_of-x.ensures ∙ sym (values-at f a.n a.a.now (k - 1) h);
-      has = below c;
+      has = grind (arith, common_steps, place-below a.d a.t.now);
     } in
-    (omega arith, simp length-set i.1, marks-set c.loop-k.known r i.2)
-
-pub returns : goal.returns
-returns c =
-    let a = c.args in
-    let e : c.loop-k.k ≡ 0 = omega arith in
-    record {
-      known_len = c.loop-k.invariant.1;
-      by_index_2 = subst (λ (k : ℕ). Marks c.loop-k.known (drop k (map (place_in (rows a.d a.t.now)) (rows a.n a.a.now)))) e c.loop-k.invariant.2;
-    }
+    (simp length-set i.0, marks-set c.loop-k.known r i.1)
 
 pub bounds-known-x : goal.bounds-known-x
-bounds-known-x = below
+bounds-known-x c = let a = c.args in grind (arith, common_steps, place-below a.d a.t.now)

@@ -1,31 +1,18 @@
 -- The row found, or 256. Assumes nothing.
-use mathlib.Core.Path.{◌≡◌, sym, ap, ◌∙◌}
+use Rattle.std.proofs.Common.{◌≡◌, ℕ, Option, Some, None, refl, ap, ◌∙◌}
+use Rattle.std.specs.Option.{unwrap_or}
 use Rattle.tables.specs.Find.{find_from, caches}
-use Rattle.tables.specs.Rows.{rows, row_at}
+use Rattle.tables.specs.Rows.{rows}
 use Rattle.tables.specs.Index.{code, place_in}
-use Rattle.std.proofs.Common.{rules}
 use Rattle.checks.proofs.known.place_of.Goals as goal
-use Rattle.checks.proofs.known.place_of.Goals.{After-find}
 
--- what the search answers, of the row's fingerprint
-answer : (c : After-find) → (let a = c.args in code c.find.result ≡ place_in (rows a.d a.t.now) (row_at a.a.now a.k))
-unfolding place_in
-answer c =
-    let a = c.args in
-    ap code (c.find.ensures ∙ ap (λ g. find_from (caches g) 0 (rows a.d a.t.now)) c.address_fingerprint.ensures.0)
+is-code : (o : Option ℕ) → unwrap_or o 256 ≡ code o
+is-code (Some i) = refl
+is-code None = refl
 
-pub returns-in-At : goal.returns-in-At
+pub returns : goal.returns
 unfolding place_in
-returns-in-At c =
-    let answer : (let a = c.args in code c.find.result ≡ place_in (rows a.d a.t.now) (row_at a.a.now a.k)) =
+returns c =
     let a = c.args in
-    ap code (c.find.ensures ∙ ap (λ g. find_from (caches g) 0 (rows a.d a.t.now)) c.address_fingerprint.ensures.0) in
-    ap code (sym c.in-At.is) ∙ answer
-
-pub returns-in-Nothing : goal.returns-in-Nothing
-unfolding place_in
-returns-in-Nothing c =
-    let answer : (let a = c.args in code c.find.result ≡ place_in (rows a.d a.t.now) (row_at a.a.now a.k)) =
-    let a = c.args in
-    ap code (c.find.ensures ∙ ap (λ g. find_from (caches g) 0 (rows a.d a.t.now)) c.address_fingerprint.ensures.0) in
-    ap code (sym c.in-Nothing.is) ∙ answer
+    c.unwrap_or.ensures ∙ is-code c.find.result
+    ∙ ap code (c.find.ensures ∙ ap (λ g. find_from (caches g) 0 (rows a.d a.t.now)) c.address_fingerprint.ensures.0)

@@ -1,15 +1,12 @@
-use mathlib.Core.Path.{◌≡◌, sym, ap, ◌∙◌, subst}
-use mathlib.Core.Bool.{true, ◌&&◌}
-use Prim.Native.Nat.{ℕ, ◌-◌, ◌≤◌}
+use Prim.Native.Nat.{◌≤◌}
 use native.Mathlib.Omega.{arith}
-use lib.ListN.{length, drop, drop_of_length-le}
-use borrow.Author.Tests.{not-true, not-false}
-use Rattle.std.proofs.Common.{rules}
-use Rattle.tables.specs.Rows.{rows, row_at}
-use Rattle.tables.specs.Find.{every, all, is_used}
+use lib.ListN.{length, drop_of_length-le}
+use Rattle.std.proofs.lemmas.Grind.{common_steps}
+use Rattle.tables.specs.Rows.{rows}
+use Rattle.tables.specs.Find.{every, all}
 use Rattle.tables.specs.Index.{row_ok}
 use Rattle.tables.specs.RowLaws.{rows-length}
-use Rattle.tables.specs.SoundLaws.{back-fails, back_more, back-all, same-behind}
+use Rattle.tables.specs.SoundLaws.{back-fails, back_more, back-all}
 use Rattle.checks.proofs.sound.rows_ok.Goals as goal
 
 pub loop-k-init : goal.loop-k-init
@@ -18,34 +15,15 @@ loop-k-init c =
     let a = c.args in
     let rs = rows a.d a.t.now in
     let h : length rs ≤ a.d = omega (arith, rows-length a.d a.t.now) in
-    (search rules, rw (drop_of_length-le rs h), rw (drop_of_length-le rs h))
-
-pub row_ok-requires : goal.row_ok-requires
-row_ok-requires c =
-    let a = c.args in
-    record {
-      k_lt_d = omega arith;
-      used_value = c.loop-k.invariant.2 ∙ ap (all is_used) (sym (same-behind (row_ok a.d) a.d a.t.now c.loop-k.k c.loop-k-test.true c.loop-k.invariant.0));
-    }
+    (rw (drop_of_length-le rs h), rw (drop_of_length-le rs h))
 
 pub returns-then-not-row_ok : goal.returns-then-not-row_ok
 returns-then-not-row_ok c =
     let a = c.args in
-    back-fails (row_ok a.d) a.d a.t.now c.loop-k.k c.loop-k-test.true c.loop-k.invariant.0 (sym c.row_ok.ensures ∙ c.if-not-row_ok.true)
+    grind (arith, common_steps, back-fails (row_ok a.d) a.d a.t.now c.loop-k.k)
 
 pub loop-k-preserved : goal.loop-k-preserved
 loop-k-preserved c =
     let a = c.args in
     let k = c.loop-k.k in
-    let i = c.loop-k.invariant in
-    let hk = c.loop-k-test.true in (
-      omega arith,
-      back_more (row_ok a.d) a.d a.t.now k hk i.0 (sym c.row_ok.ensures ∙ c.if-not-row_ok.false) i.1,
-      c.used_from-used.ensures ∙ ap (λ u. is_used (row_at a.t.now (k - 1)) && u) i.2 ∙ sym (back-all (row_ok a.d) a.d a.t.now k hk i.0 is_used),
-    )
-
-pub returns : goal.returns
-returns c =
-    let a = c.args in
-    let e : c.loop-k.k ≡ 0 = omega arith in
-    sym (subst (λ (k : ℕ). every (row_ok a.d) (drop k (rows a.d a.t.now)) ≡ true) e c.loop-k.invariant.1)
+    grind (arith, common_steps, back_more (row_ok a.d) a.d a.t.now k, back-all (row_ok a.d) a.d a.t.now k)

@@ -1,23 +1,23 @@
 -- No sum passes the sum of all counts. Assumes nothing.
-use mathlib.Core.Path.{refl}
-use native.Mathlib.Omega.{arith}
-use Rattle.std.proofs.Common.{rules}
-use Rattle.exam.specs.Small.{plus_nine}
+use Rattle.std.proofs.Common.{◌≡◌, arith, rules, length}
+use Rattle.std.proofs.lemmas.Grind.{common_steps}
+use Rattle.exam.proofs.Searching.{plus-is, one-of-total}
 use Rattle.exam.proofs.search.plus.Goals as goal
 
--- the places of the last sums, from the start on
-pub overflow_add-result-7 : goal.overflow_add-result-7
-overflow_add-result-7 c =
-    record { fits = omega (arith, c.requires) }
+pub overflow_add-sum : goal.overflow_add-sum
+overflow_add-sum c =
+    let h = c.loop-h.h in
+    record { fits = omega (arith, c.loop-h.invariant.rest h, one-of-total c.args.s h, one-of-total c.args.t h) }
 
-pub overflow_add-result-8 : goal.overflow_add-result-8
-overflow_add-result-8 c =
-    record { fits = omega (arith, c.requires) }
-
-pub overflow_add-result-9 : goal.overflow_add-result-9
-overflow_add-result-9 c =
-    record { fits = omega (arith, c.requires) }
+pub loop-h-preserved : goal.loop-h-preserved
+loop-h-preserved c = record {
+  long = search rules;
+  summed = λ i h. grind (arith, common_steps, c.loop-h.invariant.summed i, c.loop-h.invariant.rest i);
+  rest = λ i h. grind (arith, common_steps, c.loop-h.invariant.rest i);
+}
 
 pub returns : goal.returns
-unfolding plus_nine
-returns c = refl
+returns c =
+    let s : length c.args.s ≡ 9 = search rules in
+    let t : length c.args.t ≡ 9 = search rules in
+    plus-is c.loop-h.sum c.args.s c.args.t (omega arith) (omega arith) (λ i h. c.loop-h.invariant.summed i (omega arith))

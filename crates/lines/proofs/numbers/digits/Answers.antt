@@ -1,32 +1,24 @@
-use mathlib.Core.Path.{refl, ◌∙◌}
+use mathlib.Core.Path.{◌∙◌, sym}
 use native.Mathlib.Omega.{arith}
 use Rattle.lines.proofs.Coding.{ten-more, ten-most, digit, digit-below, digit-above, digits-end}
 use Rattle.lines.proofs.numbers.digits.Goals as goal
 
-pub returns-then-c-lt48 : goal.returns-then-c-lt48
-returns-then-c-lt48 c =
-    rw (c.loop-i.invariant.2 ∙ digit-below c.loop-i.value c.args.w.now c.loop-i.i c.loop-i-test.true c.if-c-lt48.true)
+pub returns-in_default-clause-value : goal.returns-in_default-clause-value
+returns-in_default-clause-value c =
+    sym (c.loop-c.invariant.1 ∙ digit-below c.loop-c.value c.args.w.now c.loop-c.c-index (omega arith) (omega arith))
 
-pub returns-then-c-gt57 : goal.returns-then-c-gt57
-returns-then-c-gt57 c =
-    rw (c.loop-i.invariant.2 ∙ digit-above c.loop-i.value c.args.w.now c.loop-i.i c.loop-i-test.true c.if-c-lt48.false c.if-c-gt57.true)
+pub returns-in_default-2-clause-value : goal.returns-in_default-2-clause-value
+returns-in_default-2-clause-value c =
+    sym (c.loop-c.invariant.1 ∙ digit-above c.loop-c.value c.args.w.now c.loop-c.c-index (omega arith) (omega arith) (omega arith))
 
-pub overflow_mul-value : goal.overflow_mul-value
-overflow_mul-value c =
-    omega (arith, ten-most c.loop-i.i (omega arith))
-
-pub overflow_add-value : goal.overflow_add-value
-overflow_add-value c =
-    omega (arith, ten-most c.loop-i.i (omega arith))
-
-pub loop-i-preserved : goal.loop-i-preserved
-loop-i-preserved c =
+pub loop-c-preserved : goal.loop-c-preserved
+loop-c-preserved c =
     let w = c.args.w.now in
-    (omega arith, ten-more c.loop-i.i c.loop-i.value _ c.loop-i.invariant.1 (omega arith), c.loop-i.invariant.2 ∙ digit c.loop-i.value w c.loop-i.i c.loop-i-test.true c.if-c-lt48.false c.if-c-gt57.false)
+    rw c.from.ensures
+    (ten-more c.loop-c.c-index c.loop-c.value _ c.loop-c.invariant.0 (omega arith), c.loop-c.invariant.1 ∙ digit c.loop-c.value w c.loop-c.c-index (omega arith) (omega arith) (omega arith))
 
-pub returns : goal.returns
-returns c =
-    rw (c.loop-i.invariant.2 ∙ digits-end c.loop-i.value c.args.w.now c.loop-i.i c.loop-i-test.false) (refl, omega (arith, ten-most c.loop-i.i (omega arith)))
+pub returns-clause-value : goal.returns-clause-value
+returns-clause-value c = sym (c.loop-c.invariant.1 ∙ digits-end c.loop-c.value c.args.w.now c.loop-c.c-index (omega arith))
 
-pub loop-i-init : goal.loop-i-init
-loop-i-init c = (omega arith, omega arith, refl)
+pub returns-clause-upper_bound : goal.returns-clause-upper_bound
+returns-clause-upper_bound c = omega (arith, ten-most c.loop-c.c-index (omega arith))

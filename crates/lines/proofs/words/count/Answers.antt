@@ -1,17 +1,12 @@
-use native.Mathlib.Omega.{arith}
-use Rattle.lines.proofs.Bytewise.{count-space, count-letter, count-end}
+-- The spaces counted, and one. Assumes nothing.
+use Rattle.std.proofs.Common.{sym, ap, ◌∙◌, ◌+◌, rules, tests}
+use Rattle.std.proofs.lemmas.Iterator.{YieldsList-from_slice}
+use Rattle.std.proofs.lemmas.Iterator.Consumers.{count_from_yields_List, YieldsList-from_filter}
+use Rattle.lines.proofs.Bytewise.{space, words-length}
 use Rattle.lines.proofs.words.count.Goals as goal
-use Rattle.lines.proofs.words.count.Goals.{then-line-i-eq32, else-line-i-eq32}
-
-pub loop-i-preserved : goal.loop-i-preserved
-loop-i-preserved c =
-    let a = c.args in
-    let i = c.loop-i.i in
-    elim c.if-line-i-eq32.branch [
-      | then-line-i-eq32 w ↦ (omega arith, omega arith, omega (arith, count-space a.line.now i c.loop-i-test.true w.if-line-i-eq32.true))
-      | else-line-i-eq32 w ↦ (omega arith, omega arith, omega (arith, count-letter a.line.now i c.loop-i-test.true w.if-line-i-eq32.false))
-    ]
 
 pub returns : goal.returns
 returns c =
-    omega (arith, count-end c.args.line.now c.loop-i.i c.loop-i-test.false)
+    let l = c.args.line.now in
+    ap (λ n. n + 1) (count_from_yields_List c.filter.result _ c.count.ensures.ran (YieldsList-from_filter _ space (YieldsList-from_slice l cc) c.filter.ensures.closure (λ x b q k. search (rules, tests))))
+    ∙ sym (words-length l)

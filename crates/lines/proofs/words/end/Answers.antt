@@ -1,26 +1,22 @@
-use Prim.Native.Nat.{◌-◌}
-use mathlib.Core.Path.{◌≡◌, refl, ◌∙◌}
-use native.Mathlib.Omega.{arith}
-use Rattle.lines.proofs.Bytewise.{begun-letter, begun-space, begun-end}
+-- At the first space from there on, or at the end. Assumes nothing.
+use Rattle.std.proofs.Common.{◌≡◌, ◌+◌, ◌-◌, sym, ◌∙◌, drop, length-drop, arith, rules, tests}
+use Rattle.std.proofs.lemmas.Iterator.{YieldsList-from_slice}
+use Rattle.std.proofs.lemmas.Iterator.Search.{position_from_yields_List}
+use Rattle.lines.proofs.Bytewise.{space, first-ended, first-whole, to-end}
 use Rattle.lines.proofs.words.end.Goals as goal
 
-pub loop-i-init : goal.loop-i-init
-loop-i-init c =
-    let f = c.args.from in
-    let e : f - f ≡ 0 = omega arith in
-    (omega arith, omega arith, rw e refl)
+pub returns-in-Some : goal.returns-in-Some
+returns-in-Some c =
+    let l = drop c.args.from c.args.line.now in
+    let whole = c.iter.ensures.rest ∙ to-end c.args.from c.args.line.now in
+    let e = sym c.in-Some.is ∙ position_from_yields_List space _ _ c.position.result c.position.ensures.ran (YieldsList-from_slice l whole) (λ x b q k. search (rules, tests)) in
+    let f = first-ended l c.in-Some.k e in
+    let n : c.args.from + c.in-Some.k - c.args.from ≡ c.in-Some.k = omega arith in
+    (omega arith, omega (arith, f.0, length-drop c.args.from c.args.line.now), rw n f.1)
 
-pub loop-i-preserved : goal.loop-i-preserved
-loop-i-preserved c =
-    let a = c.args in
-    (omega arith, omega arith, c.loop-i.invariant.2 ∙ begun-letter a.line.now c.loop-i.i a.from c.loop-i.invariant.0 c.loop-i-test.true c.if-line-i-ne32.true)
-
-pub returns-else-line-i-ne32 : goal.returns-else-line-i-ne32
-returns-else-line-i-ne32 c =
-    let a = c.args in
-    (omega arith, omega arith, c.loop-i.invariant.2 ∙ begun-space a.line.now c.loop-i.i a.from c.loop-i-test.true c.if-line-i-ne32.false)
-
-pub returns-after-loop-i : goal.returns-after-loop-i
-returns-after-loop-i c =
-    let a = c.args in
-    (omega arith, omega arith, c.loop-i.invariant.2 ∙ begun-end a.line.now c.loop-i.i a.from c.loop-i-test.false)
+pub returns-in-None : goal.returns-in-None
+returns-in-None c =
+    let l = drop c.args.from c.args.line.now in
+    let back = to-end c.args.from c.args.line.now in
+    let e = sym c.in-None.is ∙ position_from_yields_List space _ _ c.position.result c.position.ensures.ran (YieldsList-from_slice l (c.iter.ensures.rest ∙ back)) (λ x b q k. search (rules, tests)) in
+    (omega arith, omega arith, first-whole l e ∙ sym back)

@@ -21,7 +21,3 @@ invariant-loop-i l =
     × ((s : Box (Fixed 32) (Fixed l.b.size)) → Rep l.b l.initial.disk l.flash l.initial.addrs l.blocks s
     → ◌≡◌ {A = Copied} (record { count = l.count; disk = l.disk; addrs = l.addrs }) (copied_rows l.b (λ f. true) s l.i))
     × ((s : Box (Fixed 32) (Fixed l.b.size)) → Rep l.b l.initial.disk l.flash l.initial.addrs l.blocks s → l.i ≤ reach (engine l.b) l.k s.rows) × (l.count ≤ l.k)
-
-abbrev pub decreases-loop-i : goal.decreases-loop-i
-decreases-loop-i l =
-    l.b.held - l.i

@@ -1,3 +1,4 @@
+use Rattle.std.specs.Prelude.{unwrap_or}
 use mathlib.Core.Path.{◌≡◌, refl, sym, ap, ◌∙◌}
 use mathlib.Core.Bool.{Bool, true, false, cond}
 use mathlib.Core.List.{List}
@@ -10,7 +11,6 @@ use Rattle.std.proofs.Common.{rules}
 use Rattle.tables.specs.Rows.{rows, row_at}
 use Rattle.tables.specs.RowLaws.{rows-length, turn-hit, turn-miss, turn_end}
 use Rattle.tables.specs.Find.{find_from, is_dirty}
-use Rattle.parts.specs.TableLaws.{placed}
 use Rattle.parts.specs.Limit.{dirty_in}
 use Rattle.parts.specs.LimitLaws.{dirty-turn, dirty-most}
 use Rattle.parts.proofs.limit.excess_row.Goals as goal
@@ -40,7 +40,7 @@ loop-i-init c =
     let a = c.args in
     let n = a.b.held in
     let none = drop_of_length-le (rows n a.addrs.now) {i = n} (omega (arith, rows-length n a.addrs.now)) in
-    (omega arith, sym (ap dirty_in none), sym (ap (λ f. placed f n) (turn_end is_dirty n a.addrs.now n (omega arith))))
+    (omega arith, sym (ap dirty_in none), sym (ap (λ f. unwrap_or f n) (turn_end is_dirty n a.addrs.now n (omega arith))))
 
 pub is_dirty-requires : goal.is_dirty-requires
 is_dirty-requires c =
@@ -58,7 +58,7 @@ loop-i-preserved-then-is_dirty c =
     let y = sym c.is_dirty.ensures ∙ c.if-is_dirty.true in
     let r = turned n a.addrs.now c.loop-i.i c.loop-i.count true taken v₀ v.1 y in
     let d = r.2 in
-    (omega (arith, v₀, taken), omega (arith, d), sym (ap (λ f. placed f n) (turn-hit is_dirty n a.addrs.now (c.loop-i.i - 1) r.0 y)))
+    (omega (arith, v₀, taken), omega (arith, d), sym (ap (λ f. unwrap_or f n) (turn-hit is_dirty n a.addrs.now (c.loop-i.i - 1) r.0 y)))
 
 pub loop-i-preserved : goal.loop-i-preserved
 loop-i-preserved c =
@@ -71,7 +71,7 @@ loop-i-preserved c =
     let r = turned n a.addrs.now c.loop-i.i c.loop-i.count false taken v₀ v.1 y in
     let d = r.2 in
     let f = turn-miss is_dirty n a.addrs.now (c.loop-i.i - 1) r.0 y ∙ ap (λ k. find_from is_dirty k (drop k (rows n a.addrs.now))) r.1 in
-    (omega (arith, v₀, taken), omega (arith, d), v.2 ∙ sym (ap (λ x. placed x n) f))
+    (omega (arith, v₀, taken), omega (arith, d), v.2 ∙ sym (ap (λ x. unwrap_or x n) f))
 
 pub returns-then-b-count : goal.returns-then-b-count
 returns-then-b-count c =
@@ -80,7 +80,7 @@ returns-then-b-count c =
     let t = a.addrs.now in
     let i0 : c.loop-i.i ≡ 0 = omega (arith, c.loop-i-test.false) in
     let d = c.loop-i.invariant.1 ∙ ap (λ k. dirty_in (drop k (rows n t))) i0 in
-    let f = c.loop-i.invariant.2 ∙ ap (λ k. placed (find_from is_dirty k (drop k (rows n t))) n) i0 in
+    let f = c.loop-i.invariant.2 ∙ ap (λ k. unwrap_or (find_from is_dirty k (drop k (rows n t))) n) i0 in
     rw (lt-ltb a.b.limit (dirty_in (rows n t)) (omega (arith, d, c.if-b-count.true))) f
 
 pub returns : goal.returns

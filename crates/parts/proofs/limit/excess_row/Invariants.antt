@@ -1,4 +1,5 @@
 -- The rows from row i on are done: how many of them are dirty, and which is the oldest of these. Assumes nothing.
+use Rattle.std.specs.Prelude.{unwrap_or}
 use mathlib.Core.Path.{◌≡◌, refl, sym, ap, ◌∙◌}
 use mathlib.Core.Bool.{Bool, true, false, cond}
 use mathlib.Core.List.{List}
@@ -11,7 +12,6 @@ use Rattle.std.proofs.Common.{rules}
 use Rattle.tables.specs.Rows.{rows, row_at}
 use Rattle.tables.specs.RowLaws.{rows-length, turn-hit, turn-miss, turn_end}
 use Rattle.tables.specs.Find.{find_from, is_dirty}
-use Rattle.parts.specs.TableLaws.{placed}
 use Rattle.parts.specs.Limit.{dirty_in}
 use Rattle.parts.specs.LimitLaws.{dirty-turn, dirty-most}
 use Rattle.parts.proofs.limit.excess_row.Given as goal
@@ -19,7 +19,4 @@ use Rattle.parts.proofs.limit.excess_row.Given as goal
 abbrev pub invariant-loop-i : goal.invariant-loop-i
 invariant-loop-i l =
     (l.count + l.i ≤ l.b.held) × (l.count ≡ dirty_in (drop l.i (rows l.b.held l.addrs)))
-    × (l.oldest ≡ placed (find_from is_dirty l.i (drop l.i (rows l.b.held l.addrs))) l.b.held)
-
-abbrev pub decreases-loop-i : goal.decreases-loop-i
-decreases-loop-i l = l.i
+    × (l.oldest ≡ unwrap_or (find_from is_dirty l.i (drop l.i (rows l.b.held l.addrs))) l.b.held)

@@ -6,5 +6,5 @@ use Rattle.parts.proofs.rows.fp_at.Goals as goal
 
 pub returns : goal.returns
 returns c =
-    let q = c.copy_all.ensures in
+    let q = c.copy_from_slice.ensures.after in
     (ap length q ∙ c.address_fingerprint.ensures.1, q ∙ c.address_fingerprint.ensures.0)

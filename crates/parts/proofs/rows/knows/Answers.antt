@@ -1,24 +1,13 @@
 -- What `find_fingerprint` finds tells whether the paper's rows have it. Assumes nothing.
-use mathlib.Core.Path.{sym, ap, ◌∙◌}
-use Rattle.tables.specs.declared.Found.TheVariants.{At, Nothing}
-use Rattle.parts.specs.TableLaws.{fp-known, is_at}
-use Rattle.std.proofs.Common.{rules}
+use Rattle.std.specs.Prelude.{unwrap_or, Option, ℕ, is_some}
+use Rattle.std.proofs.Common.{rules, sym, ap, ◌∙◌}
+use Rattle.parts.specs.TableLaws.{fp-known}
 use Rattle.parts.proofs.rows.knows.Goals as goal
 
-pub returns-in-At : goal.returns-in-At
-returns-in-At c =
+pub returns : goal.returns
+returns c =
     let a = c.args in
-    let f = sym c.find_fingerprint.ensures ∙ c.in-At.is in
     record {
-      value = sym (ap is_at f);
-      by_index = λ P m l q h e. fp-known P m a.n a.t.now l h a.g.now q e (At c.in-At.field-0) f;
-    }
-
-pub returns-in-Nothing : goal.returns-in-Nothing
-returns-in-Nothing c =
-    let a = c.args in
-    let f = sym c.find_fingerprint.ensures ∙ c.in-Nothing.is in
-    record {
-      value = sym (ap is_at f);
-      by_index = λ P m l q h e. fp-known P m a.n a.t.now l h a.g.now q e Nothing f;
+      value = c.is_some.ensures ∙ ap is_some c.find_fingerprint.ensures;
+      by_index = λ P m l q h e. c.is_some.ensures ∙ fp-known P m a.n a.t.now l h a.g.now q e _ (sym c.find_fingerprint.ensures);
     }

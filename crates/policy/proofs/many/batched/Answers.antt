@@ -4,4 +4,4 @@ use Rattle.std.proofs.Common.{rules}
 use Rattle.policy.proofs.many.batched.Goals as goal
 
 pub returns : goal.returns
-returns c = rw (c.with_held-next.ensures, c.counted-k.ensures) refl
+returns c = rw (c.with_held.ensures, c.counted-k.ensures) refl

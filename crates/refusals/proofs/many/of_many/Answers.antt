@@ -1,48 +1,38 @@
 -- What an opening gets, then the list's own, then the state's. Assumes nothing.
-use mathlib.Core.Path.{sym, ◌∙◌}
-use Prim.Native.Nat.{ℕ}
-use lib.ListN.{length-replicate}
-use Rattle.std.proofs.Common.{rules}
-use Rattle.tables.specs.SoundLaws.{filled-with}
+use Rattle.std.proofs.Common.{rules, arith, sym, ap, ◌∙◌}
+use Rattle.std.proofs.lemmas.Result.{err_from_is_err_and}
+use Rattle.refusal.specs.Numbers.{refused}
+use Rattle.paper.specs.Lent.{Ask}
 use Rattle.parts.specs.Rep.{numbers_of}
 use Rattle.refusals.specs.Given.{counters_of, lent}
-use Rattle.refusals.specs.Sizes.{Opens, opens-with}
+use Rattle.refusals.specs.Sizes.{opens-with}
+use Rattle.std.specs.Prelude.{ℕ}
+use Rattle.std.proofs.lemmas.List.{length-replicate}
+use Rattle.tables.specs.SoundLaws.{filled-with}
 use Rattle.refusals.proofs.Refusing.{many-first, many-list, many-rest}
 use Rattle.refusals.proofs.many.of_many.Goals as goal
-use Rattle.refusals.proofs.many.of_many.Goals.{Else-first-ne0}
 
--- what the first check leaves
-opens : (c : Else-first-ne0) → (let a = c.args in Opens a.b a.disk.now a.flash.now a.addresses.now a.blocks.now (counters_of a.c))
-opens c =
+pub returns-in_err-of_opening : goal.returns-in_err-of_opening
+returns-in_err-of_opening c =
     let a = c.args in
-    opens-with a.b a.disk.now a.flash.now a.addresses.now a.blocks.now (counters_of a.c)
-    (sym (c.of_opening-first.ensures (counters_of a.c)) ∙ c.if-first-ne0.false)
+    let k = counters_of a.c in
+    let e = c.in_err-of_opening.ensures k in
+    let p = err_from_is_err_and c.from_residual.result c.from_residual.ensures.1 in
+    rw (p.1, p.2) (e ∙ many-first (numbers_of a.b) (lent a.b a.disk.now a.flash.now a.addresses.now a.blocks.now k) a.asked.now a.buffer.now (λ z. refused _ (e ∙ z)))
 
-pub returns-then-first-ne0 : goal.returns-then-first-ne0
-returns-then-first-ne0 c =
+pub returns-in_err-of_list : goal.returns-in_err-of_list
+returns-in_err-of_list c =
     let a = c.args in
-    let e = c.of_opening-first.ensures (counters_of a.c) in
-    e ∙ many-first (numbers_of a.b) (lent a.b a.disk.now a.flash.now a.addresses.now a.blocks.now (counters_of a.c))
-    a.asked.now a.buffer.now (λ z. c.if-first-ne0.true (e ∙ z))
-
-pub returns-then-second-ne0 : goal.returns-then-second-ne0
-returns-then-second-ne0 c =
-    let opens : (let a = c.args in Opens a.b a.disk.now a.flash.now a.addresses.now a.blocks.now (counters_of a.c)) =
-    let a = c.args in
-    opens-with a.b a.disk.now a.flash.now a.addresses.now a.blocks.now (counters_of a.c)
-    (sym (c.of_opening-first.ensures (counters_of a.c)) ∙ c.if-first-ne0.false) in
-    let a = c.args in
-    let g = c.of_list-second.ensures in
-    g ∙ many-list a.b a.disk.now a.flash.now a.addresses.now a.blocks.now (counters_of a.c) opens a.asked.now a.buffer.now
-    (λ z. c.if-second-ne0.true (g ∙ z))
+    let k = counters_of a.c in
+    let g = c.in_err-of_list.ensures in
+    let p = err_from_is_err_and c.from_residual-in_err-of_list.result c.from_residual-in_err-of_list.ensures.1 in
+    rw (p.1, p.2) (g ∙ many-list a.b a.disk.now a.flash.now a.addresses.now a.blocks.now k (opens-with a.b a.disk.now a.flash.now a.addresses.now a.blocks.now k (sym (c.in_ok-of_opening.ensures k))) a.asked.now a.buffer.now (λ z. refused _ (g ∙ z)))
 
 pub of_state-requires : goal.of_state-requires
 of_state-requires c =
-    let opens : (let a = c.args in Opens a.b a.disk.now a.flash.now a.addresses.now a.blocks.now (counters_of a.c)) =
     let a = c.args in
-    opens-with a.b a.disk.now a.flash.now a.addresses.now a.blocks.now (counters_of a.c)
-    (sym (c.of_opening-first.ensures (counters_of a.c)) ∙ c.if-first-ne0.false) in
-    let o = opens in
+    let k = counters_of a.c in
+    let o = opens-with a.b a.disk.now a.flash.now a.addresses.now a.blocks.now k (sym (c.in_ok-of_opening.ensures k)) in
     record {
       blocks_bound = (o.most.blocks, o.most.rows, o.most.slots, o.lengths.addresses, o.lengths.blocks);
       blank = (length-replicate {A = ℕ} 4353 0, filled-with 4353 0);
@@ -50,11 +40,6 @@ of_state-requires c =
 
 pub returns : goal.returns
 returns c =
-    let opens : (let a = c.args in Opens a.b a.disk.now a.flash.now a.addresses.now a.blocks.now (counters_of a.c)) =
     let a = c.args in
-    opens-with a.b a.disk.now a.flash.now a.addresses.now a.blocks.now (counters_of a.c)
-    (sym (c.of_opening-first.ensures (counters_of a.c)) ∙ c.if-first-ne0.false) in
-    let a = c.args in
-    c.of_state.ensures.value
-    ∙ many-rest a.b a.disk.now a.flash.now a.addresses.now a.blocks.now (counters_of a.c) opens a.asked.now a.buffer.now
-    (sym c.of_list-second.ensures ∙ c.if-second-ne0.false)
+    let k = counters_of a.c in
+    c.of_state.ensures.value ∙ many-rest a.b a.disk.now a.flash.now a.addresses.now a.blocks.now k (opens-with a.b a.disk.now a.flash.now a.addresses.now a.blocks.now k (sym (c.in_ok-of_opening.ensures k))) a.asked.now a.buffer.now (sym c.in_ok-of_list.ensures)

@@ -10,15 +10,15 @@ use Rattle.session.specs.Memory.{memory, state_in, stored}
 use Rattle.replay.proofs.Feeding.{quiet_same, end-first, end_later, end-over}
 use Rattle.replay.proofs.feed.end_line.Goals as goal
 
-pub returns-then-s-eq0 : goal.returns-then-s-eq0
+pub returns-in-Before : goal.returns-in-Before
 unfolding state_in
-returns-then-s-eq0 c =
+returns-in-Before c =
     let a = c.args in
     let M = memory a.s a.line.now a.disk.now a.flash.now a.addresses.now a.blocks.now a.out.now in
     let e = c.parse-c.ensures ∙ ap (λ k. parsed (take k a.line.now)) (sub-zero a.s.kept) in
     record {
       filled_bound = c.first.ensures.filled_bound;
-      out_after = c.first.ensures.by_index a.line.now ∙ ap (λ c. stored M (first_line (state_in M) c)) e ∙ ap (stored M) (end-first (state_in M) c.if-s-eq0.true);
+      out_after = c.first.ensures.by_index a.line.now ∙ ap (λ c. stored M (first_line (state_in M) c)) e ∙ ap (stored M) (end-first (state_in M) c.in-Before.is);
     }
 
 pub later-requires : goal.later-requires
@@ -29,23 +29,23 @@ later-requires c =
       out_len = c.requires.out_len.0;
     }
 
-pub returns-then-s-eq1 : goal.returns-then-s-eq1
+pub returns-in-Open : goal.returns-in-Open
 unfolding state_in
-returns-then-s-eq1 c =
+returns-in-Open c =
     let a = c.args in
     let M = memory a.s a.line.now a.disk.now a.flash.now a.addresses.now a.blocks.now a.out.now in
     let e = c.parse-c.ensures ∙ ap (λ k. parsed (take k a.line.now)) (sub-zero a.s.kept) in
     record {
       filled_bound = c.later.ensures.filled_bound;
-      out_after = c.later.ensures.by_index a.line.now ∙ ap (λ c. stored M (later_line (state_in M) c)) e ∙ ap (stored M) (end_later (state_in M) c.if-s-eq0.false c.if-s-eq1.true);
+      out_after = c.later.ensures.by_index a.line.now ∙ ap (λ c. stored M (later_line (state_in M) c)) e ∙ ap (stored M) (end_later (state_in M) c.in-Open.is);
     }
 
-pub returns : goal.returns
+pub returns-in-Over : goal.returns-in-Over
 unfolding state_in
-returns c =
+returns-in-Over c =
     let a = c.args in
     let M = memory a.s a.line.now a.disk.now a.flash.now a.addresses.now a.blocks.now a.out.now in
     record {
       filled_bound = omega arith;
-      out_after = quiet_same M (subst (λ n. a.s.kept ≤ n) (sym c.requires.out_len.1) c.requires.out_len.2) ∙ ap (stored M) (end-over (state_in M) c.if-s-eq0.false c.if-s-eq1.false);
+      out_after = quiet_same M (subst (λ n. a.s.kept ≤ n) (sym c.requires.out_len.1) c.requires.out_len.2) ∙ ap (stored M) (end-over (state_in M) c.in-Over.is);
     }

@@ -1,18 +1,8 @@
 -- The record's numbers are small, and say where the tables and the lists lie. Assumes nothing.
-use mathlib.Core.Path.{refl}
-use native.Mathlib.Omega.{arith}
-use Prim.Native.Nat.{◌≤◌}
-use Rattle.arc.specs.Arc.{m_of}
-use Rattle.arcrefusals.specs.Given.{sizes_of}
+use Rattle.std.proofs.Common.{arith, refl}
 use Rattle.restoring.specs.Given.{arc_in}
 use Rattle.restoring.specs.ArcBodyLaws.{arc-long, arc-small, arc-laid, arc-record}
 use Rattle.restoring.proofs.arc_body.arc_found.Goals as goal
-use Rattle.restoring.proofs.arc_body.arc_found.Goals.{After-arc_record_in-a}
-
--- its numbers are small
-small : (c : After-arc_record_in-a) → (let a = c.arc_record_in-a.result in (a.sizes.cached ≤ 256) × (m_of (sizes_of a) ≤ 1024))
-small c =
-    arc-small c.args.body.now c.arc_record_in-a.result c.arc_record_in-a.ensures c.requires.1 c.requires.0
 
 pub arc_record_in-a-requires : goal.arc_record_in-a-requires
 arc_record_in-a-requires c =
@@ -20,41 +10,25 @@ arc_record_in-a-requires c =
     omega (arith, l)
 
 pub overflow_add-m : goal.overflow_add-m
-overflow_add-m c =
-    let small : (let a = c.arc_record_in-a.result in (a.sizes.cached ≤ 256) × (m_of (sizes_of a) ≤ 1024)) =
-    arc-small c.args.body.now c.arc_record_in-a.result c.arc_record_in-a.ensures c.requires.1 c.requires.0 in
-    let h = small.1 in omega (arith, h)
+overflow_add-m c = let h = (arc-small c.args.body.now _ c.arc_record_in-a.ensures c.requires.1 c.requires.0).1 in omega (arith, h)
 
 pub overflow_add-m-2 : goal.overflow_add-m-2
-overflow_add-m-2 c =
-    let small : (let a = c.arc_record_in-a.result in (a.sizes.cached ≤ 256) × (m_of (sizes_of a) ≤ 1024)) =
-    arc-small c.args.body.now c.arc_record_in-a.result c.arc_record_in-a.ensures c.requires.1 c.requires.0 in
-    let h = small.1 in omega (arith, h)
+overflow_add-m-2 c = let h = (arc-small c.args.body.now _ c.arc_record_in-a.ensures c.requires.1 c.requires.0).1 in omega (arith, h)
 
 pub overflow_mul-result : goal.overflow_mul-result
-overflow_mul-result c =
-    let small : (let a = c.arc_record_in-a.result in (a.sizes.cached ≤ 256) × (m_of (sizes_of a) ≤ 1024)) =
-    arc-small c.args.body.now c.arc_record_in-a.result c.arc_record_in-a.ensures c.requires.1 c.requires.0 in
-    let h = small.1 in omega (arith, h)
+overflow_mul-result c = let h = (arc-small c.args.body.now _ c.arc_record_in-a.ensures c.requires.1 c.requires.0).1 in omega (arith, h)
 
 pub overflow_mul-result-2 : goal.overflow_mul-result-2
-overflow_mul-result-2 c =
-    let small : (let a = c.arc_record_in-a.result in (a.sizes.cached ≤ 256) × (m_of (sizes_of a) ≤ 1024)) =
-    arc-small c.args.body.now c.arc_record_in-a.result c.arc_record_in-a.ensures c.requires.1 c.requires.0 in
-    let h = small.0 in omega (arith, h)
+overflow_mul-result-2 c = let h = (arc-small c.args.body.now _ c.arc_record_in-a.ensures c.requires.1 c.requires.0).0 in omega (arith, h)
 
 pub overflow_mul-result-3 : goal.overflow_mul-result-3
-overflow_mul-result-3 c =
-    let small : (let a = c.arc_record_in-a.result in (a.sizes.cached ≤ 256) × (m_of (sizes_of a) ≤ 1024)) =
-    arc-small c.args.body.now c.arc_record_in-a.result c.arc_record_in-a.ensures c.requires.1 c.requires.0 in
-    let h = small.1 in omega (arith, h)
+overflow_mul-result-3 c = let h = (arc-small c.args.body.now _ c.arc_record_in-a.ensures c.requires.1 c.requires.0).1 in omega (arith, h)
 
 pub returns : goal.returns
 returns c =
     let b = c.args.body.now in
-    let a = c.arc_record_in-a.result in
     let e = c.arc_record_in-a.ensures in
     record {
-      arc_record_value = arc-record b a e c.requires.1 c.requires.0;
-      laid = arc-laid b a e c.requires.1 c.requires.0;
+      arc_record_value = arc-record b _ e c.requires.1 c.requires.0;
+      laid = arc-laid b _ e c.requires.1 c.requires.0;
     }

@@ -1,6 +1,5 @@
 -- The sizes are the words read. Assumes nothing.
 use Rattle.restoring.specs.ArcBodyLaws.{sizes-made}
-use Rattle.std.proofs.Common.{rules}
 use Rattle.restoring.proofs.arc_body.sizes_in.Goals as goal
 
 pub returns : goal.returns

@@ -1,108 +1,60 @@
-use mathlib.Core.Path.{subst, ◌≡◌, refl, sym, ◌∙◌}
-use lib.ListN.{drop_of_length-le, length, drop}
-use Rattle.tables.specs.SoundLaws.{Read, Marked, marked-none, twice, once, marked, values-at, values_length}
-use Rattle.tables.specs.Bits.{bit_at}
-use Rattle.tables.specs.Sound.{distinct, number_in}
-use Rattle.tables.specs.Rows.{rows, row_at}
-use mathlib.Core.List.{map}
-use mathlib.Core.Bool.{true}
-use Prim.Native.Nat.{ℕ, ◌-◌, ◌*◌, ◌≤◌, ◌<◌}
-use native.Mathlib.Omega.{arith}
-use Rattle.std.proofs.Common.{rules}
-use borrow.Author.Tests.{eqb-true, eqb-false, not-true, not-false}
+use Rattle.std.specs.Prelude.{◌≡◌, true, List, ℕ, ◌+◌, ◌-◌, ◌*◌, ◌≤◌, ◌<◌, map, drop, length}
+use Rattle.std.proofs.Common.{arith, sym, refl, subst, ◌∙◌, drop_of_length-le, eqb-true}
+use Rattle.std.proofs.lemmas.Bool.{eqb-false}
+use Rattle.std.proofs.lemmas.List.{length-replicate}
+use Rattle.tables.specs.Bits.{bit_at, no_bits}
+use Rattle.tables.specs.Rows.{le4, rows, row_at}
+use Rattle.tables.specs.RowLaws.{le4-row_at}
+use Rattle.tables.specs.Sound.{distinct}
+use Rattle.tables.specs.SoundLaws.{marked-none, twice, once, marked, read-row, values_length}
 use Rattle.tables.proofs.distinct.numbers_distinct.Goals as goal
-use Rattle.tables.proofs.distinct.numbers_distinct.Goals.{After-number_at-x}
 
-word : (c : After-number_at-x)
-    → (let s = c.args in
-    Read (map (number_in s.which) (rows s.n s.t.now)) (length c.loop-k.seen * 8) c.loop-k.k c.number_at-x.result)
-word c =
-    let a = c.args in
-    let k = c.loop-k.k in
-    let h : k - 1 < a.n = omega arith in
-    let e : c.number_at-x.result ≡ number_in a.which (row_at a.t.now (k - 1)) = c.number_at-x.ensures in
-    record {
-      some = c.loop-k-test.true;
-      within = omega (arith, values_length (number_in a.which) a.n a.t.now);
-      is = e ∙ sym (values-at (number_in a.which) a.n a.t.now (k - 1) h);
-      has = omega (arith, e, c.requires.by_index (k - 1) h, c.loop-k.invariant.1);
-    }
+-- the number at place `at` of row k - 1
+number_is : (t : List ℕ) (k at x : ℕ) → at + 4 ≤ 40 → x ≡ le4 t ((k - 1) * 40 + at) → x ≡ le4 (row_at t (k - 1)) at
+number_is t k at x h e = e ∙ sym (le4-row_at t (k - 1) at (omega arith))
 
 pub loop-k-init : goal.loop-k-init
 unfolding distinct
-loop-k-init c =
+loop-k-init g c =
     let a = c.args in
-    let ws = map (number_in a.which) (rows a.n a.t.now) in
-    let h : length ws ≤ a.n = omega (arith, values_length (number_in a.which) a.n a.t.now) in
-    (search rules, refl, rw (drop_of_length-le ws h), marked-none (bit_at a.seen.now) (length a.seen.now * 8) ws a.n h c.requires.by_index_2)
+    let ws = map (λ r. le4 r a.at) (rows a.n a.t.now) in
+    let h : length ws ≤ a.n = omega (arith, values_length (λ r. le4 r a.at) a.n a.t.now) in
+    record {
+      bytes = length-replicate g.row.BYTES 0;
+      behind = rw (drop_of_length-le ws h) refl;
+      marked = marked-none _ _ ws a.n h (no_bits g.row.BYTES);
+    }
 
 pub set_bit-requires : goal.set_bit-requires
-set_bit-requires c =
-    let word : (let s = c.args in
-    Read (map (number_in s.which) (rows s.n s.t.now)) (length c.loop-k.seen * 8) c.loop-k.k c.number_at-x.result) =
+set_bit-requires g c =
     let a = c.args in
-    let k = c.loop-k.k in
-    let h : k - 1 < a.n = omega arith in
-    let e : c.number_at-x.result ≡ number_in a.which (row_at a.t.now (k - 1)) = c.number_at-x.ensures in
-    record {
-      some = c.loop-k-test.true;
-      within = omega (arith, values_length (number_in a.which) a.n a.t.now);
-      is = e ∙ sym (values-at (number_in a.which) a.n a.t.now (k - 1) h);
-      has = omega (arith, e, c.requires.by_index (k - 1) h, c.loop-k.invariant.1);
-    } in
-    word.has
+    let e = number_is a.t.now c.loop-k.k a.at c.word_at-x.result c.requires.has_rows.1 c.word_at-x.ensures in
+    omega (arith, e, c.requires.by_index (c.loop-k.k - 1) (omega arith), c.loop-k.invariant.bytes)
 
 pub returns-then-not-set_bit : goal.returns-then-not-set_bit
-returns-then-not-set_bit c =
-    let word : (let s = c.args in
-    Read (map (number_in s.which) (rows s.n s.t.now)) (length c.loop-k.seen * 8) c.loop-k.k c.number_at-x.result) =
+returns-then-not-set_bit g c =
     let a = c.args in
-    let k = c.loop-k.k in
-    let h : k - 1 < a.n = omega arith in
-    let e : c.number_at-x.result ≡ number_in a.which (row_at a.t.now (k - 1)) = c.number_at-x.ensures in
-    record {
-      some = c.loop-k-test.true;
-      within = omega (arith, values_length (number_in a.which) a.n a.t.now);
-      is = e ∙ sym (values-at (number_in a.which) a.n a.t.now (k - 1) h);
-      has = omega (arith, e, c.requires.by_index (k - 1) h, c.loop-k.invariant.1);
-    } in
-    let r = word in
-    record {
-      value = twice r (bit_at c.loop-k.seen) c.loop-k.invariant.3 (eqb-false _ 0 (sym c.set_bit.ensures.value ∙ c.if-not-set_bit.true));
-      seen_len_unchanged = c.set_bit.ensures.seen_len_unchanged ∙ c.loop-k.invariant.1;
-    }
+    let e = number_is a.t.now c.loop-k.k a.at c.word_at-x.result c.requires.has_rows.1 c.word_at-x.ensures in
+    let b : c.word_at-x.result < length c.loop-k.seen * 8 = omega (arith, e, c.requires.by_index (c.loop-k.k - 1) (omega arith), c.loop-k.invariant.bytes) in
+    let r = read-row (λ r. le4 r a.at) a.n a.t.now _ c.loop-k.k c.word_at-x.result c.loop-k-test.true (omega arith) e b in
+    twice r (bit_at c.loop-k.seen) c.loop-k.invariant.marked (eqb-false _ 0 (sym c.set_bit.ensures.value ∙ c.if-not-set_bit.true))
 
 pub loop-k-preserved : goal.loop-k-preserved
-loop-k-preserved c =
-    let word : (let s = c.args in
-    Read (map (number_in s.which) (rows s.n s.t.now)) (length c.loop-k.seen * 8) c.loop-k.k c.number_at-x.result) =
+loop-k-preserved g c =
     let a = c.args in
-    let k = c.loop-k.k in
-    let h : k - 1 < a.n = omega arith in
-    let e : c.number_at-x.result ≡ number_in a.which (row_at a.t.now (k - 1)) = c.number_at-x.ensures in
-    record {
-      some = c.loop-k-test.true;
-      within = omega (arith, values_length (number_in a.which) a.n a.t.now);
-      is = e ∙ sym (values-at (number_in a.which) a.n a.t.now (k - 1) h);
-      has = omega (arith, e, c.requires.by_index (k - 1) h, c.loop-k.invariant.1);
-    } in
-    let r = word in
     let i = c.loop-k.invariant in
+    let s = c.set_bit.ensures in
     let y = c.if-not-set_bit.false in
-    let e = c.set_bit.ensures.seen_len_unchanged in (
-      omega arith,
-      e ∙ i.1,
-      once r (bit_at c.loop-k.seen) i.3 (eqb-true _ 0 (sym c.set_bit.ensures.value ∙ y)) i.2,
-      λ x h. marked r (bit_at c.loop-k.seen) i.3 (bit_at c.set_bit.new.seen) (λ z q. c.set_bit.ensures.y_after y z) x (omega (arith, h, e)),
-    )
+    let e = number_is a.t.now c.loop-k.k a.at c.word_at-x.result c.requires.has_rows.1 c.word_at-x.ensures in
+    let b : c.word_at-x.result < length c.loop-k.seen * 8 = omega (arith, e, c.requires.by_index (c.loop-k.k - 1) (omega arith), i.bytes) in
+    let r = read-row (λ r. le4 r a.at) a.n a.t.now _ c.loop-k.k c.word_at-x.result c.loop-k-test.true (omega arith) e b in
+    record {
+      bytes = s.seen_len_unchanged ∙ i.bytes;
+      behind = once r (bit_at c.loop-k.seen) i.marked (eqb-true _ 0 (sym s.value ∙ y)) i.behind;
+      marked = λ x h. marked r (bit_at c.loop-k.seen) i.marked (bit_at c.set_bit.new.seen) (λ z q. s.y_after y z) x (omega (arith, h, s.seen_len_unchanged));
+    }
 
 pub returns : goal.returns
-returns c =
-    let a = c.args in
+returns g c =
     let e : c.loop-k.k ≡ 0 = omega arith in
-    let i = c.loop-k.invariant in
-    let ws = map (number_in a.which) (rows a.n a.t.now) in
-    record {
-      value = sym (subst (λ (k : ℕ). distinct (drop k ws) ≡ true) e i.2);
-      seen_len_unchanged = i.1;
-    }
+    sym (subst (λ (k : ℕ). distinct (drop k (map (λ r. le4 r c.args.at) (rows c.args.n c.args.t.now))) ≡ true) e c.loop-k.invariant.behind)

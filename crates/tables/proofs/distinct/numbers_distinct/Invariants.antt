@@ -1,20 +1,14 @@
 -- The loop goes down; `seen` marks the numbers behind row k, which all differ. Assumes nothing.
-use mathlib.Core.Path.{subst, ◌≡◌, refl, sym, ◌∙◌}
-use lib.ListN.{drop_of_length-le, length, drop}
-use Rattle.tables.specs.SoundLaws.{Read, Marked, marked-none, twice, once, marked, values-at, values_length}
+use Rattle.std.specs.Prelude.{◌≡◌, true, map, ◌*◌, length, drop}
 use Rattle.tables.specs.Bits.{bit_at}
-use Rattle.tables.specs.Sound.{distinct, number_in}
-use Rattle.tables.specs.Rows.{rows, row_at}
-use mathlib.Core.List.{map}
-use mathlib.Core.Bool.{true}
-use Prim.Native.Nat.{ℕ, ◌-◌, ◌*◌, ◌≤◌, ◌<◌}
-use native.Mathlib.Omega.{arith}
-use Rattle.std.proofs.Common.{rules}
-use borrow.Author.Tests.{eqb-true, eqb-false, not-true, not-false}
+use Rattle.tables.specs.Rows.{le4, rows}
+use Rattle.tables.specs.Sound.{distinct}
+use Rattle.tables.specs.SoundLaws.{Marked}
 use Rattle.tables.proofs.distinct.numbers_distinct.Given as goal
 
 abbrev pub invariant-loop-k : goal.invariant-loop-k
-invariant-loop-k l = (l.k ≤ l.n) × (length l.seen ≡ length l.initial.seen) × (distinct (drop l.k (map (number_in l.which) (rows l.n l.t))) ≡ true) × Marked (bit_at l.seen) (length l.seen * 8) (drop l.k (map (number_in l.which) (rows l.n l.t)))
-
-abbrev pub decreases-loop-k : goal.decreases-loop-k
-decreases-loop-k l = l.k
+invariant-loop-k g l = record {
+  bytes : length l.seen ≡ g.row.BYTES;
+  behind : distinct (drop l.k (map (λ r. le4 r l.at) (rows l.n l.t))) ≡ true;
+  marked : Marked (bit_at l.seen) (length l.seen * 8) (drop l.k (map (λ r. le4 r l.at) (rows l.n l.t)));
+}

@@ -2,7 +2,6 @@
 use mathlib.Core.Path.{ap}
 use Prim.Native.Nat.{ℕ}
 use lib.Dec.{eqb}
-use Rattle.std.proofs.Common.{rules}
 use Rattle.tables.proofs.find.address_is.Goals as goal
 
 pub returns : goal.returns

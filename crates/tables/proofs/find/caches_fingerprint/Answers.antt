@@ -2,9 +2,7 @@
 use mathlib.Core.Path.{sym, ap, ◌∙◌}
 use mathlib.Core.List.{List}
 use Prim.Native.Nat.{ℕ}
-use borrow.Author.Tests.{not-true, not-false}
 use Rattle.tables.specs.Find.{same}
-use Rattle.std.proofs.Common.{rules}
 use Rattle.tables.proofs.find.caches_fingerprint.Goals as goal
 
 pub returns-then-not-is_used : goal.returns-then-not-is_used

@@ -10,6 +10,3 @@ use Rattle.tables.proofs.find.find_address.Given as goal
 
 abbrev pub invariant-loop-k : goal.invariant-loop-k
 invariant-loop-k l = find_from (has_address l.a.0) 0 (rows l.n l.t) ≡ find_from (has_address l.a.0) l.k (drop l.k (rows l.n l.t))
-
-abbrev pub decreases-loop-k : goal.decreases-loop-k
-decreases-loop-k l = l.n - l.k

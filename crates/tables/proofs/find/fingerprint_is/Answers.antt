@@ -3,7 +3,6 @@ use mathlib.Core.Path.{ap, ◌∙◌}
 use mathlib.Core.List.{List}
 use Prim.Native.Nat.{ℕ}
 use Rattle.tables.specs.Find.{same}
-use Rattle.std.proofs.Common.{rules}
 use Rattle.tables.proofs.find.fingerprint_is.Goals as goal
 
 pub returns : goal.returns

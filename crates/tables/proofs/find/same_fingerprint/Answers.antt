@@ -1,7 +1,6 @@
 -- The first words differ, or all four are compared. Assumes nothing.
 use mathlib.Core.Path.{sym, ◌∙◌}
 use Rattle.tables.proofs.Words.{words-differ}
-use Rattle.std.proofs.Common.{rules}
 use Rattle.tables.proofs.find.same_fingerprint.Goals as goal
 
 pub returns-then-word8 : goal.returns-then-word8

@@ -1,10 +1,9 @@
 use mathlib.Core.Path.{◌≡◌, refl, sym, ap, ◌∙◌, subst}
 use mathlib.Core.List.{List, [], ◌∷◌, ◌++◌, map}
-use Prim.Native.Nat.{ℕ, ◌+◌, ◌-◌, ◌*◌, ◌≤◌, ◌<◌}
+use Prim.Native.Nat.{ℕ, ◌+◌, ◌*◌, ◌≤◌, ◌<◌}
 use native.Mathlib.Omega.{arith}
 use native.Mathlib.Numerals.{add-one}
 use lib.ListN.{length, drop}
-use Rattle.std.proofs.Common.{rules}
 use Rattle.tables.specs.Rows.{rows, flat}
 use Rattle.tables.specs.Records.{block_bytes, free_row, slots_from, block_table, fresh_blocks}
 use Rattle.tables.specs.RowLaws.{flat-all}
@@ -24,7 +23,7 @@ loop-k-preserved c =
     let t : List ℕ = c.loop-k.t in
     let row : List ℕ = c.free-free.result in
     let rest : List ℕ = drop (k * 40 + 40) t in
-    let h : k < a.d = c.loop-k-test.true in
+    let h : k < a.d = (omega arith) in
     let lt : length t ≡ length a.t.now = c.loop-k.invariant.1 in
     let g : k * 40 + 40 ≤ length t = omega (arith, c.requires.0) in
     let lr : length row ≡ 40 = ap length c.free-free.ensures ∙ free-length k in

@@ -10,6 +10,3 @@ use Rattle.tables.proofs.moves.move_down.Given as goal
 
 abbrev pub invariant-loop-k : goal.invariant-loop-k
 invariant-loop-k l = (l.k ≤ l.count) × (l.t ≡ paste l.initial.t l.to (drop l.from l.initial.t) l.k) × (length l.t ≡ length l.initial.t)
-
-abbrev pub decreases-loop-k : goal.decreases-loop-k
-decreases-loop-k l = l.count - l.k

@@ -20,7 +20,7 @@ loop-k-preserved c =
     let v : get_or t (a.from + (k - 1)) 0 ≡ get_or d (a.from + (k - 1)) 0 =
     rw (inv.1, get_d-paste-before d (a.to + k) (drop (a.from + k) d) (a.count - k) (a.from + (k - 1)) 0 (omega arith) (omega arith)) in (
       omega arith,
-      paste-turn-down d a.to a.from k a.count 0 (get_or t (a.from + (k - 1)) 0) inv.1 v c.loop-k-test.true (omega arith) (omega arith) (omega arith),
+      paste-turn-down d a.to a.from k a.count 0 (get_or t (a.from + (k - 1)) 0) inv.1 v (omega arith) (omega arith) (omega arith) (omega arith),
       simp length-set inv.2,
     )
 

@@ -10,6 +10,3 @@ use Rattle.tables.proofs.moves.move_up.Given as goal
 
 abbrev pub invariant-loop-k : goal.invariant-loop-k
 invariant-loop-k l = (l.k ≤ l.count) × (l.t ≡ paste l.initial.t (l.to + l.k) (drop (l.from + l.k) l.initial.t) (l.count - l.k)) × (length l.t ≡ length l.initial.t)
-
-abbrev pub decreases-loop-k : goal.decreases-loop-k
-decreases-loop-k l = l.k

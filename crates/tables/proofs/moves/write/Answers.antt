@@ -15,7 +15,7 @@ loop-k-preserved c =
     let a = c.args in
     let k = c.loop-k.k in
     let inv = c.loop-k.invariant in
-    (omega arith, paste-turn a.t.now a.to a.src.now k 0 _ inv.1 refl (omega arith) c.loop-k-test.true, simp length-set inv.2)
+    (omega arith, paste-turn a.t.now a.to a.src.now k 0 _ inv.1 refl (omega arith) (omega arith), simp length-set inv.2)
 
 pub returns : goal.returns
 returns c =

@@ -10,6 +10,3 @@ use Rattle.tables.proofs.moves.write.Given as goal
 
 abbrev pub invariant-loop-k : goal.invariant-loop-k
 invariant-loop-k l = (l.k ≤ length l.src) × (l.t ≡ paste l.initial.t l.to l.src l.k) × (length l.t ≡ length l.initial.t)
-
-abbrev pub decreases-loop-k : goal.decreases-loop-k
-decreases-loop-k l = length l.src - l.k

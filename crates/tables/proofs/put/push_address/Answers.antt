@@ -3,7 +3,6 @@ use Rattle.tables.specs.Operations.{row_added}
 use Prim.Native.Nat.{ℕ}
 use mathlib.Core.Path.{ap, ◌∙◌}
 use mathlib.Core.List.{List}
-use Rattle.std.proofs.Common.{rules}
 use Rattle.tables.proofs.put.push_address.Goals as goal
 
 pub returns : goal.returns

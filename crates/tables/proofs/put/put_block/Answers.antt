@@ -7,7 +7,6 @@ use Rattle.tables.specs.Rows.{rows, flat, remove_at}
 use Rattle.tables.specs.RowLaws.{rows_at}
 use Rattle.tables.specs.ShiftLaws.{replaced-all}
 use Rattle.tables.specs.Operations.{filled, row_filled}
-use Rattle.std.proofs.Common.{rules}
 use Rattle.tables.proofs.put.put_block.Goals as goal
 
 pub returns : goal.returns

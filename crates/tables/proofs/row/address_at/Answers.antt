@@ -3,7 +3,6 @@ use mathlib.Core.Path.{sym, ◌∙◌}
 use native.Mathlib.Nat.{add-zero}
 use native.Mathlib.Omega.{arith}
 use Rattle.tables.specs.RowLaws.{le4-row_at}
-use Rattle.std.proofs.Common.{rules}
 use Rattle.tables.specs.Records.{read_address}
 use Rattle.tables.proofs.row.address_at.Goals as goal
 

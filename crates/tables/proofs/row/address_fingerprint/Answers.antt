@@ -3,7 +3,6 @@ use Prim.Native.Nat.{ℕ, ◌+◌, ◌-◌, ◌*◌}
 use mathlib.Core.Path.{◌≡◌, sym, ap, ◌∙◌}
 use native.Mathlib.Omega.{arith}
 use lib.ListN.{length, take, drop}
-use Rattle.std.proofs.Common.{rules}
 use Rattle.tables.specs.RowLaws.{part-row_at, length_part}
 use Rattle.tables.specs.Records.{read_address}
 use Rattle.tables.proofs.row.address_fingerprint.Goals as goal

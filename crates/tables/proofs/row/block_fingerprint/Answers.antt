@@ -2,7 +2,6 @@
 use Prim.Native.Nat.{◌+◌, ◌-◌, ◌*◌}
 use mathlib.Core.Path.{◌≡◌}
 use native.Mathlib.Omega.{arith}
-use Rattle.std.proofs.Common.{rules}
 use Rattle.tables.specs.RowLaws.{part-fp, length_part}
 use Rattle.tables.specs.Records.{read_block}
 use Rattle.tables.proofs.row.block_fingerprint.Goals as goal

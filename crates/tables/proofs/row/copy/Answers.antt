@@ -2,7 +2,6 @@
 use mathlib.Core.Path.{refl, ◌∙◌}
 use Rattle.tables.specs.Rows.{zeros}
 use Rattle.tables.specs.ShiftLaws.{pasted-whole}
-use Rattle.std.proofs.Common.{rules}
 use Rattle.tables.proofs.row.copy.Goals as goal
 
 pub returns : goal.returns

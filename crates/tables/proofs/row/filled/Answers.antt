@@ -8,7 +8,6 @@ use mathlib.Core.List.{List}
 use native.Mathlib.Omega.{arith}
 use lib.ListN.{length, set}
 use lib.Seq.{paste}
-use Rattle.std.proofs.Common.{rules}
 use Rattle.tables.proofs.row.filled.Goals as goal
 
 pub returns : goal.returns

@@ -7,7 +7,6 @@ use lib.Seq.{paste}
 use Rattle.tables.specs.Rows.{zeros, row_at}
 use Rattle.tables.specs.RowLaws.{length_part}
 use Rattle.tables.specs.ShiftLaws.{cleared}
-use Rattle.std.proofs.Common.{rules}
 use Rattle.tables.proofs.row.freed.Goals as goal
 
 pub returns : goal.returns

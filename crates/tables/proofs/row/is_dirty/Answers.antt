@@ -1,7 +1,6 @@
 -- The byte is that of the row. Assumes nothing.
 use native.Mathlib.Omega.{arith}
 use Rattle.tables.specs.RowLaws.{get_d-row_at}
-use Rattle.std.proofs.Common.{rules}
 use Rattle.tables.specs.Records.{read_address}
 use Rattle.tables.proofs.row.is_dirty.Goals as goal
 

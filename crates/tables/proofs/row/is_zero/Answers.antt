@@ -3,7 +3,6 @@ use mathlib.Core.Path.{ap, ◌∙◌}
 use Rattle.tables.specs.Find.{all}
 use Rattle.tables.specs.Sound.{is_zero}
 use Rattle.tables.proofs.Zeros.{zero_row_lem}
-use Rattle.std.proofs.Common.{rules}
 use Rattle.tables.proofs.row.is_zero.Goals as goal
 
 pub returns : goal.returns

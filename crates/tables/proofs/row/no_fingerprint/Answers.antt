@@ -3,7 +3,6 @@ use mathlib.Core.Path.{ap, ◌∙◌}
 use Rattle.tables.specs.Find.{all}
 use Rattle.tables.specs.Sound.{is_zero}
 use Rattle.tables.proofs.Zeros.{zero-print}
-use Rattle.std.proofs.Common.{rules}
 use Rattle.tables.proofs.row.no_fingerprint.Goals as goal
 
 pub returns : goal.returns

@@ -4,7 +4,6 @@ use mathlib.Core.Path.{◌≡◌, ap, ◌∙◌}
 use native.Mathlib.Omega.{arith}
 use lib.ListN.{length, take, drop}
 use Rattle.tables.specs.RowLaws.{length_part}
-use Rattle.std.proofs.Common.{rules}
 use Rattle.tables.proofs.row.part.Goals as goal
 
 pub returns : goal.returns

@@ -1,26 +1,19 @@
--- The two bytes are those of the row, and a number's digits: `two_bytes`. Assumes nothing.
-use mathlib.Core.Path.{◌≡◌, sym, ◌∙◌}
-use Prim.Native.Nat.{ℕ, ◌+◌, ◌*◌, ◌/◌, ◌%◌, ◌<◌}
-use native.Mathlib.Nat.{mod-eq_of_lt}
-use lib.Arith.{digits_div, digits_mod}
-use native.Mathlib.Omega.{arith}
+-- The two bytes are those of the row, and a number's digits. Assumes nothing.
+use Rattle.std.specs.Prelude.{◌≡◌, ℕ, ◌+◌, ◌*◌, ◌/◌, ◌%◌, ◌<◌}
+use Rattle.std.proofs.Common.{arith, sym, ◌∙◌}
 use Rattle.tables.specs.Records.{read_address}
 use Rattle.tables.specs.RowLaws.{get_d-row_at}
-use Rattle.std.proofs.Common.{rules}
 use Rattle.tables.proofs.row.seat_at.Goals as goal
 
-two_bytes : (x y : ℕ) → x < 256 → y < 256 → ((x + 256 * y) % 256 ≡ x) × ((x + 256 * y) / 256 % 256 ≡ y)
-two_bytes x y hx hy =
-    let n : x + 256 * y ≡ y * 256 + x = omega arith in
-    (rw n (digits_mod y hx), rw (n, digits_div y hx) (mod-eq_of_lt hy))
+two_bytes : (z x y : ℕ) → x < 256 → y < 256 → z ≡ x + y * 256 → (z % 256 ≡ x) × (z / 256 % 256 ≡ y)
+two_bytes z x y hx hy e = (omega arith, omega arith)
 
 pub returns : goal.returns
 unfolding read_address
 returns c =
     let a = c.args in
-    let p = c.byte_at-low.ensures in
-    let q = c.byte_at-high.ensures in
-    let z = two_bytes c.byte_at-low.result c.byte_at-high.result p.1 q.1 in
-    let low = z.0 ∙ p.0 ∙ sym (get_d-row_at a.t.now a.k 37 (omega arith)) in
-    let high = z.1 ∙ q.0 ∙ sym (get_d-row_at a.t.now a.k 38 (omega arith)) in
+    let t = a.t.now in
+    let z = two_bytes _ _ _ (omega (arith, c.type_inv.t (a.k * 40 + 37))) (omega (arith, c.type_inv.t (a.k * 40 + 38))) c.from_le_bytes.ensures in
+    let low = z.0 ∙ sym (get_d-row_at t a.k 37 (omega arith)) in
+    let high = z.1 ∙ sym (get_d-row_at t a.k 38 (omega arith)) in
     λ i. (low i, high i)

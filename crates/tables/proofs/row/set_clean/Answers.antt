@@ -1,6 +1,5 @@
 -- The dirty byte of row k is written. Assumes nothing.
 use mathlib.Core.Path.{refl}
-use Rattle.std.proofs.Common.{rules}
 use Rattle.tables.specs.Operations.{row_cleaned}
 use Rattle.tables.proofs.row.set_clean.Goals as goal
 

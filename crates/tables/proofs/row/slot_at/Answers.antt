@@ -2,7 +2,6 @@
 use mathlib.Core.Path.{sym, ◌∙◌}
 use native.Mathlib.Omega.{arith}
 use Rattle.tables.specs.RowLaws.{le4-row_at}
-use Rattle.std.proofs.Common.{rules}
 use Rattle.tables.specs.Records.{read_block}
 use Rattle.tables.proofs.row.slot_at.Goals as goal
 

@@ -1,10 +1,8 @@
 -- The four bytes are those of the row, and a number of at most 1 has no other digits: `tail-number`. Assumes nothing.
 use mathlib.Core.Path.{ap, ◌∙◌}
 use lib.Dec.{leb}
-use native.Mathlib.Omega.{arith}
 use Prim.Native.Nat.{ℕ}
 use Rattle.tables.specs.SoundLaws.{tail-number}
-use Rattle.std.proofs.Common.{rules}
 use Rattle.tables.proofs.row.tail_ok.Goals as goal
 
 pub returns : goal.returns

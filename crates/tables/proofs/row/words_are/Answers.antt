@@ -1,5 +1,4 @@
 -- The four words are read. Assumes nothing.
-use Rattle.std.proofs.Common.{rules}
 use Rattle.tables.proofs.row.words_are.Goals as goal
 
 pub returns : goal.returns

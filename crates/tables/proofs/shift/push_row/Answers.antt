@@ -2,7 +2,6 @@
 use Rattle.tables.specs.ShiftLaws.{pushed}
 use mathlib.Core.Path.{◌∙◌}
 use native.Mathlib.Omega.{arith}
-use Rattle.std.proofs.Common.{rules}
 use Rattle.tables.proofs.shift.push_row.Goals as goal
 
 pub returns : goal.returns

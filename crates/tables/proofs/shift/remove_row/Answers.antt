@@ -1,5 +1,4 @@
 -- The row that becomes the last is zero. Assumes nothing.
-use Rattle.std.proofs.Common.{rules}
 use Rattle.tables.specs.Rows.{zeros}
 use Rattle.tables.specs.Operations.{row_out}
 use Rattle.tables.proofs.shift.remove_row.Goals as goal

@@ -5,7 +5,6 @@ use mathlib.Core.List.{List}
 use native.Mathlib.Omega.{arith}
 use lib.Seq.{paste}
 use Rattle.tables.specs.ShiftLaws.{replaced}
-use Rattle.std.proofs.Common.{rules}
 use Rattle.tables.proofs.shift.replace.Goals as goal
 
 pub returns : goal.returns

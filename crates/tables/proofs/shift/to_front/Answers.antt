@@ -9,7 +9,6 @@ use Rattle.tables.specs.Rows.{row_at}
 use Rattle.tables.specs.RowLaws.{length_part}
 use Rattle.tables.specs.ShiftLaws.{fronted, length-freed}
 use Rattle.tables.specs.Operations.{freed_row}
-use Rattle.std.proofs.Common.{rules}
 use Rattle.tables.proofs.shift.to_front.Goals as goal
 
 pub returns : goal.returns

@@ -7,7 +7,6 @@ use Rattle.tables.specs.Rows.{rows, flat, remove_at}
 use Rattle.tables.specs.RowLaws.{rows_at}
 use Rattle.tables.specs.ShiftLaws.{replaced-all}
 use Rattle.tables.specs.Operations.{row_newest}
-use Rattle.std.proofs.Common.{rules}
 use Rattle.tables.proofs.shift.to_newest.Goals as goal
 
 pub returns : goal.returns

@@ -1,62 +1,29 @@
--- Where the tables pass, the rows but the newest are asked; no row is the newest of none. Assumes nothing.
-use mathlib.Core.Path.{◌≡◌, sym, ◌∙◌}
-use Prim.Native.Nat.{ℕ, ◌-◌}
-use native.Mathlib.Omega.{arith}
-use borrow.Author.Tests.{eq-eqb, ne_eqb}
+-- No row is the newest of none. Assumes nothing.
+use Rattle.std.proofs.Common.{◌≡◌, ℕ, Bool, true, false, List, refl, arith}
+use Rattle.std.proofs.lemmas.Grind.{common_steps}
+use mir.Val.{bool_byte}
 use Rattle.tables.specs.Rows.{rows}
 use Rattle.tables.specs.Find.{all}
-use Rattle.table_laws.specs.Promises.{Passed, passed}
-use Rattle.tables_probe.specs.Probe.{refused, if_sound}
-use lib.ListN.{length-replicate}
-use Rattle.tables.specs.SoundLaws.{filled-with}
-use Rattle.std.proofs.Common.{rules}
+use Rattle.tables.specs.Sound.{mark}
+use Rattle.tables.specs.Index.{cached_in}
+use Rattle.tables_probe.specs.Probe.{if_sound}
+use Rattle.tables_probe.proofs.Answers.{blank}
 use Rattle.tables_probe.proofs.asked.tables_probe_some_uncached.Goals as goal
-use Rattle.tables_probe.proofs.asked.tables_probe_some_uncached.Goals.{After-tables_refused-number, Else-number-ne0}
 
-number_is : (c : After-tables_refused-number) → (let a = c.args in c.tables_refused-number.result ≡ refused a.p a.m a.n a.d a.addresses.now a.blocks.now)
-unfolding refused
-number_is c = c.tables_refused-number.ensures.value
+-- of none, all are cached
+none-held : (p : List ℕ → Bool) (t : List ℕ) (n : ℕ) → n ≡ 0 → all p (rows n t) ≡ true
+unfolding rows all
+none-held p t n e = rw e refl
 
-parts : (c : Else-number-ne0) → (let a = c.args in Passed a.p a.m a.n a.d a.addresses.now a.blocks.now)
-parts c =
-    let a = c.args in
-    passed a.p a.m a.n a.d a.addresses.now a.blocks.now (sym c.tables_refused-number.ensures.value ∙ c.if-number-ne0.false)
+is-mark : (b : Bool) → bool_byte b ≡ mark b
+is-mark true = refl
+is-mark false = refl
 
-pub tables_refused-number-requires : goal.tables_refused-number-requires
-tables_refused-number-requires c = (length-replicate {A = ℕ} 4353 0, filled-with 4353 0)
-
-pub returns-then-number-ne0 : goal.returns-then-number-ne0
-unfolding if_sound refused
-returns-then-number-ne0 c =
-    let number_is : (let a = c.args in c.tables_refused-number.result ≡ refused a.p a.m a.n a.d a.addresses.now a.blocks.now) = c.tables_refused-number.ensures.value in
-    rw (← number_is, ne_eqb _ _ c.if-number-ne0.true)
-
-pub returns-then-n-eq0 : goal.returns-then-n-eq0
-unfolding if_sound rows all refused
-returns-then-n-eq0 c =
-    let number_is : (let a = c.args in c.tables_refused-number.result ≡ refused a.p a.m a.n a.d a.addresses.now a.blocks.now) = c.tables_refused-number.ensures.value in
-    let z : c.args.n - 1 ≡ 0 = omega arith in
-    rw (← number_is, eq-eqb _ _ c.if-number-ne0.false, z)
-
-pub all_cached-requires : goal.all_cached-requires
-all_cached-requires c =
-    let parts : (let a = c.args in Passed a.p a.m a.n a.d a.addresses.now a.blocks.now) =
-    let a = c.args in
-    passed a.p a.m a.n a.d a.addresses.now a.blocks.now (sym c.tables_refused-number.ensures.value ∙ c.if-number-ne0.false) in
-    let p = parts in
-    record {
-      has_rows = (omega (arith, p.held, p.sized), (omega (arith, p.sized-blocks), p.few));
-      indexed = c.tables_refused-number.ensures.indexed c.if-number-ne0.false;
-    }
-
-pub returns-then-all_cached : goal.returns-then-all_cached
-unfolding if_sound refused
-returns-then-all_cached c =
-    let number_is : (let a = c.args in c.tables_refused-number.result ≡ refused a.p a.m a.n a.d a.addresses.now a.blocks.now) = c.tables_refused-number.ensures.value in
-    rw (← number_is, eq-eqb _ _ c.if-number-ne0.false, sym c.all_cached.ensures ∙ c.if-all_cached.true)
+pub passed-requires : goal.passed-requires
+passed-requires c = blank
 
 pub returns : goal.returns
-unfolding if_sound refused
+unfolding if_sound
 returns c =
-    let number_is : (let a = c.args in c.tables_refused-number.result ≡ refused a.p a.m a.n a.d a.addresses.now a.blocks.now) = c.tables_refused-number.ensures.value in
-    rw (← number_is, eq-eqb _ _ c.if-number-ne0.false, sym c.all_cached.ensures ∙ c.if-all_cached.false)
+    let a = c.args in
+    grind (arith, common_steps, is-mark c.if-n-ne0.from, none-held (cached_in (rows a.d a.blocks.now)) a.addresses.now)

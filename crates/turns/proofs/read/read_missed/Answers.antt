@@ -8,7 +8,6 @@ use Rattle.tables.specs.SoundLaws.{filled-with}
 use Rattle.paper.specs.Cache.{read_as}
 use Rattle.parts.specs.Rep.{engine}
 use Rattle.serve.specs.Calls.{leaves}
-use Rattle.std.proofs.Common.{rules}
 use Rattle.turns.proofs.read.read_missed.Goals as goal
 
 pub index_rows-requires : goal.index_rows-requires
@@ -17,14 +16,6 @@ index_rows-requires c =
     record {
       blank = (length-replicate {A = ℕ} 4353 0, filled-with 4353 0);
       by_index = (a.disk.now, a.flash.now, a.addrs.now, c.requires.lent_sound);
-    }
-
-pub read_miss-requires : goal.read_miss-requires
-read_miss-requires c =
-    record {
-      access = c.requires.access;
-      lent_sound = c.requires.lent_sound;
-      indexed = c.index_rows.ensures;
     }
 
 pub returns-then-first : goal.returns-then-first
@@ -37,14 +28,6 @@ returns-then-first c =
           w.ensures.block_after s lent h sd
           ∙ ap (λ t. leaves a.b lent (read_as (engine a.b) a.b.rows s a.a.0
           (cond t (get_or s.disk a.a.0 (engine a.b).blank) x) none)) (sym c.if-first.true);
-    }
-
-pub read_taken-requires : goal.read_taken-requires
-read_taken-requires c =
-    record {
-      access = c.requires.access;
-      lent_sound = c.requires.lent_sound;
-      indexed = c.index_rows.ensures;
     }
 
 pub returns : goal.returns

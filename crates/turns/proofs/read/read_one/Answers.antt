@@ -6,7 +6,6 @@ use Rattle.paper.specs.Cache.{read_as}
 use Rattle.parts.specs.Rep.{engine}
 use Rattle.serve.specs.Calls.{leaves}
 use Rattle.serve.specs.ServeLaws.{found-hit, found-miss}
-use Rattle.std.proofs.Common.{rules}
 use Rattle.turns.proofs.read.read_one.Goals as goal
 
 pub read_hit-requires : goal.read_hit-requires

@@ -1,9 +1,0 @@
--- Three numbers written one after the other. Assumes nothing.
-use Rattle.std.proofs.Common.{rules}
-use Rattle.fields.specs.Fields.{put8, put_answer}
-use Rattle.fields.proofs.put_answer.Goals as goal
-
-pub returns : goal.returns
-unfolding put_answer put8
-returns c =
-    rw (c.put8-3.ensures, c.put8-2.ensures, c.put8.ensures)

@@ -1,7 +1,0 @@
--- The part is the word. Assumes nothing.
-use mathlib.Core.Path.{◌∙◌}
-use Rattle.lines.proofs.numbers.decimal_at.Goals as goal
-
-pub returns : goal.returns
-returns c =
-    rw (c.start-from.ensures.1 ∙ c.end-to.ensures.2) c.decimal.ensures

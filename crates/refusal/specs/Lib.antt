@@ -1,0 +1,2 @@
+-- the number of each refusal
+pub mod Numbers
