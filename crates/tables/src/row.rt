@@ -37,14 +37,6 @@ const SEAT_HIGH: usize = 38;
 // The last byte of a row, which is zero.
 const LAST: usize = 39;
 
-// The byte at index `at`.
-pub fn byte_at(t: &[u8], at: usize) -> u32
-    requires { at < length t.now }
-    ensures { (result ≡ get_or t.now at 0) × (result < 256) }
-{
-    u32::from(t[at])
-}
-
 // The four bytes from index `at` on, little-endian.
 pub fn word_at(t: &[u8], at: usize) -> u32
     requires { at + 4 ≤ length t.now }
