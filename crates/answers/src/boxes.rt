@@ -1,4 +1,4 @@
-// The box of line 1.
+// The box of line 1. The casts are of u32, and std has no `From<u32>` for usize: `usize::from` isn't there.
 ghost use Rattle.std.specs.Prelude.{◌≡◌, ◌≤◌};
 ghost use Rattle.parts.specs.Rep.{numbers_of};
 ghost use Rattle.refusal.specs.Numbers.{number_of};

@@ -24,6 +24,7 @@ fn fill_disk(disk: &mut [u8], size: usize, blocks: usize)
     for k in 0..blocks {
         let at = k * size;
         let end = at + size;
+        // The contract has `k` below 256, so the cast keeps it; `u8::from` of a usize isn't there.
         fill(&mut disk[at..end], k as u8);
     }
 }

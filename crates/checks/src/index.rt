@@ -100,6 +100,7 @@ pub(crate) fn put_row(t: &[u8], d: usize, heads: &mut [u16], k: usize) -> bool
 // Whether more than eight of the first `d` rows that are used are of one bucket by the bytes `c` and `c + 1`.
 pub(crate) fn is_crowded(t: &[u8], d: usize, c: u16) -> bool
     requires { HasRows t.now d × (c + 2 ≤ 32) }
+    ensures { result ≡ true → 8 < d }
 {
     let mut counts = [0u8; 4096];
     for k in 0..d {

@@ -72,6 +72,7 @@ pub fn decimal_at(line: &[u8], k: usize) -> Option<u32>
 }
 
 // The two hexadecimal digits that are word number `k`.
+// It differs from `decimal_at` in the last line alone; one function over the function called there, with its contract, would be no shorter than the two.
 pub fn hexadecimal_at(line: &[u8], k: usize) -> Option<u8>
     ensures value { result ≡ byte (get_or (words_of line.now) k []) }
     ensures upper_bound { IfSome result (λ n. n < 256) }

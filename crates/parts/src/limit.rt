@@ -7,6 +7,7 @@ use crate::BoxRecord;
 use tables::row;
 
 // The index of the oldest dirty row, if more rows are dirty than the limit; else the count of rows held.
+// It is that count and no `None`: `excess_row`, of specs/Limit.antt, gives a number, as the paper's `index_where` does.
 pub fn excess_row(b: BoxRecord, addrs: &[u8]) -> usize
     requires { table_bytes b.held ≤ length addrs.now }
     ensures { result ≡ excess_row b addrs.now }

@@ -16,6 +16,7 @@ use crate::BoxRecord;
 use tables::{SourceAddress, find, row};
 
 // The index of the row of `a` among `n` held rows.
+// Where there is none, it is `n` and no `None`: `index_where`, of the paper's specs, is then the count of rows.
 pub fn row_of(t: &[u8], n: usize, a: SourceAddress) -> usize
     requires { table_bytes n ≤ length t.now }
     ensures value { result ≡ unwrap_or (find_from (has_address a.0) 0 (rows n t.now)) n }
@@ -36,6 +37,7 @@ pub fn knows(t: &[u8], n: usize, g: &[u8]) -> bool
 }
 
 // The place of the used row of `g` among `d` block rows.
+// Where there is none, it is `d` and no `None`: `index_where`, of the paper's specs, is then the count of used rows, behind the free ones.
 pub fn place_of(t: &[u8], d: usize, g: &[u8]) -> usize
     requires { (table_bytes d ≤ length t.now) × (length g.now ≡ 32) }
     ensures value { result ≡ unwrap_or (find_from (caches g.now) 0 (rows d t.now)) d }
@@ -57,6 +59,7 @@ pub fn uncached(addrs: &[u8], k: usize, blocks: &[u8], d: usize, heads: &[u16]) 
 }
 
 // The place of the first of `d` used block rows whose fingerprint none of `n` held rows has.
+// Where there is none, it is `d` and no `None`: `index_where`, of the paper's specs, is then the count of used rows.
 pub(crate) fn unknown_place(addrs: &[u8], n: usize, blocks: &[u8], d: usize, heads: &[u16]) -> usize
     requires blocks_len { (length blocks.now ≡ table_bytes d) × (d ≤ 256) × (table_bytes n ≤ length addrs.now) }
     requires blocks_value { every unique (rows d blocks.now) ≡ true }
@@ -69,6 +72,7 @@ pub(crate) fn unknown_place(addrs: &[u8], n: usize, blocks: &[u8], d: usize, hea
 }
 
 // The place of the block row that step 4 takes.
+// Where an address row has each used row's fingerprint, it is 0: `victim_place` and its `or_first`, of specs/Asked.antt, give that.
 pub fn victim(addrs: &[u8], n: usize, blocks: &[u8], d: usize, heads: &[u16]) -> usize
     requires blocks_len { (length blocks.now ≡ table_bytes d) × (0 < d) × (d ≤ 256) × (table_bytes n ≤ length addrs.now) }
     requires blocks_value { every unique (rows d blocks.now) ≡ true }
@@ -108,6 +112,7 @@ pub fn dirty_at(t: &[u8], i: usize) -> u8
 }
 
 // The place of the block row of row `i`'s fingerprint, the count of block rows where there is no row `i` or it is not cached.
+// It is that count and no `None`, as in `place_of`: the contract's `index_where`, of the paper's specs, gives a number.
 pub fn place_of_row(b: BoxRecord, i: usize, addrs: &[u8], blocks: &[u8]) -> usize
     requires { Sized b addrs.now blocks.now }
     ensures value { result ≡ cond (ltb i b.held) (unwrap_or (find_from (caches (read_address (row_at addrs.now i)).fingerprint) 0

@@ -6,6 +6,7 @@ use parts::BoxRecord;
 use tables::row;
 
 // Whether the buffers have their lengths.
+#[tactic(auto, unfolding(session::specs::Memory::lengths_fit))]
 pub fn lengths_fit(
     line: usize,
     disk: usize,
@@ -16,42 +17,23 @@ pub fn lengths_fit(
 ) -> bool
     ensures { result ≡ lengths_fit line disk flash addresses blocks out }
 {
-    if line != 33 {
-        return false;
-    }
-    if disk != 16384 {
-        return false;
-    }
-    if flash != 16384 {
-        return false;
-    }
-    if addresses != 1024 * row::BYTES {
-        return false;
-    }
-    if blocks != 256 * row::BYTES {
-        return false;
-    }
-    out == 256
+    line == 33
+        && disk == 16384
+        && flash == 16384
+        && addresses == 1024 * row::BYTES
+        && blocks == 256 * row::BYTES
+        && out == 256
 }
 
 // Whether the buffers hold a box of these numbers.
+#[tactic(auto, unfolding(session::specs::Memory::numbers_fit))]
 pub fn numbers_fit(b: BoxRecord) -> bool
     ensures { result ≡ numbers_fit b }
 {
-    if 4096 < b.size {
-        return false;
-    }
-    if 256 < b.blocks {
-        return false;
-    }
-    if 1024 < b.rows {
-        return false;
-    }
-    if 256 < b.slots {
-        return false;
-    }
-    if 16384 < b.blocks * b.size {
-        return false;
-    }
-    b.slots * b.size <= 16384
+    b.size <= 4096
+        && b.blocks <= 256
+        && b.rows <= 1024
+        && b.slots <= 256
+        && b.blocks * b.size <= 16384
+        && b.slots * b.size <= 16384
 }

@@ -34,19 +34,11 @@ pub(crate) fn all_zero(t: &[u8]) -> bool
 pub(crate) fn no_image(area: &[u8]) -> bool
     ensures { result ≡ no_image area.now }
 {
-    if area.len() < 64 {
-        return true;
-    }
-    if !area::has_mark(area) {
-        return true;
-    }
-    if area[3] != 1 {
-        return true;
-    }
-    if area[4] != 0 {
-        return true;
-    }
-    !all_zero(&area[9..64])
+    area.len() < 64
+        || !area::has_mark(area)
+        || area[3] != 1
+        || area[4] != 0
+        || !all_zero(&area[9..64])
 }
 
 // 14: whether the area is too short for a header and a body of `n` bytes with its fill.
@@ -221,13 +213,7 @@ pub(crate) fn found_in(body: &[u8]) -> Found
 pub(crate) fn wrong_tables(f: Found, addresses: usize, blocks: usize, lists: usize) -> bool
     ensures { result ≡ other_lengths f addresses blocks lists }
 {
-    if addresses != f.addresses {
-        return true;
-    }
-    if blocks != f.blocks {
-        return true;
-    }
-    lists != f.lists
+    addresses != f.addresses || blocks != f.blocks || lists != f.lists
 }
 
 // Copies the tables and the lists that were found in a body into those lent.

@@ -1,5 +1,6 @@
 // The service that C calls: numbers and byte slices. Each call reads the box record and the counters in the state's bytes,
 // does the cache's call, and writes what it tells into the state and the answer.
+// The exported functions give refusal numbers, as the C interface says; for its sake disk, flash, addresses and blocks are separate parameters.
 #![tactic(auto)]
 
 pub mod warm;

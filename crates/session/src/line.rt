@@ -147,7 +147,7 @@ pub fn later(
         session: Session {
             stage: Stage::Open,
             kept: 0,
-            number: std::num::wrapping_add_u64(s.number, 1),
+            number: s.number.wrapping_add(1),
             box_record: x.box_record,
             counters: x.counters,
         },

@@ -37,14 +37,6 @@ const SEAT_HIGH: usize = 38;
 // The last byte of a row, which is zero.
 const LAST: usize = 39;
 
-// The byte at index `at`.
-pub fn byte_at(t: &[u8], at: usize) -> u32
-    requires { at < length t.now }
-    ensures { (result ≡ get_or t.now at 0) × (result < 256) }
-{
-    u32::from(t[at])
-}
-
 // The four bytes from index `at` on, little-endian.
 pub fn word_at(t: &[u8], at: usize) -> u32
     requires { at + 4 ≤ length t.now }
@@ -54,7 +46,7 @@ pub fn word_at(t: &[u8], at: usize) -> u32
 }
 
 // The eight bytes from index `at` on, little-endian.
-pub(crate) fn word8(t: &[u8], at: usize) -> u64
+pub fn word8(t: &[u8], at: usize) -> u64
     requires { at + 8 ≤ length t.now }
     ensures { result ≡ le8 t.now at }
 {
@@ -116,6 +108,7 @@ pub fn seat_at(t: &[u8], k: usize) -> u16
 }
 
 // The fingerprint in row `k` of a block table, as a part of it.
+// It stands beside `part`: that is all 40 bytes of the row, this the first 32 of them, and each has a contract of its own.
 pub fn block_fingerprint<'a>(t: &'a [u8], k: usize) -> &'a [u8]
     requires { HasRow t.now k }
     ensures { (result.now ≡ (read_block (row_at t.now k)).fingerprint) × IsPrint result.now }
@@ -179,6 +172,7 @@ pub fn is_zero(t: &[u8], k: usize) -> bool
 }
 
 // Whether row `k` of a block table has a fingerprint of zeros.
+// It stands beside `is_zero`: that looks at the row's 40 bytes, this at the first 32 of them. What both do is in `words_are`.
 pub fn no_fingerprint(t: &[u8], k: usize) -> bool
     requires { HasRow t.now k }
     ensures { result ≡ all is_zero (read_block (row_at t.now k)).fingerprint }
