@@ -1,5 +1,5 @@
 -- A look, from where its block is found. Assumes nothing.
-use Rattle.std.specs.Prelude.{◌≡◌, ⊥, cond, List, ℕ, ◌≤◌, ◌<◌, ◌+◌, ◌*◌, eqb, ltb, length, get_or, Result, Ok, Err}
+use Rattle.std.specs.Prelude.{◌≡◌, cond, List, ℕ, ◌≤◌, ◌<◌, ◌+◌, ◌*◌, eqb, ltb, length, get_or, Result, Ok, Err}
 use Rattle.std.proofs.Math.Path.{refl}
 use Rattle.std.proofs.Common.{sym, ap, ◌∙◌}
 use borrow.Author.Tests.{eqb-true, eqb-false, ne_eqb}
