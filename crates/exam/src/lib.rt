@@ -101,10 +101,10 @@ pub(crate) fn counts(b: BoxRecord, disk: &[u8], k: usize) -> [u64; 9]
 }
 
 // The nine counts that a question tells: zeros where it was refused.
-pub fn told_counts(told: &Result<[u64; 9], Refusal>) -> [u64; 9]
-    ensures { result ≡ (told told.now).counts }
+pub fn told_counts(answer: &Result<[u64; 9], Refusal>) -> [u64; 9]
+    ensures { result ≡ (told answer.now).counts }
 {
-    match told {
+    match answer {
         Ok(counts) => *counts,
         Err(_) => [0; 9],
     }
