@@ -1,6 +1,5 @@
 -- By the list that the address was in. Assumes nothing.
-use Rattle.arc.specs.Arc.{new_p}
-use Rattle.arclists.specs.declared.ListName.TheVariants.{T1, T2, B1, B2, B3}
+use Rattle.arclists.specs.declared.ListName.TheVariants.{B1, B2}
 use Rattle.arclists.specs.AdaptLaws.{up, down, as-told-in}
 use Rattle.arclists.proofs.adapt.new_p.Goals as goal
 
