@@ -28,9 +28,13 @@ use Rattle.arccalls.specs.Contract.{arc_where}
 use Rattle.arccalls.specs.BaseLaws.{base-zero, look-keeps, call-base}
 
 module _ (Z : Sizes) (t : ArcLent) (a : ℕ) where
-  pub place-refused : (r : Refusal) → code r ≡ arc_refusal Z t (calling (Ask.look a)) → Err (code r) ≡ arc_where Z t a
+  pub place-refused : (number : ℕ) → number ≡ arc_refusal Z t (calling (Ask.look a)) → (number ≡ 0 → ⊥) → Err number ≡ arc_where Z t a
   unfolding arc_where
-  place-refused r e = rw (ne_eqb (arc_refusal Z t (calling (Ask.look a))) 0 (λ z. refused r (e ∙ z))) (ap (λ (x : ℕ). Err x) e)
+  place-refused number e n = rw (ne_eqb (arc_refusal Z t (calling (Ask.look a))) 0 (λ z. n (e ∙ z))) (ap (λ (x : ℕ). Err x) e)
+
+  -- the same by the code's refusal
+  pub place-told : (r : Refusal) → code r ≡ arc_refusal Z t (calling (Ask.look a)) → Err (code r) ≡ arc_where Z t a
+  place-told r e = place-refused (code r) e (refused r)
 
   pub place_found : (p : Result Place ℕ) → arc_refusal Z t (calling (Ask.look a)) ≡ 0 → p ≡ where_is (base_numbers Z) t.base a → p ≡ arc_where Z t a
   unfolding arc_where

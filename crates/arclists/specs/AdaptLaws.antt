@@ -1,7 +1,7 @@
 -- p's two changes, from the sizes. Assumes nothing.
 use Rattle.std.specs.Prelude.{◌≡◌, Option, Some, ℕ, ◌+◌, ◌-◌, ◌/◌, ◌^◌, ◌<◌, min, ltb}
 use Rattle.std.proofs.Math.Path.{sym}
-use Rattle.std.proofs.Common.{arith, ltb-false}
+use Rattle.std.proofs.Common.{ap, ◌∙◌, arith, ltb-false}
 use borrow.Author.Tests.{ltb-true}
 use Rattle.arc.specs.Arc.{Lists, larger, smaller, new_p, in_b1, in_b2}
 use Rattle.paper.specs.KeyedLaws.{by-test}
@@ -25,5 +25,8 @@ module _ {s : ListSizes} {l : Lists} (z : Sized s l) {r : ℕ} where
   down q eq er = rw (sym z.p-is, sym z.b1-is, sym z.b2-is, sym eq) er
 
   -- the list that the address was in, as it is told
-  pub as-told : (w : Option ListName) (x y : ListName) → w ≡ Some x → x ≡ y → r ≡ new_p s.cached (was_of (Some y)) l → r ≡ new_p s.cached (was_of w) l
-  as-told w x y e f h = rw (e, f) h
+  pub as-told : (w v : Option ListName) → w ≡ v → r ≡ new_p s.cached (was_of v) l → r ≡ new_p s.cached (was_of w) l
+  as-told w v e h = rw e h
+
+  pub as-told-in : (w : Option ListName) (x y : ListName) → w ≡ Some x → x ≡ y → r ≡ new_p s.cached (was_of (Some y)) l → r ≡ new_p s.cached (was_of w) l
+  as-told-in w x y e f h = as-told w (Some y) (e ∙ ap (λ u. Some u) f) h

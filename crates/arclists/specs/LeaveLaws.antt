@@ -1,7 +1,8 @@
 -- An address leaves its list, or joins one: what the bytes and the sizes do. Assumes nothing.
-use Rattle.std.specs.Prelude.{◌≡◌, refl, true, false, Option, None, Some, cond, List, ◌++◌, ℕ, ◌+◌, ◌-◌, ◌≤◌, ◌<◌, eqb, ltb}
-use Rattle.std.proofs.Common.{sym, ap, ap₂, ◌∙◌, subst, arith}
-use borrow.Author.Tests.{lt-ltb, le-ltb}
+use Rattle.std.specs.Prelude.{◌≡◌, refl, true, false, Option, None, Some, cond, List, ◌++◌, ℕ, ◌+◌, ◌-◌, ◌≤◌, ◌<◌, eqb, ltb, unwrap_or, MatchOption}
+use Rattle.std.proofs.Common.{sym, ap, ap₂, ◌∙◌, subst, arith, ltb-false}
+use Rattle.std.proofs.lemmas.Option.{none-some}
+use borrow.Author.Tests.{lt-ltb, le-ltb, ltb-true}
 use Rattle.tables.specs.Rows.{remove_at}
 use Rattle.paper.specs.KeyedLaws.{by-test, without-absent}
 use Rattle.arc.specs.Arc.{Lists, list_of, left, is_in, out}
@@ -11,6 +12,7 @@ use Rattle.arc.proofs.ArcLentLaws.{words_back}
 use Rattle.arc.proofs.ArcEndsLaws.{end-left}
 use Rattle.arclists.specs.declared.ListSizes.{ListSizes}
 use Rattle.arclists.specs.declared.ListName.{ListName}
+use Rattle.arclists.specs.declared.ListName.TheVariants.{T1, T2, B1, B2, B3}
 use Rattle.arclists.specs.Listed.{listed, place_of, Removes}
 use Rattle.arclists.specs.ListedLaws.{lists-listed}
 use Rattle.arclists.specs.PlaceLaws.{place_in, place_out, place-first, place-second, out_at}
@@ -18,11 +20,11 @@ use Rattle.arclists.specs.Holding.{total, Sized, Holds, was_of, which_at, size_o
 use Rattle.arclists.specs.MoveLaws.{total-is, resized-by}
 
 -- a chain of tests, one at a time
-pub is_yes : {A : Type 0} (m n : ℕ) (z x y : A) → m < n → x ≡ z → cond (ltb m n) x y ≡ z
-is_yes m n z x y h e = rw (lt-ltb m n h) e
+pub lt_yes : {A : Type 0} (m n : ℕ) (z x y : A) → m < n → z ≡ x → z ≡ cond (ltb m n) x y
+lt_yes m n z x y h e = rw (lt-ltb m n h) e
 
-pub is_no : {A : Type 0} (m n : ℕ) (z x y : A) → n ≤ m → y ≡ z → cond (ltb m n) x y ≡ z
-is_no m n z x y h e = rw (le-ltb m n h) e
+pub lt_no : {A : Type 0} (m n : ℕ) (z x y : A) → n ≤ m → z ≡ y → z ≡ cond (ltb m n) x y
+lt_no m n z x y h e = rw (le-ltb m n h) e
 
 -- the addresses read from the bytes
 pub read_back : {m : ℕ} {s : ListSizes} {t : List ℕ} {l : Lists} → Holds m s t l → Low l → (n : ℕ) → n ≡ total s → words n t ≡ end_to_end l
@@ -144,16 +146,37 @@ module _ (a : ℕ) (s : ListSizes) (l : Lists) (z : Sized s l) where
         rw (le-ltb place (s.t1 + s.t2 + s.b1 + s.b2 + s.b3) (omega (arith, p1, p2, p3, p4, p5, z1, z2, z3, z4, z5)))
         (sized-by _ (omega (arith, k1)) (omega (arith, k2)) (omega (arith, k3)) (omega (arith, k4)) (omega (arith, k5)) refl))))))))))
 
-pub past-all : (s : ListSizes) → which_at s (total s) ≡ None
+-- a place from the total on is in no list, and only such a place is
+pub past-all : (s : ListSizes) (i : ℕ) → total s ≤ i → which_at s i ≡ None
 unfolding which_at
-past-all s =
+past-all s i h =
     rw (
-      le-ltb (total s) s.t1 (omega arith),
-      le-ltb (total s) (s.t1 + s.t2) (omega arith),
-      le-ltb (total s) (s.t1 + s.t2 + s.b1) (omega arith),
-      le-ltb (total s) (s.t1 + s.t2 + s.b1 + s.b2) (omega arith),
-      le-ltb (total s) (total s) (omega arith),
+      le-ltb i s.t1 (omega (arith, h)),
+      le-ltb i (s.t1 + s.t2) (omega (arith, h)),
+      le-ltb i (s.t1 + s.t2 + s.b1) (omega (arith, h)),
+      le-ltb i (s.t1 + s.t2 + s.b1 + s.b2) (omega (arith, h)),
+      le-ltb i (s.t1 + s.t2 + s.b1 + s.b2 + s.b3) h,
     ) refl
+
+pub in-some : (s : ListSizes) (i : ℕ) (x : ListName) → which_at s i ≡ Some x → i < total s
+in-some s i x w =
+    by-test (ltb i (total s)) (λ e. ltb-true i (total s) e)
+    (λ e. absurd (none-some x (sym (past-all s i (ltb-false i (total s) e)) ∙ w)))
+
+pub in-none : (s : ListSizes) (i : ℕ) → which_at s i ≡ None → total s ≤ i
+unfolding which_at
+in-none s i =
+    by-test (ltb i s.t1) (λ e. rw e (λ w. absurd (none-some T1 (sym w))))
+    (λ e. rw e (by-test (ltb i (s.t1 + s.t2)) (λ e. rw e (λ w. absurd (none-some T2 (sym w))))
+    (λ e. rw e (by-test (ltb i (s.t1 + s.t2 + s.b1)) (λ e. rw e (λ w. absurd (none-some B1 (sym w))))
+    (λ e. rw e (by-test (ltb i (s.t1 + s.t2 + s.b1 + s.b2)) (λ e. rw e (λ w. absurd (none-some B2 (sym w))))
+    (λ e. rw e (by-test (ltb i (s.t1 + s.t2 + s.b1 + s.b2 + s.b3)) (λ e. rw e (λ w. absurd (none-some B3 (sym w))))
+    (λ e. rw e (λ _. ltb-false i (s.t1 + s.t2 + s.b1 + s.b2 + s.b3) e))))))))))
+
+-- the place found, or the total where none is
+pub found-at : (r : Option ℕ) (n p : ℕ) → MatchOption r (p ≡ n) (λ k. (k < n) × (p ≡ k)) → p ≡ unwrap_or r n
+found-at None n p f = f
+found-at (Some k) n p f = f.1
 
 -- an address leaves from its place, and the list of that place is the one that it was in
 module _ {m : ℕ} {s : ListSizes} {t : List ℕ} {l : Lists} (h : Holds m s t l) (low : Low l) (a : ℕ) where
@@ -171,23 +194,24 @@ module _ {m : ℕ} {s : ListSizes} {t : List ℕ} {l : Lists} (h : Holds m s t l
   left-is r t' z e b =
       record { sized = z; bytes = e ∙ ap (listed m) (sym (end-left a l)) ∙ sym (lists-listed m (left a l)); room = b }
 
-  pub left-none : (n : ℕ) → n ≡ total s → place_of a (words n t) ≡ n → count a (end_to_end l) ≤ 1 → Holds m s t (left a l)
-  left-none n en e once =
-      let E = end_to_end l in
-      let q = place-read n n en e in
-      let z = total-is s l h.sized in
-      let k : is_in a E ≡ false = by-test (is_in a E) (λ y. let b = place_in a E y in absurd (omega (arith, b, q, z, en))) (λ y. y) in
-      left-is s t
-      (subst (λ o. Sized (left_sizes o s) (left a l)) (which-read n n None en e (ap (which_at s) en ∙ past-all s)) (left-sized a s l h.sized once))
-      (h.bytes ∙ lists-listed m l ∙ ap (listed m) (sym (without-absent eqb (λ x. x) a E k))) h.room
-
-  pub left-some : {t' : List ℕ} (i n : ℕ) (x : ListName) → n ≡ total s → place_of a (words n t) ≡ i → i < n → which_at s i ≡ Some x → Removes i n t t'
-      → count a (end_to_end l) ≤ 1 → Holds m (less_of x s) t' (left a l)
-  left-some {t'} i n x en e g w f once =
+  pub left-none : (i n : ℕ) → n ≡ total s → place_of a (words n t) ≡ i → which_at s i ≡ None → count a (end_to_end l) ≤ 1 → Holds m s t (left a l)
+  left-none i n en e w once =
       let E = end_to_end l in
       let q = place-read i n en e in
       let z = total-is s l h.sized in
-      let k : is_in a E ≡ true = by-test (is_in a E) (λ y. y) (λ y. let b = place_out a E y in absurd (omega (arith, b, q, z, en, g))) in
+      let g = in-none s i w in
+      let k : is_in a E ≡ false = by-test (is_in a E) (λ y. let b = place_in a E y in absurd (omega (arith, b, q, z, g))) (λ y. y) in
+      left-is s t (subst (λ o. Sized (left_sizes o s) (left a l)) (which-read i n None en e w) (left-sized a s l h.sized once))
+      (h.bytes ∙ lists-listed m l ∙ ap (listed m) (sym (without-absent eqb (λ x. x) a E k))) h.room
+
+  pub left-some : {t' : List ℕ} (i n : ℕ) (x : ListName) → n ≡ total s → place_of a (words n t) ≡ i → which_at s i ≡ Some x → Removes i n t t'
+      → count a (end_to_end l) ≤ 1 → Holds m (less_of x s) t' (left a l)
+  left-some {t'} i n x en e w f once =
+      let E = end_to_end l in
+      let q = place-read i n en e in
+      let z = total-is s l h.sized in
+      let g = in-some s i x w in
+      let k : is_in a E ≡ true = by-test (is_in a E) (λ y. y) (λ y. let b = place_out a E y in absurd (omega (arith, b, q, z, g))) in
       let b = (resized-by x (size_of x s - 1) s).total-is in
       left-is (less_of x s) t' (subst (λ o. Sized (left_sizes o s) (left a l)) (which-read i n (Some x) en e w) (left-sized a s l h.sized once))
       (f m E (z ∙ sym en) (omega (arith, en, h.room)) (h.bytes ∙ lists-listed m l) ∙ ap (listed m) (ap (remove_at E) (sym q) ∙ sym (out_at a E once k)))

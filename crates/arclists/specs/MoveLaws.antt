@@ -7,7 +7,21 @@ use Rattle.arc.specs.Tally.{first_one, length_none}
 use Rattle.arc.specs.ArcLent.{list_bytes, end_to_end}
 use Rattle.arc.proofs.ArcLentLaws.{total-end}
 use Rattle.arc.specs.ArcEnds.{insert_at, rotated}
-use Rattle.arc.proofs.ArcEndsLaws.{remove_seam, insert_seam, rotate-seam}
+use Rattle.arc.proofs.ArcEndsLaws.{
+  remove_seam,
+  insert_seam,
+  rotate-seam,
+  end-t1b1,
+  end-t2b2,
+  end-t1b3,
+  end-b1b3,
+  end-b2b3,
+  end-b1_out,
+  end-b2_out,
+  end-b3_out,
+  end-join_t1,
+  end-join_t2,
+}
 use Rattle.arclists.specs.declared.ListSizes.{ListSizes}
 use Rattle.arclists.specs.declared.ListName.{ListName}
 use Rattle.arclists.specs.declared.ListName.TheVariants.{T1, T2, B1, B2, B3}
@@ -310,11 +324,11 @@ moved-group pre w mid ys f post = simp append_assoc
 last-group : (pre xs f post : List ℕ) → pre ++ ((xs ++ f) ++ post) ≡ (pre ++ xs) ++ (f ++ post)
 last-group pre xs f post = simp append_assoc
 
--- the lists end to end when the oldest of x has become the newest of y, has left, or another address has joined
-end-moved : (x y : ListName) (p : Apart x y) (l : Lists) (o : Some (names_of x l))
+-- the lists end to end when the oldest of x has become the newest of y, has left, or another address has joined: for any lists
+any-moved : (x y : ListName) (p : Apart x y) (l : Lists) (o : Some (names_of x l))
     → end_to_end (moved x y l)
     ≡ rotated (length (before x l)) (length (before x l ++ (o.more ++ (between x y l ++ names_of y l)))) (end_to_end l)
-end-moved x y p l o =
+any-moved x y p l o =
     let w = o.more in
     let pre = before x l in
     let mid = between x y l in
@@ -328,20 +342,42 @@ end-moved x y p l o =
     ∙ moved-group pre w mid ys (o.first ∷ []) post
     ∙ sym (ap (rotated (length pre) (length (pre ++ (w ++ (mid ++ ys))))) whole ∙ rotate-seam pre (w ++ (mid ++ ys)) post o.first)
 
-end-out : (x : ListName) (l : Lists) (o : Some (names_of x l)) → end_to_end (out_of x l) ≡ remove_at (end_to_end l) (length (before x l))
-end-out x l o =
+any-out : (x : ListName) (l : Lists) (o : Some (names_of x l)) → end_to_end (out_of x l) ≡ remove_at (end_to_end l) (length (before x l))
+any-out x l o =
     let pre = before x l in
     let post = after x l in
     laid x (drop 1 (names_of x l)) l ∙ ap (λ u. pre ++ (drop 1 u ++ post)) o.is
     ∙ sym (ap (λ u. remove_at u (length pre)) (lies x l ∙ ap (λ u. pre ++ (u ++ post)) o.is) ∙ remove_seam pre (o.more ++ post) o.first)
 
-end-last : (x : ListName) (a : ℕ) (l : Lists) → end_to_end (with_last x a l) ≡ insert_at (length (before x l ++ names_of x l)) a (end_to_end l)
-end-last x a l =
+any-last : (x : ListName) (a : ℕ) (l : Lists) → end_to_end (with_last x a l) ≡ insert_at (length (before x l ++ names_of x l)) a (end_to_end l)
+any-last x a l =
     let pre = before x l in
     let xs = names_of x l in
     let post = after x l in
     laid x (xs ++ (a ∷ [])) l ∙ last-group pre xs (a ∷ []) post
     ∙ sym (ap (insert_at (length (pre ++ xs)) a) (lies x l ∙ sym (append_assoc pre xs post)) ∙ insert_seam (pre ++ xs) post a)
+
+-- .. by the paper's own theorem where the move, the leaving or the joining is one of Algorithm 3's
+end-moved : (x y : ListName) (p : Apart x y) (l : Lists) (o : Some (names_of x l))
+    → end_to_end (moved x y l)
+    ≡ rotated (length (before x l)) (length (before x l ++ (o.more ++ (between x y l ++ names_of y l)))) (end_to_end l)
+end-moved T1 B1 p l o = end-t1b1 l o.first o.more o.is
+end-moved T1 B3 p l o = end-t1b3 l o.first o.more o.is ∙ ap (λ u. rotated 0 (length (o.more ++ u)) (end_to_end l)) (simp append_assoc)
+end-moved T2 B2 p l o = end-t2b2 l o.first o.more o.is
+end-moved B1 B3 p l o = end-b1b3 l o.first o.more o.is
+end-moved B2 B3 p l o = end-b2b3 l o.first o.more o.is
+end-moved x y p l o = any-moved x y p l o
+
+end-out : (x : ListName) (l : Lists) (o : Some (names_of x l)) → end_to_end (out_of x l) ≡ remove_at (end_to_end l) (length (before x l))
+end-out B1 l o = end-b1_out l o.first o.more o.is
+end-out B2 l o = end-b2_out l o.first o.more o.is
+end-out B3 l o = end-b3_out l o.first o.more o.is
+end-out x l o = any-out x l o
+
+end-last : (x : ListName) (a : ℕ) (l : Lists) → end_to_end (with_last x a l) ≡ insert_at (length (before x l ++ names_of x l)) a (end_to_end l)
+end-last T1 a l = end-join_t1 a l
+end-last T2 a l = end-join_t2 a l
+end-last x a l = any-last x a l
 
 module _ {m : ℕ} {s : ListSizes} {t : List ℕ} {l : Lists} (h : Holds m s t l) where
   -- x's oldest to y; nothing moves where there is none

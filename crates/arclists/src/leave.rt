@@ -16,17 +16,17 @@ pub fn leave(s: ListSizes, lists: &mut [u8], a: u32) -> Left
     ensures sizes_bound { (total result.sizes ≤ total s) × Kept result.sizes s }
 {
     let n = s.total();
-    let Some(i) = words::find_word(lists, n, a) else {
-        return Left {
-            sizes: s,
-            was: None,
-        };
-    };
-    let list = s.which(i);
-    words::remove_word(lists, n, i);
-    Left {
-        sizes: s.with(list, s.size(list) - 1),
-        was: Some(list),
+    let i = words::find_word(lists, n, a).unwrap_or(n);
+    let was = s.which(i);
+    match was {
+        Some(list) => {
+            words::remove_word(lists, n, i);
+            Left {
+                sizes: s.with(list, s.size(list) - 1),
+                was,
+            }
+        }
+        None => Left { sizes: s, was },
     }
 }
 

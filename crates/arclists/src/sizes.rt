@@ -1,5 +1,5 @@
 // The sizes by the list, and where each list lies.
-ghost use Rattle.std.specs.Prelude.{◌≡◌, Some, ◌*◌, ◌^◌, ◌≤◌, ◌<◌};
+ghost use Rattle.std.specs.Prelude.{◌≡◌, ◌*◌, ◌^◌, ◌≤◌, ◌<◌, IfSome};
 ghost use Rattle.arclists.specs.Holding.{total, size_of, start_of, with_size, which_at};
 
 use crate::{ListName, ListSizes};
@@ -55,22 +55,24 @@ impl ListSizes {
         self.t1 + self.t2 + self.b1 + self.b2 + self.b3
     }
 
-    // The list that the address at place `i` is in.
-    pub fn which(self, i: usize) -> ListName
-        requires { (i < total self) × (total self * 4 < 2 ^ 64) }
-        ensures value { which_at self i ≡ Some result }
-        ensures some { 1 ≤ size_of result self }
+    // The list that the address at place `i` is in; none from the total on.
+    pub fn which(self, i: usize) -> Option<ListName>
+        requires { total self * 4 < 2 ^ 64 }
+        ensures value { result ≡ which_at self i }
+        ensures some { IfSome result (λ x. 1 ≤ size_of x self) }
     {
         if i < self.t1 {
-            ListName::T1
+            Some(ListName::T1)
         } else if i < self.start(ListName::B1) {
-            ListName::T2
+            Some(ListName::T2)
         } else if i < self.start(ListName::B2) {
-            ListName::B1
+            Some(ListName::B1)
         } else if i < self.start(ListName::B3) {
-            ListName::B2
+            Some(ListName::B2)
+        } else if i < self.total() {
+            Some(ListName::B3)
         } else {
-            ListName::B3
+            None
         }
     }
 }

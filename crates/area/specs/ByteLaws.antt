@@ -3,7 +3,8 @@ use Rattle.std.specs.Prelude.{◌≡◌, refl, ◌&&◌, List, [], ◌∷◌, �
 use Rattle.std.proofs.Common.{sym, ap, ap₂, ◌∙◌, arith, length-drop, ltb-true, ltb-false, add-one, get_or-append-add, get_or-drop, length-take-le, take_all, take-suc, take-suc-set, Bor}
 use Rattle.std.specs.Cmp.Lexicographic.{pointwise}
 use Rattle.std.proofs.lemmas.Bool.Decides.{nat_tests}
-use Rattle.std.proofs.lemmas.List.{at_drop_more, at_drop_all}
+use Rattle.std.proofs.lemmas.List.{at_drop_more, at_drop_all, drop-append-le, take-append-le, length-take}
+use Rattle.std.proofs.Math.Seq.{drop-append-add}
 use Rattle.std.proofs.Math.ListN.{get_or-append, get_or-eq_default}
 use Rattle.tables.specs.Rows.{flat, zeros}
 use Rattle.tables.specs.Records.{bytes4}
@@ -39,6 +40,23 @@ pub flat_later : (s : List ℕ) (ss : List (List ℕ)) (i : ℕ) → length s �
 unfolding flat
 flat_later s ss i h = behind s (flat ss) i h
 
+-- 64 bytes that lie in the first of two lists, and what is left in the second
+pub part-first : (xs ys : List ℕ) (i : ℕ) → i + 64 ≤ length xs → take 64 (drop i (xs ++ ys)) ≡ take 64 (drop i xs)
+part-first xs ys i h = rw (drop-append-le i xs ys (omega arith)) (take-append-le 64 (drop i xs) ys (omega (arith, length-drop i xs)))
+
+pub drop-behind : (xs ys : List ℕ) (i : ℕ) → length xs ≤ i → drop i (xs ++ ys) ≡ drop (i - length xs) ys
+drop-behind xs ys i h =
+    let e : length xs + (i - length xs) ≡ i = omega arith in
+    ap (λ k. drop k (xs ++ ys)) (sym e) ∙ drop-append-add xs ys (i - length xs)
+
+pub flat-part : (s : List ℕ) (ss : List (List ℕ)) (i : ℕ) → i + 64 ≤ length s → take 64 (drop i (flat (s ∷ ss))) ≡ take 64 (drop i s)
+unfolding flat
+flat-part s ss i h = part-first s (flat ss) i h
+
+pub flat-behind : (s : List ℕ) (ss : List (List ℕ)) (i : ℕ) → length s ≤ i → drop i (flat (s ∷ ss)) ≡ drop (i - length s) (flat ss)
+unfolding flat
+flat-behind s ss i h = drop-behind s (flat ss) i h
+
 -- its numbers
 pub words-here : (ns rest : List ℕ) (i : ℕ) → i < 4 * length ns → get_or (word_bytes ns ++ rest) i 0 ≡ get_or (bytes4 (get_or ns (i / 4) 0)) (i % 4) 0
 unfolding word_bytes
@@ -63,6 +81,10 @@ words-later ns rest i h =
 abbrev pub byte_in : List (Bor (List ℕ)) → ℕ → ℕ
 byte_in ss i = get_or (flat (map (λ s. s.now) ss)) i 0
 
+-- the bytes from i on of the strings
+abbrev pub bytes_from : List (Bor (List ℕ)) → ℕ → List ℕ
+bytes_from ss i = drop i (flat (map (λ s. s.now) ss))
+
 module _ (ss : List (Bor (List ℕ))) (j i : ℕ) (z : Bor (List ℕ)) (h : j < length ss) where
   abbrev at-j : List ℕ
   at-j = (get_or ss j z).now
@@ -75,6 +97,19 @@ module _ (ss : List (Bor (List ℕ))) (j i : ℕ) (z : Bor (List ℕ)) (h : j < 
 
   pub string-later : length at-j ≤ i → byte_in (drop j ss) i ≡ byte_in (drop (j + 1) ss) (i - length at-j)
   string-later g = at_drop_more (λ xs. byte_in xs i) ss j z h ∙ flat_later at-j rest i g
+
+  -- 64 bytes of that one are those of the strings, `whole` being what was given at first
+  pub part-here : (whole : List ℕ) → whole ≡ bytes_from (drop j ss) i → i < length at-j → 64 ≤ length at-j - i
+      → (length (take (i + 64 - i) (drop i at-j)) ≡ 64) × (take (i + 64 - i) (drop i at-j) ≡ take 64 whole)
+  part-here whole e g l =
+      let n : i + 64 - i ≡ 64 = omega arith in
+      rw n (
+        length-take-le 64 (drop i at-j) (omega (arith, length-drop i at-j)),
+        sym (flat-part at-j rest i (omega arith)) ∙ sym (ap (take 64) e ∙ at_drop_more (λ xs. take 64 (bytes_from xs i)) ss j z h),
+      )
+
+  pub part-later : length at-j ≤ i → bytes_from (drop j ss) i ≡ bytes_from (drop (j + 1) ss) (i - length at-j)
+  part-later g = at_drop_more (λ xs. bytes_from xs i) ss j z h ∙ flat-behind at-j rest i g
 
 pub string-none : (ss : List (Bor (List ℕ))) (j i : ℕ) → length ss ≤ j → byte_in (drop j ss) i ≡ 0
 string-none ss j i h = at_drop_all (λ xs. byte_in xs i) ss j h ∙ flat-none i
@@ -89,6 +124,15 @@ number-here b i bs h e = ap (λ x. get_or x (i % 4) 0) e ∙ sym (words-here b.n
 pub string_in : (b : Body) (i : ℕ) → 4 * length b.numbers.now ≤ i → byte_in b.strings (i - 4 * length b.numbers.now) ≡ get_or (bytes_of b) i 0
 unfolding body_of
 string_in b i h = sym (words-later b.numbers.now (flat (map (λ s. s.now) b.strings)) i h)
+
+-- the bytes behind its numbers
+pub part_in : (b : Body) (i : ℕ) → 4 * length b.numbers.now ≤ i → bytes_from b.strings (i - 4 * length b.numbers.now) ≡ drop i (bytes_of b)
+unfolding body_of
+part_in b i h =
+    let ns = b.numbers.now in
+    let l : length (word_bytes ns) ≡ 4 * length ns = length-words ns ∙ omega arith in
+    let all = flat (map (λ s. s.now) b.strings) in
+    sym (drop-behind (word_bytes ns) all i (omega arith) ∙ ap (λ k. drop (i - k) all) l)
 
 -- two lists compared, the other one first
 eqb-turned : (x y : ℕ) → eqb y x ≡ eqb x y
@@ -131,6 +175,13 @@ pub chunk-done : (body bytes : List ℕ) (k : ℕ) → take 64 bytes ≡ take 64
     → bytes ≡ (body_write body k).bytes
 unfolding body_write
 chunk-done body bytes k e l = sym (take_all 64 bytes (omega arith)) ∙ e
+
+-- 64 bytes of the body are a write of it
+pub chunk-part : (body part : List ℕ) (k : ℕ) → length part ≡ 64 → part ≡ take 64 (drop (k * 64) body) → part ≡ (body_write body k).bytes
+unfolding body_write padded
+chunk-part body part k l e =
+    let fits : k * 64 + 64 ≤ length body = omega (arith, l, ap length e, length-take 64 (drop (k * 64) body), length-drop (k * 64) body) in
+    e ∙ sym (part-first body (zeros (writes_for (length body) * 64 - length body)) (k * 64) fits)
 
 pub chunk-length : (body : List ℕ) (k : ℕ) → k < writes_for (length body) → length (body_write body k).bytes ≡ 64
 unfolding body_write

@@ -1,7 +1,7 @@
 // The writes of a save on a lent area, and the mark that a restore looks for.
 #![tactic(auto)]
 
-ghost use Rattle.std.specs.Prelude.{◌≡◌, ◌∷◌, [], ◌+◌, ◌*◌, ◌<◌, ◌≤◌, length, take, get_or, map};
+ghost use Rattle.std.specs.Prelude.{◌≡◌, ◌∷◌, [], ◌+◌, ◌*◌, ◌<◌, ◌≤◌, length, take, drop, get_or, map, IfSome};
 ghost use Rattle.tables.specs.Rows.{flat};
 ghost use Rattle.tables.specs.Find.{same};
 ghost use Rattle.block.specs.Blocks.{splice};
@@ -61,12 +61,45 @@ pub(crate) fn body_byte(body: &Body, i: usize) -> u8
     string_byte(&body.strings, i - n)
 }
 
-// The 64 bytes of write number `k` of a body.
+// The 64 bytes from index `i` on of byte strings laid end to end, where they lie in one of them.
+pub(crate) fn string_part<'a>(strings: &[&'a [u8]], i: usize) -> Option<&'a [u8]>
+    ensures { IfSome result (λ part. (length part.now ≡ 64) × (part.now ≡ take 64 (drop i (flat (map (λ s. s.now) strings.now))))) }
+{
+    let mut i = i;
+    for s in strings {
+        if i < s.len() {
+            if s.len() - i < 64 {
+                return None;
+            }
+            return Some(&s[i..i + 64]);
+        }
+        i -= s.len();
+    }
+    None
+}
+
+// The 64 bytes from index `i` on of a body, where they lie in one of its byte strings.
+pub(crate) fn body_part<'a>(body: &Body<'a>, i: usize) -> Option<&'a [u8]>
+    requires { length body.now.numbers.now ≤ 13 }
+    ensures { IfSome result (λ part. (length part.now ≡ 64) × (part.now ≡ take 64 (drop i (bytes_of body.now)))) }
+{
+    let n = 4 * body.numbers.len();
+    if i < n {
+        return None;
+    }
+    string_part(&body.strings, i - n)
+}
+
+// The 64 bytes of write number `k` of a body. Most lie in one byte string, and are copied at once.
 pub(crate) fn chunk(body: &Body, k: usize) -> [u8; 64]
     requires { (length body.now.numbers.now ≤ 13) × (k < 1024) × (k < writes_for (length (bytes_of body.now))) }
     ensures { result ≡ (body_write (bytes_of body.now) k).bytes }
 {
     let mut bytes = [0u8; 64];
+    if let Some(part) = body_part(body, k * 64) {
+        bytes.copy_from_slice(part);
+        return bytes;
+    }
     for i in 0..64 {
         bytes[i] = body_byte(body, k * 64 + i);
     }

@@ -14,12 +14,11 @@ pub fn put(src: &[u8], dst: &mut [u8], at: usize)
     dst[at..at + src.len()].copy_from_slice(src);
 }
 
-// Block `k` of blocks of `size` bytes.
-fn block_at<'a>(bytes: &'a [u8], k: usize, size: usize) -> &'a [u8]
-    requires { k * size + size ≤ length bytes.now }
-    ensures { (result.now ≡ part (k * size) size bytes.now) × (length result.now ≡ size) }
+// The `size` bytes from index `at` on.
+fn part<'a>(bytes: &'a [u8], at: usize, size: usize) -> &'a [u8]
+    requires { at + size ≤ length bytes.now }
+    ensures { (result.now ≡ part at size bytes.now) × (length result.now ≡ size) }
 {
-    let at = k * size;
     &bytes[at..at + size]
 }
 
@@ -28,7 +27,7 @@ pub fn in_slot<'a>(flash: &'a [u8], slot: FlashSlot, size: usize) -> &'a [u8]
     requires { slot.0 * size + size ≤ length flash.now }
     ensures { (result.now ≡ part (slot.0 * size) size flash.now) × (length result.now ≡ size) }
 {
-    block_at(flash, slot.0 as usize, size)
+    part(flash, slot.0 as usize * size, size)
 }
 
 // The block at the address `a` of the disk, of `size` bytes.
@@ -36,7 +35,7 @@ pub fn at_address<'a>(disk: &'a [u8], a: SourceAddress, size: usize) -> &'a [u8]
     requires { a.0 * size + size ≤ length disk.now }
     ensures { (result.now ≡ part (a.0 * size) size disk.now) × (length result.now ≡ size) }
 {
-    block_at(disk, a.0 as usize, size)
+    part(disk, a.0 as usize * size, size)
 }
 
 // Writes the block `src`, of `size` bytes, into `slot` of the flash.

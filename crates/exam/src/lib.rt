@@ -100,6 +100,16 @@ pub(crate) fn counts(b: BoxRecord, disk: &[u8], k: usize) -> [u64; 9]
     search::search(q, fresh(), k as u8)
 }
 
+// The nine counts that a question tells: zeros where it was refused.
+pub fn told_counts(answer: &Result<[u64; 9], Refusal>) -> [u64; 9]
+    ensures { result ≡ (told answer.now).counts }
+{
+    match answer {
+        Ok(counts) => *counts,
+        Err(_) => [0; 9],
+    }
+}
+
 // How many lists of k reads have 0, 1, up to 8 hits, from a fresh D-LRU box of these numbers and this label over this disk.
 // `room` is how many bytes are lent for the counts.
 pub fn scores(

@@ -85,6 +85,13 @@ fn small_sigma1(x: u32) -> u32
     x.rotate_right(17) ^ x.rotate_right(19) ^ (x >> 10)
 }
 
+// The sum modulo 2^32, which wraps on purpose.
+fn add(x: u32, y: u32) -> u32
+    ensures { result ≡ S.add32 x y }
+{
+    x.wrapping_add(y)
+}
+
 // Word t of a block.
 #[tactic(auto, unfolding(crate::specs::Sha256::M))]
 fn load(block: &[u8], t: usize) -> u32
@@ -101,10 +108,8 @@ fn next_word(w: &[u32; 64], t: usize) -> u32
     requires { (16 ≤ t) × (t < 64) }
     ensures { result ≡ S.next w.now t }
 {
-    small_sigma1(w[t - 2])
-        .wrapping_add(w[t - 7])
-        .wrapping_add(small_sigma0(w[t - 15]))
-        .wrapping_add(w[t - 16])
+    let recent = add(small_sigma1(w[t - 2]), w[t - 7]);
+    add(add(recent, small_sigma0(w[t - 15])), w[t - 16])
 }
 
 // T1 of a round.
@@ -112,10 +117,7 @@ fn next_word(w: &[u32; 64], t: usize) -> u32
 fn temp1(e: u32, f: u32, g: u32, h: u32, k: u32, w: u32) -> u32
     ensures { result ≡ S.T1 e f g h k w }
 {
-    h.wrapping_add(big_sigma1(e))
-        .wrapping_add(ch(e, f, g))
-        .wrapping_add(k)
-        .wrapping_add(w)
+    add(add(add(add(h, big_sigma1(e)), ch(e, f, g)), k), w)
 }
 
 // T2 of a round.
@@ -123,7 +125,7 @@ fn temp1(e: u32, f: u32, g: u32, h: u32, k: u32, w: u32) -> u32
 fn temp2(a: u32, b: u32, c: u32) -> u32
     ensures { result ≡ S.T2 a b c }
 {
-    big_sigma0(a).wrapping_add(maj(a, b, c))
+    add(big_sigma0(a), maj(a, b, c))
 }
 
 // One round on the working variables, at the constant k and the word w.
@@ -134,11 +136,11 @@ fn round(s: State, k: u32, w: u32) -> State
     let t1 = temp1(s.e, s.f, s.g, s.h, k, w);
     let t2 = temp2(s.a, s.b, s.c);
     State {
-        a: t1.wrapping_add(t2),
+        a: add(t1, t2),
         b: s.a,
         c: s.b,
         d: s.c,
-        e: s.d.wrapping_add(t1),
+        e: add(s.d, t1),
         f: s.e,
         g: s.f,
         h: s.g,
@@ -206,14 +208,14 @@ fn sum8(hash: State, s: State) -> State
     ensures { words result ≡ S.sum8 (words hash) (words s) }
 {
     State {
-        a: hash.a.wrapping_add(s.a),
-        b: hash.b.wrapping_add(s.b),
-        c: hash.c.wrapping_add(s.c),
-        d: hash.d.wrapping_add(s.d),
-        e: hash.e.wrapping_add(s.e),
-        f: hash.f.wrapping_add(s.f),
-        g: hash.g.wrapping_add(s.g),
-        h: hash.h.wrapping_add(s.h),
+        a: add(hash.a, s.a),
+        b: add(hash.b, s.b),
+        c: add(hash.c, s.c),
+        d: add(hash.d, s.d),
+        e: add(hash.e, s.e),
+        f: add(hash.f, s.f),
+        g: add(hash.g, s.g),
+        h: add(hash.h, s.h),
     }
 }
 

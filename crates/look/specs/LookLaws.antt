@@ -53,9 +53,13 @@ module _ (b : BoxRecord) (disk flash addrs blocks : List ℕ) (k : Counters) (a 
     found-disk l = rw (e, found-miss b disk flash addrs blocks box is a i j ei ej l) refl
 
 -- a look that is refused
-pub where-refused : (N : Numbers) (t : Lent) (a : ℕ) (r : Refusal) → code r ≡ refusal N t (calling (Ask.look a)) → Err (code r) ≡ where_is N t a
+pub where-refused : (N : Numbers) (t : Lent) (a number : ℕ) → number ≡ refusal N t (calling (Ask.look a)) → (number ≡ 0 → ⊥) → Err number ≡ where_is N t a
 unfolding where_is
-where-refused N t a r e = rw (ne_eqb (refusal N t (calling (Ask.look a))) 0 (λ z. refused r (e ∙ z))) (ap (λ (x : ℕ). Err x) e)
+where-refused N t a number e n = rw (ne_eqb (refusal N t (calling (Ask.look a))) 0 (λ z. n (e ∙ z))) (ap (λ (x : ℕ). Err x) e)
+
+-- the same by the code's refusal
+pub where-told : (N : Numbers) (t : Lent) (a : ℕ) (r : Refusal) → code r ≡ refusal N t (calling (Ask.look a)) → Err (code r) ≡ where_is N t a
+where-told N t a r e = where-refused N t a (code r) e (refused r)
 
 -- what a look answers, by the place
 pub look-answers : (N : Numbers) (t : Lent) (a : ℕ) → answer_at (where_is N t a) ≡ (call N t (Ask.look a)).answer

@@ -265,6 +265,17 @@ pub(crate) fn given_back(a: ArcRecord) -> Restored
     }
 }
 
+// The records that a restore gives back: those of zeros where it was refused.
+#[tactic(auto, unfolding(tables::specs::Rows::zeros))]
+pub fn records(restored: &Result<Restored, Refusal>) -> Restored
+    ensures { result ≡ records_of restored.now }
+{
+    match restored {
+        Ok(r) => *r,
+        Err(_) => given_back(as_arc(parts::empty_box(0, 0, 0, 0, 0, [0; 64]))),
+    }
+}
+
 // Restores the box whose image is in the area: the tables and the lists are filled, the header is cleared, and the record is given back.
 pub fn restore(
     area: &mut [u8],

@@ -422,14 +422,6 @@ pub extern "C" fn mindavehu_scores(
         k,
         counts.len(),
     );
-    match told {
-        Ok(c) => {
-            fields::put_counts(counts, c);
-            0
-        }
-        Err(r) => {
-            fields::put_counts(counts, [0; 9]);
-            u32::from(r)
-        }
-    }
+    fields::put_counts(counts, exam::told_counts(&told));
+    refusal::number(&told)
 }

@@ -59,14 +59,7 @@ pub extern "C" fn mindavehu_restore(
     if state.len() != fields::STATE {
         return 2;
     }
-    match restoring::restore(area, addresses, blocks, lists) {
-        Ok(r) => {
-            fields::put_record(state, r.box_record);
-            0
-        }
-        Err(r) => {
-            fields::put_record(state, parts::empty_box(0, 0, 0, 0, 0, [0; 64]));
-            u32::from(r)
-        }
-    }
+    let restored = restoring::restore(area, addresses, blocks, lists);
+    fields::put_record(state, restoring::records(&restored).box_record);
+    refusal::number(&restored)
 }

@@ -15,6 +15,10 @@ stage_number Before = 0
 stage_number Open = 1
 stage_number Over = 2
 
+-- the stage of a number
+abbrev pub stage_of : ℕ → Stage
+stage_of n = cond (n == 0) Before (cond (n == 1) Open Over)
+
 -- Of a line 33 bytes are kept: so many show that it is too long.
 pub record State : Type 0 where
   pub stage : Stage

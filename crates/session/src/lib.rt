@@ -3,6 +3,9 @@
 
 pub mod line;
 
+ghost use Rattle.std.specs.Prelude.{◌≡◌};
+ghost use Rattle.session.specs.Bytewise.{stage_of};
+
 use counters::Counters;
 use parts::BoxRecord;
 
@@ -12,6 +15,19 @@ pub enum Stage {
     Before,
     Open,
     Over,
+}
+
+// By the number of a stage: 0 before the box line, 1 while the box is open, and above that at the end.
+impl From<u8> for Stage {
+    ghost from_gives = { λ n s. s ≡ stage_of n };
+
+    fn from(n: u8) -> Stage {
+        match n {
+            0 => Stage::Before,
+            1 => Stage::Open,
+            _ => Stage::Over,
+        }
+    }
 }
 
 // What is carried from byte to byte beside the lent buffers: the stage; how many bytes of the line are kept; the next call's number;

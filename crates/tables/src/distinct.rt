@@ -31,7 +31,7 @@ pub(crate) fn numbers_distinct<const BYTES: usize>(t: &[u8], n: usize, at: usize
 {
     let mut seen = [0u8; BYTES];
     for k in (0..n).rev() {
-        let x = row::word_at(t, k * row::BYTES + at) as usize;
+        let x = row::number_at(t, k, at) as usize;
         if !set_bit(&mut seen, x) {
             return false;
         }

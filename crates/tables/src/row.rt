@@ -62,6 +62,14 @@ pub fn word8(t: &[u8], at: usize) -> u64
     ])
 }
 
+// The number of four bytes at place `at` of row `k`.
+pub(crate) fn number_at(t: &[u8], k: usize, at: usize) -> u32
+    requires { HasRow t.now k × (at + 4 ≤ row_bytes) }
+    ensures { result ≡ le4 (row_at t.now k) at }
+{
+    word_at(t, k * BYTES + at)
+}
+
 // Row `k`, as a part of the table.
 pub(crate) fn part<'a>(t: &'a [u8], k: usize) -> &'a [u8]
     requires { HasRow t.now k }

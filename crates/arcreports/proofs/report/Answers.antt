@@ -21,7 +21,7 @@ pub base_of-b-requires : goal.base_of-b-requires
 base_of-b-requires c =
     let a = c.args in
     let k = no_counts in
-    let v = c.in_ok-arc_report.ensures k (reader_of a.reader) a.report.now c.width_of-bytes.ensures.value refl in
+    let v = c.in_ok-arc_report.ensures no_counts (reader_of a.reader) a.report.now c.width_of-bytes.ensures.value refl in
     numbers-small (reader_of a.reader) a.a a.disk.now a.flash.now a.addresses.now a.blocks.now a.lists.now k a.report.now (sym v)
 
 pub fill-requires : goal.fill-requires
@@ -29,7 +29,7 @@ fill-requires c =
     let a = c.args in
     let k = no_counts in
     let w = c.width_of-bytes in
-    let v = c.in_ok-arc_report.ensures k (reader_of a.reader) a.report.now c.width_of-bytes.ensures.value refl in
+    let v = c.in_ok-arc_report.ensures k (reader_of a.reader) a.report.now w.ensures.value refl in
     fill-fits (reader_of a.reader) a.a a.disk.now a.flash.now a.addresses.now a.blocks.now a.lists.now k a.report.now
     (sym v) c.base_of-b.result c.base_of-b.ensures w.result w.ensures.value w.ensures.upper_bound
 

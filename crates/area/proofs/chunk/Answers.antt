@@ -1,9 +1,14 @@
--- A turn writes byte i of the write. Assumes nothing.
-use Rattle.std.proofs.Common.{◌≡◌, rules, arith}
+-- The write is a part of a byte string; or a turn writes byte i of it. Assumes nothing.
+use Rattle.std.proofs.Common.{◌≡◌, ◌∙◌, rules, arith}
 use Rattle.area.specs.Given.{bytes_of}
-use Rattle.area.specs.ByteLaws.{chunk-turn, chunk-done}
+use Rattle.area.specs.ByteLaws.{chunk-turn, chunk-done, chunk-part}
 use Rattle.std.proofs.lemmas.List.{length-set}
 use Rattle.area.proofs.chunk.Goals as goal
+
+pub returns-in-Some : goal.returns-in-Some
+returns-in-Some c =
+    let part = c.in-Some.ensures in
+    c.copy_from_slice.ensures.after ∙ chunk-part (bytes_of c.args.body.now) _ c.args.k part.0 part.1
 
 pub loop-i-preserved : goal.loop-i-preserved
 loop-i-preserved c =

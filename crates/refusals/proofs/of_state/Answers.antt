@@ -23,5 +23,6 @@ returns-then-counters_over-clause-value c =
 pub returns-clause-value : goal.returns-clause-value
 returns-clause-value c =
     let a = c.args in
+    let v = c.in_ok-of_tables.ensures.value in
     ap (λ x. cond x 9 0) (sym c.if-counters_over.false ∙ c.counters_over.ensures)
-    ∙ state-counters a.b a.addresses.now a.blocks.now (counters_of a.c) (sym c.in_ok-of_tables.ensures.value)
+    ∙ state-counters a.b a.addresses.now a.blocks.now (counters_of a.c) (sym v)

@@ -6,14 +6,14 @@ use Rattle.paper.specs.Cache.{no_counts}
 use Rattle.paper.specs.Lent.{Ask}
 use Rattle.arc.proofs.ArcDemandLaws.{found}
 use Rattle.arcrefusals.specs.Given.{sizes_of, arc_lent}
-use Rattle.arccalls.specs.LookLaws.{place-refused, look-0, look-place}
+use Rattle.arccalls.specs.LookLaws.{place-told, look-0, look-place}
 use Rattle.arccalls.proofs.looks.place_of.Goals as goal
 
 pub returns-in_err-arc_look : goal.returns-in_err-arc_look
 returns-in_err-arc_look c k =
     let a = c.args in
     let p = err_from_is_err_and c.from_residual.result c.from_residual.ensures.1 in
-    rw (p.1, p.2) (place-refused (sizes_of a.a) (arc_lent a.a a.disk.now a.flash.now a.addresses.now a.blocks.now a.lists.now k) a.asked.0 _
+    rw (p.1, p.2) (place-told (sizes_of a.a) (arc_lent a.a a.disk.now a.flash.now a.addresses.now a.blocks.now a.lists.now k) a.asked.0 _
     (c.in_err-arc_look.ensures k))
 
 pub base_of-requires : goal.base_of-requires

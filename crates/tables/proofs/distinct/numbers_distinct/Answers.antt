@@ -3,15 +3,10 @@ use Rattle.std.proofs.Common.{arith, sym, refl, subst, ◌∙◌, drop_of_length
 use Rattle.std.proofs.lemmas.Bool.{eqb-false}
 use Rattle.std.proofs.lemmas.List.{length-replicate}
 use Rattle.tables.specs.Bits.{bit_at, no_bits}
-use Rattle.tables.specs.Rows.{le4, rows, row_at}
-use Rattle.tables.specs.RowLaws.{le4-row_at}
+use Rattle.tables.specs.Rows.{le4, rows}
 use Rattle.tables.specs.Sound.{distinct}
 use Rattle.tables.specs.SoundLaws.{marked-none, twice, once, marked, read-row, values_length}
 use Rattle.tables.proofs.distinct.numbers_distinct.Goals as goal
-
--- the number at place `at` of row k - 1
-number_is : (t : List ℕ) (k at x : ℕ) → at + 4 ≤ 40 → x ≡ le4 t ((k - 1) * 40 + at) → x ≡ le4 (row_at t (k - 1)) at
-number_is t k at x h e = e ∙ sym (le4-row_at t (k - 1) at (omega arith))
 
 pub loop-k-init : goal.loop-k-init
 unfolding distinct
@@ -28,15 +23,15 @@ loop-k-init g c =
 pub set_bit-requires : goal.set_bit-requires
 set_bit-requires g c =
     let a = c.args in
-    let e = number_is a.t.now c.loop-k.k a.at c.word_at-x.result c.requires.has_rows.1 c.word_at-x.ensures in
+    let e = c.number_at-x.ensures in
     omega (arith, e, c.requires.by_index (c.loop-k.k - 1) (omega arith), c.loop-k.invariant.bytes)
 
 pub returns-then-not-set_bit : goal.returns-then-not-set_bit
 returns-then-not-set_bit g c =
     let a = c.args in
-    let e = number_is a.t.now c.loop-k.k a.at c.word_at-x.result c.requires.has_rows.1 c.word_at-x.ensures in
-    let b : c.word_at-x.result < length c.loop-k.seen * 8 = omega (arith, e, c.requires.by_index (c.loop-k.k - 1) (omega arith), c.loop-k.invariant.bytes) in
-    let r = read-row (λ r. le4 r a.at) a.n a.t.now _ c.loop-k.k c.word_at-x.result c.loop-k-test.true (omega arith) e b in
+    let e = c.number_at-x.ensures in
+    let b : c.number_at-x.result < length c.loop-k.seen * 8 = omega (arith, e, c.requires.by_index (c.loop-k.k - 1) (omega arith), c.loop-k.invariant.bytes) in
+    let r = read-row (λ r. le4 r a.at) a.n a.t.now _ c.loop-k.k c.number_at-x.result c.loop-k-test.true (omega arith) e b in
     twice r (bit_at c.loop-k.seen) c.loop-k.invariant.marked (eqb-false _ 0 (sym c.set_bit.ensures.value ∙ c.if-not-set_bit.true))
 
 pub loop-k-preserved : goal.loop-k-preserved
@@ -45,9 +40,9 @@ loop-k-preserved g c =
     let i = c.loop-k.invariant in
     let s = c.set_bit.ensures in
     let y = c.if-not-set_bit.false in
-    let e = number_is a.t.now c.loop-k.k a.at c.word_at-x.result c.requires.has_rows.1 c.word_at-x.ensures in
-    let b : c.word_at-x.result < length c.loop-k.seen * 8 = omega (arith, e, c.requires.by_index (c.loop-k.k - 1) (omega arith), i.bytes) in
-    let r = read-row (λ r. le4 r a.at) a.n a.t.now _ c.loop-k.k c.word_at-x.result c.loop-k-test.true (omega arith) e b in
+    let e = c.number_at-x.ensures in
+    let b : c.number_at-x.result < length c.loop-k.seen * 8 = omega (arith, e, c.requires.by_index (c.loop-k.k - 1) (omega arith), i.bytes) in
+    let r = read-row (λ r. le4 r a.at) a.n a.t.now _ c.loop-k.k c.number_at-x.result c.loop-k-test.true (omega arith) e b in
     record {
       bytes = s.seen_len_unchanged ∙ i.bytes;
       behind = once r (bit_at c.loop-k.seen) i.marked (eqb-true _ 0 (sym s.value ∙ y)) i.behind;

@@ -2,7 +2,7 @@
 use Rattle.std.proofs.Common.{ap, ◌∙◌}
 use Rattle.std.proofs.Math.ListN.{length}
 use Rattle.block.specs.Laws.{part-is, length_part}
-use Rattle.block.proofs.block_at.Goals as goal
+use Rattle.block.proofs.part.Goals as goal
 
 pub returns : goal.returns
 returns c =
